@@ -5,6 +5,9 @@ import struct
 SIZES = [(4, 4), (8, 8), (16, 16), (32, 32), (64, 64), (4, 8), (8, 4), (8, 16), (16, 8), (16, 32), (32, 16), (32, 64), (64, 32), (4, 16), (16, 4),
          (8, 32), (32, 8), (16, 64), (64, 16)]
 
+# The change of a byte that each number of packed predictions is.
+CHANGES = [number // 2 if number % 2 == 0 else 255 - number // 2 for number in range(256)]
+
 
 class Plan:
     """What a plan says: its frame, the planes of its slots, and its leaves as lists of number, column, row, sides, mode, step, chroma mode,
@@ -87,6 +90,20 @@ class Plan:
             result.append(values[at:at + w * h])
             at += w * h
         return result
+
+    def unpacked(self, planes, data):
+        """The bytes of predictions, from those of planes and from what is packed against them."""
+        changes, at = bytearray(), 0
+        for _ in range(0, len(planes), 8):
+            bits, word = data[at], int.from_bytes(data[at + 1:at + 1 + data[at]], "little")
+            at += 1 + bits
+            changes += bytes(CHANGES[word >> bits * i & (1 << bits) - 1] for i in range(8)) if bits else bytes(8)
+        if at != len(data):
+            raise ValueError("bytes are left over behind the packed predictions")
+        residues = bytearray(self.width * self.bytes)
+        for i, change in enumerate(changes[:len(planes)]):
+            residues.append(change + residues[i] & 255)
+        return bytes(sample - residue & 255 for sample, residue in zip(planes, residues[self.width * self.bytes:]))
 
     def luma(self, leaf):
         """How many luma samples of the frame lie in a leaf."""

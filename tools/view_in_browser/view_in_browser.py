@@ -2,12 +2,15 @@
 """Opens pages of `av1_view` in a headless Chromium, and looks whether they show what they should.
 
     tools/view_in_browser/view_in_browser.py [--view PROGRAM] [--recon PROGRAM] [--tools PROGRAM] [--screenshots FOLDER] [--only WORD] [--small]
+        [--frame PLAN]
 
 The programs are by default those that `rt run` leaves in the folders `out` of `av1_view`, `av1_vectors` and `av1_tools`. Each page is compared with the
 one that `view_template` puts together from the planes of `av1_vectors` and the page's own predictions, byte by byte, and opened; the
-predictions with what `av1_vectors` makes of plans without the coefficients that follow. What it holds is compared with a second reader of plans, `plans.py`; what it shows is looked at by keys, by the mouse, in windows of
-all sizes, on light and dark, and with two of the device's pixels in one. With `--view none` the pages are put together here, with the
-frame without coefficients as predictions, and the program is not asked. `--only` takes the groups of steps whose name has the word, and `--small` leaves out the frames of 2048x2048.
+predictions with what `av1_vectors` makes of plans without the coefficients that follow. What it holds is compared with a second reader of plans,
+`plans.py`; what it shows is looked at by keys, by the mouse, in windows of all sizes, on light and dark, and with two of the device's pixels in
+one. With `--view none` the pages are put together here, with the frame without coefficients as predictions, and the program is not asked. `--only`
+takes the groups of steps whose name has the word, and `--small` leaves out the large frames: those of 2048x2048, and that of `--frame`, the plan of an
+intra frame as `integrations/rav1e/record` leaves it, whose page has to be small and to open at once.
 
 Needs `chromium` (of Debian's packages) and no network. Ends with 'N passed, M failed'; the status is 1 where M is not 0. With
 `--screenshots` pictures of the pages are left in that folder.
@@ -45,6 +48,10 @@ SPEC.loader.exec_module(TEMPLATE)
 MOST_FRAME = 60
 MOST_OPENING = 15
 
+# How large the page of a frame may be that an encoder coded, as a part of its plan and its planes in base64, and how long it may take to open.
+MOST_SIZE = 1.5
+MOST_RECORDED = 1
+
 
 class Pages:
     """Pages in a folder, of the programs that are asked for."""
@@ -60,16 +67,18 @@ class Pages:
             self.kept[plan] = self.run(self.options.recon, [], plan)
         return self.kept[plan]
 
-    def write(self, name, plan, trace=None):
+    def write(self, name, data, trace=None):
         """Writes the page of a plan or of a trace, and tells its path, the planes and the predictions."""
-        planes, given = self.planes(plan), b"" if trace is None else trace[8 + len(plan):]
+        plan, planes, given = Plan(data), self.planes(data), b"" if trace is None else trace[8 + len(data):]
+        row = plan.width * plan.bytes
         if self.options.view == "none":
-            predictions = self.planes(Plan(plan).cut(0, 0))
-            return self.keep(name, TEMPLATE.page(plan, planes, predictions, given)), planes, predictions
-        page = self.run(self.options.view, [] if trace is None else ["trace"], plan if trace is None else trace)
-        predictions = base64.b64decode(re.search(b'id="predictions-bytes">([^<]*)<', page).group(1))
-        self.checks.true(f"{name}: the page is the one that is wanted, byte by byte", page == TEMPLATE.page(plan, planes, predictions, given))
-        held.look_at_predictions(self.checks, name, Plan(plan), planes, predictions, lambda cut: self.run(self.options.recon, [], cut))
+            predictions = self.planes(plan.cut(0, 0))
+            return self.keep(name, TEMPLATE.page(data, planes, TEMPLATE.packed(row, planes, predictions), given)), planes, predictions
+        page = self.run(self.options.view, [] if trace is None else ["trace"], data if trace is None else trace)
+        predictions = plan.unpacked(planes, base64.b64decode(re.search(b'id="predictions-bytes">([^<]*)<', page).group(1)))
+        wanted = TEMPLATE.page(data, planes, TEMPLATE.packed(row, planes, predictions), given)
+        self.checks.true(f"{name}: the page is the one that is wanted, byte by byte", page == wanted)
+        held.look_at_predictions(self.checks, name, plan, planes, predictions, lambda cut: self.run(self.options.recon, [], cut))
         return self.keep(name, page), planes, predictions
 
     def write_file(self, name, word, data):
@@ -267,19 +276,26 @@ def great(browser, pages, checks, options):
     checks.same("2048x2048: faults of the page", browser.faults(), [])
 
 
+def least_time(call, times=3):
+    """How long a call takes, in seconds, on a machine with other work: the least of some times."""
+    least = None
+    for _ in range(times):
+        begun = time.time()
+        call()
+        least = min(time.time() - begun, least or float("inf"))
+    return least
+
+
 def greatest_trace(browser, pages, checks, options):
     """A trace of that frame that differs everywhere. The program takes at most twice the time of its reconstruction."""
     data = plans.great(2048)
     planes = pages.planes(data)
     differing = plans.differing_everywhere(data, planes)
     if options.view != "none":
-        begun = time.time()
-        pages.run(options.recon, [], data)
-        reconstructed = time.time() - begun
-        begun = time.time()
-        pages.run(options.view, ["trace"], differing)
-        seen = time.time() - begun
+        reconstructed = least_time(lambda: pages.run(options.recon, [], data))
+        seen = least_time(lambda: pages.run(options.view, ["trace"], differing))
         print(f"2048x2048 that differs everywhere: {reconstructed:.2f} s to reconstruct, {seen:.2f} s to see", flush=True)
+        checks.true("its page takes at most twice the time of its reconstruction", seen <= 2 * reconstructed)
     path, planes, predictions = pages.write("greatest", data, differing)
     begun = time.time()
     browser.open(path)
@@ -289,8 +305,24 @@ def greatest_trace(browser, pages, checks, options):
     checks.same("greatest trace: faults of the page", browser.faults(), [])
 
 
+def recorded(browser, pages, checks, options):
+    """A frame that an encoder coded. Its page is not much larger than its plan and its planes, and opens at once."""
+    if not options.frame:
+        return
+    with open(options.frame, "rb") as file:
+        data = file.read()
+    path, planes, predictions = pages.write("recorded", data)
+    plan, size = Plan(data), os.path.getsize(path) / len(base64.b64encode(data + planes))
+    held.look_at(browser, checks, "recorded", path, plan, planes, predictions)
+    opening = least_time(lambda: browser.open(path))
+    print(f"recorded, {plan.width}x{plan.height}: a page of {size:.2f} times plan and planes, which opens in {opening:.2f} s", flush=True)
+    checks.true("recorded: the size of its page", size <= MOST_SIZE)
+    checks.true("recorded: its page opens", opening < MOST_RECORDED)
+    checks.same("recorded: faults of the page", browser.faults(), [])
+
+
 SMALL = [worked, stripes, departures, five, trace, everywhere, sequence, grid]
-LARGE = [great, greatest_trace]
+LARGE = [great, greatest_trace, recorded]
 
 
 def main():
@@ -298,6 +330,7 @@ def main():
     for name, crate in (("view", "av1_view"), ("recon", "av1_vectors"), ("tools", "av1_tools")):
         parser.add_argument("--" + name, default=os.path.join(CRATES, crate, "out", crate))
     parser.add_argument("--screenshots")
+    parser.add_argument("--frame")
     parser.add_argument("--only", default="")
     parser.add_argument("--small", action="store_true")
     options, checks = parser.parse_args(), Checks()

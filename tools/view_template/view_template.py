@@ -19,7 +19,7 @@ CRATE = os.path.join(os.path.dirname(os.path.abspath(__file__)), "..", "..", "cr
 PARTS = [
     ("BEFORE_PLAN", "What stands before the bytes of the plan: the page without its script."),
     ("BEFORE_PLANES", "Between the bytes of the plan and those of its planes."),
-    ("BEFORE_PREDICTIONS", "Between the planes and what was predicted of them."),
+    ("BEFORE_PREDICTIONS", "Between the planes and what was predicted of them, which is packed."),
     ("BEFORE_GIVEN", "Between the predictions and the planes that a trace gives."),
     ("BEFORE_SCRIPT", "Between the given planes and the script."),
     ("SCRIPT", "The script, which reads all of these."),
@@ -47,8 +47,25 @@ def parts():
     return pieces[:5] + [script, pieces[5]]
 
 
+# What stands for a change of a byte: 0, -1, 1, -2, 2 .. as 0, 1, 2, 3, 4 ..
+SIGN_LAST = bytes(2 * change if change < 128 else 511 - 2 * change for change in range(256))
+
+
+def packed(row, planes, predictions):
+    """Predictions, packed against planes of which a row of luma has so many bytes (specs/Packed.antt)."""
+    residues = bytes((a - b) % 256 for a, b in zip(planes, predictions))
+    numbers = bytes((a - b) % 256 for a, b in zip(residues, bytes(row) + residues)).translate(SIGN_LAST)
+    groups = []
+    for start in range(0, len(numbers), 8):
+        group = numbers[start:start + 8]
+        bits = max(group).bit_length()
+        word = sum(number << bits * i for i, number in enumerate(group)) if bits else 0
+        groups.append(bytes([bits]) + word.to_bytes(bits, "little"))
+    return b"".join(groups)
+
+
 def page(plan, planes, predictions, given=b""):
-    """The page of these bytes."""
+    """The page of these bytes. The predictions are packed."""
     front, *rest = [part.encode() for part in parts()]
     return front + b"".join(base64.b64encode(data) + part for data, part in zip([plan, planes, predictions, given], rest)) + b"".join(rest[4:])
 
@@ -66,8 +83,11 @@ def stored():
     """The page of the worked plan of `av1_vectors`. Of its four leaves of 4x4 samples the first is predicted as 128 in Y and the others as 131, what
     the residue of the first has made of it; U and V, as large as Y, are predicted as 128."""
     luma = (bytes([128]) * 4 + bytes([131]) * 4) * 4 + bytes([131]) * 32
-    with open(os.path.join(CRATE, "stdin"), "rb") as plan, open(os.path.join(CRATE, "..", "av1_vectors", "stdout"), "rb") as planes:
-        return page(plan.read(), planes.read(), luma + bytes([128]) * 128)
+    with open(os.path.join(CRATE, "stdin"), "rb") as file:
+        plan = file.read()
+    with open(os.path.join(CRATE, "..", "av1_vectors", "stdout"), "rb") as file:
+        planes = file.read()
+    return page(plan, planes, packed(8, planes, luma + bytes([128]) * 128))
 
 
 def main():

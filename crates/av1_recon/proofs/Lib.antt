@@ -1,5 +1,6 @@
 pub mod KeptBytes
 pub mod Converting
+pub mod InTurn
 pub mod Ends
 pub mod MadePlans
 pub mod Outcomes
@@ -8,5 +9,6 @@ pub mod RowSums
 pub mod Rows
 pub mod SampleBytes
 pub mod SamplesByBytes
+pub mod ShownBytes
 pub mod Summing
 pub mod WordNumbers

@@ -2,11 +2,11 @@
 //!
 //! [`reconstruct_plan`] is the whole path: it reads a source to its end, parses the plan, checks it, reconstructs it
 //! and writes its visible planes, Y, U and V row by row. [`run`] is all that the program does with the words of its
-//! command line. For programs beside it the parts stand alone: [`read_plan`] reads and checks, [`write_predictions`]
-//! writes what each block is predicted as before its residue is added, [`write_sums`] reconstructs and writes four
-//! lines on a plan whose planes nobody reads, its leaves and the [`plane_sum`] of each plane, [`number_of`] is a number
-//! among the words, [`report`] the line and the exit status of an answer, and [`run_on_words`] what a `main` does
-//! beside.
+//! command line. For programs beside it the parts stand alone: [`read_plan`] reads and checks,
+//! [`write_with_predictions`] writes the planes and beside them what each block is predicted as before its residue is
+//! added, [`write_sums`] reconstructs and writes four lines on a plan whose planes nobody reads, its leaves and the
+//! [`plane_sum`] of each plane, [`number_of`] is a number among the words, [`report`] the line and the exit status of
+//! an answer, and [`run_on_words`] what a `main` does beside.
 //!
 //! It stands on `av1_streams` for sources and sinks, on `av1_plan` for the grammar and the check of plans, and on
 //! `av1_tile` for the samples, and passes on what its callers need of them.
@@ -52,7 +52,7 @@ pub use lines::write_sums;
 pub use made::{write_made, write_made_sums};
 pub use number::number_of;
 pub use planes::{write_frame, write_planes};
-pub use predictions::write_predictions;
+pub use predictions::write_with_predictions;
 pub use program::run;
 pub use read::read_plan;
 pub use reconstruct::{reconstruct_plan, reconstruct_valid};

@@ -1,5 +1,7 @@
 pub mod Groups
 pub mod Pages
+pub mod Joined
+pub mod Packing
 pub mod TraceOutcomes
 pub mod FileAnswers
 pub mod SequenceFiles

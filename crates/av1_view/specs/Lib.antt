@@ -1,4 +1,5 @@
 pub mod Base64
+pub mod Packed
 pub mod Page
 pub mod Gathered
 pub mod Shown

@@ -13,7 +13,7 @@ piece_text (Text text) = text.now
 piece_text (Bytes bytes) = base64_text bytes.now
 
 -- The page: the constant parts, and between them in base64 the bytes of a plan, of its planes, of what was predicted of
--- them, and of the planes that a trace gives, where there is one.
+-- them, as it is packed, and of the planes that a trace gives, where there is one.
 unfoldable pub page : (plan planes predictions given : List ℕ) → List ℕ
 page plan planes predictions given = concat (
     BEFORE_PLAN.now ∷ base64_text plan ∷ BEFORE_PLANES.now ∷ base64_text planes ∷ BEFORE_PREDICTIONS.now ∷

@@ -6,7 +6,8 @@
 //! line, the flush of its output and its exit status are `av1_recon::run_on_words`.
 //!
 //! Promised: the page is one definition, `page` (`specs/Page.antt`): constant parts, and between them in base64 the
-//! plan's bytes, its visible planes by the slow definition, and what its Predict steps predict of them.
+//! plan's bytes, its visible planes by the slow definition, and what its Predict steps predict of them, packed against
+//! these (`packed`, `specs/Packed.antt`). What is packed can be read again ([`laws::packed_is_read_again`]).
 //! [`view::view_plan`] keeps what all calls keep that read a plan and write of it (`Converts` of `av1_recon`),
 //! [`trace::view_trace`], [`sequence::view_sequence`] and [`tiles::view_tiles`] what all keep that read bytes and write
 //! of them (`Performs` of `av1_streams`). The page of a sequence or of a grid holds its own bytes and all of its planes
@@ -18,6 +19,8 @@ mod base64_text;
 mod command;
 mod file;
 mod gathered;
+mod laws;
+mod packed;
 mod page;
 mod planes;
 mod program;

@@ -20,7 +20,7 @@ pub struct Shown<'a> {
     pub plan: &'a [u8],
     /// Its planes.
     pub planes: &'a [u8],
-    /// What was predicted of its planes.
+    /// What was predicted of its planes, packed against these; none where predictions are not shown.
     pub predictions: &'a [u8],
     /// The planes that a trace gives; none where there is no trace.
     pub given: &'a [u8],

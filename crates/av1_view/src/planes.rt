@@ -8,39 +8,36 @@ ghost use Rattle.av1_tile.specs.Predicted.{predictions_of};
 use crate::gathered::Gathered;
 use av1_blocks::OutOfMemory;
 use av1_plan::Plan;
-use av1_recon::{reconstruct_valid, write_predictions};
+use av1_recon::write_with_predictions;
 use std::alloc::Global;
 
-/// The bytes of the visible planes of a valid plan.
-///
-/// # Errors
-///
-/// `OutOfMemory` where memory runs out.
-pub fn planes(alloc: Global, plan: &Plan) -> Result<Vec<u8>, OutOfMemory>
-    requires valid { first_fault (plan_value plan.now) ≡ None }
-    ensures { IfOk result (λ bytes. bytes.items ≡ planes_of (plan_value plan.now)) }
-{
-    let mut sink = Gathered::new(alloc);
-    // What is gathered in memory fails only where memory runs out.
-    match reconstruct_valid(alloc, plan, &mut sink) {
-        Ok(()) => Ok(sink.into_bytes()),
-        Err(_) => Err(OutOfMemory),
-    }
+/// What a plan comes to.
+#[derive(Drop)]
+pub struct Reconstructed {
+    /// The bytes of its visible planes.
+    pub planes: Vec<u8>,
+    /// The bytes of what was predicted of them, before residues were added.
+    pub predictions: Vec<u8>,
 }
 
-/// The bytes of what is predicted of the visible planes of a valid plan, before residues are added.
+/// What a valid plan comes to.
 ///
 /// # Errors
 ///
 /// `OutOfMemory` where memory runs out.
-pub fn predictions(alloc: Global, plan: &Plan) -> Result<Vec<u8>, OutOfMemory>
+pub fn reconstruct(alloc: Global, plan: &Plan) -> Result<Reconstructed, OutOfMemory>
     requires valid { first_fault (plan_value plan.now) ≡ None }
-    ensures { IfOk result (λ bytes. bytes.items ≡ predictions_of (plan_value plan.now)) }
+    ensures planes { IfOk result (λ made. made.planes.items ≡ planes_of (plan_value plan.now)) }
+    ensures predictions { IfOk result (λ made. made.predictions.items ≡ predictions_of (plan_value plan.now)) }
 {
-    let mut sink = Gathered::new(alloc);
-    // As above.
-    match write_predictions(alloc, plan, &mut sink) {
-        Ok(()) => Ok(sink.into_bytes()),
+    let mut planes = Gathered::new(alloc);
+    let mut predictions = Gathered::new(alloc);
+    // What is gathered in memory fails only where memory runs out.
+    match write_with_predictions(alloc, plan, &mut planes, &mut predictions) {
+        Ok(()) => Ok(Reconstructed {
+            planes: planes.into_bytes(),
+            predictions: predictions.into_bytes(),
+        }),
         Err(_) => Err(OutOfMemory),
     }
 }

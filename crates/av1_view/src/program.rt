@@ -37,12 +37,14 @@ const NO_COMMAND: u8 = 1;
 /// |---|---|---|
 /// | 0 | the page was written | none |
 /// | 1 | the words are no command | `usage: view [trace \| sequence \| tiles]` |
-/// | 2 | the bytes are refused | `too long`, `malformed at N`; of a plan `invalid leaf N: K`; of a trace `plan malformed at N`, `plan invalid leaf N: K`; of a sequence or of a grid as `av1_toolbox::run_tools` says |
+/// | 2 | the bytes are refused | `too long`, `malformed at N`, or one of those below |
 /// | 3 | memory ran out | `out of memory` |
 /// | 4 | a read failed | `read fault` |
 /// | 5 | a write failed | `write fault` |
 ///
-/// K is as in [`av1_recon::run`]. Where a write to `err` failed a prefix of the line stands, and the status stays.
+/// A plan may also be refused by the line `invalid leaf N: K`, where K is as in [`av1_recon::run`], and a trace by
+/// `plan malformed at N` or `plan invalid leaf N: K`; a sequence and a grid as `av1_toolbox::run_tools` says. Where a
+/// write to `err` failed a prefix of the line stands, and the status stays.
 pub fn run_view<R: Source, W: Sink, E: Sink>(
     alloc: Global,
     words: &[String],

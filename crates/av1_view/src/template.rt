@@ -142,7 +142,7 @@ zooms, and sideways it moves.</p>
 pub const BEFORE_PLANES: &str = "</script>
 <script type=\"text/plain\" id=\"planes-bytes\">";
 
-/// Between the planes and what was predicted of them.
+/// Between the planes and what was predicted of them, which is packed.
 pub const BEFORE_PREDICTIONS: &str = "</script>
 <script type=\"text/plain\" id=\"predictions-bytes\">";
 
@@ -372,10 +372,43 @@ function samplesOf(frame, bytes) {
   return samples;
 }
 
-// The planes that the page holds. It lacks those that a trace gives where there is no trace.
+// Predictions are packed against the planes (`packed`, specs/Packed.antt of av1_view): of each byte how much the planes are more there than was
+// predicted, less the same of the byte a row of luma before, with its sign last, and of each 8 such numbers as many bits as the greatest has.
+
+// How much so many bytes of planes are more than was predicted, behind a row of zeros. What is read or written past the last byte is nothing.
+function residuesOf(packed, length, row) {
+  const residues = new Uint8Array(row + length);
+  let at = 0;
+  for (let i = row; i < row + length; i += 8) {
+    const bits = packed[at++];
+    const mask = (1 << bits) - 1;
+    let word = 0;
+    let have = 0;
+    for (let j = i; j < i + 8; j++) {
+      if (have < bits) { word |= packed[at++] << have; have += 8; }
+      const number = word & mask;
+      residues[j] = residues[j - row] + (number & 1 ? ~(number >> 1) : number >> 1);
+      word >>= bits;
+      have -= bits;
+    }
+  }
+  return residues;
+}
+
+// The bytes that were predicted, of planes and of what is packed against them.
+function predictionsOf(planes, packed, row) {
+  const residues = residuesOf(packed, planes.length, row);
+  const predictions = new Uint8Array(planes.length);
+  for (let i = 0; i < predictions.length; i++) predictions[i] = planes[i] - residues[row + i];
+  return predictions;
+}
+
+// The planes that the page holds. It lacks predictions of a grid of tiles, and those that a trace gives where there is no trace.
 function heldPlanes(frame) {
-  const read = (id) => { const bytes = bytesOf(id); return bytes.length ? samplesOf(frame, bytes) : null; };
-  return { planes: read('planes-bytes'), predictions: read('predictions-bytes'), given: read('given-bytes') };
+  const [planes, packed, given] = ['planes-bytes', 'predictions-bytes', 'given-bytes'].map(bytesOf);
+  const read = (bytes) => bytes.length ? samplesOf(frame, bytes) : null;
+  const predictions = packed.length ? predictionsOf(planes, packed, frame.width * frame.sampleBytes) : packed;
+  return { planes: read(planes), predictions: read(predictions), given: read(given) };
 }
 
 // A slot by its number, and in a sequence the frame that it holds.

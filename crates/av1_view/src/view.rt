@@ -6,19 +6,20 @@ ghost use Rattle.av1_planwrite.specs.Text.{plan_text};
 ghost use Rattle.av1_recon.specs.Outcomes.{Converts};
 ghost use Rattle.av1_recon.specs.Writing.{Writes};
 ghost use Rattle.av1_tile.specs.Output.{planes_of};
-ghost use Rattle.av1_tile.specs.Predicted.{predictions_of};
-ghost use Rattle.av1_view.specs.Shown.{plan_page};
+ghost use Rattle.av1_view.specs.Shown.{packed_predictions, plan_page, row_len};
 
+use crate::packed::pack;
 use crate::page::{Shown, write_page};
-use crate::planes::{planes, predictions};
+use crate::planes::{Reconstructed, reconstruct};
 use av1_blocks::OutOfMemory;
-use av1_plan::Plan;
+use av1_plan::{Header, Plan};
 use av1_planwrite::write_plan;
 use av1_recon::{ReconError, Sink, Source, read_plan};
 use std::alloc::Global;
 
 /// Reads a plan from the source to its end, and appends a page to the sink that shows it: the constant parts of the
-/// page, and between them in base64 the plan's bytes, its visible planes, and what was predicted of them.
+/// page, and between them in base64 the plan's bytes, its visible planes, and what was predicted of them, packed
+/// against these.
 ///
 /// # Errors
 ///
@@ -42,7 +43,7 @@ pub struct Parts {
     pub plan: Vec<u8>,
     /// Its planes.
     pub planes: Vec<u8>,
-    /// What was predicted of its planes.
+    /// What was predicted of its planes, packed against these.
     pub predictions: Vec<u8>,
 }
 
@@ -55,13 +56,26 @@ pub fn gather(alloc: Global, plan: &Plan) -> Result<Parts, OutOfMemory>
     requires valid { first_fault (plan_value plan.now) ≡ None }
     ensures plan { IfOk result (λ parts. parts.plan.items ≡ plan_text (plan_value plan.now)) }
     ensures planes { IfOk result (λ parts. parts.planes.items ≡ planes_of (plan_value plan.now)) }
-    ensures predictions { IfOk result (λ parts. parts.predictions.items ≡ predictions_of (plan_value plan.now)) }
+    ensures predictions { IfOk result (λ parts. parts.predictions.items ≡ packed_predictions (plan_value plan.now)) }
 {
+    let made = reconstruct(alloc, plan)?;
+    let row = row_len(plan.header());
+    let predictions = pack(alloc, row, &made.planes, &made.predictions)?;
+    let Reconstructed { planes, .. } = made;
     Ok(Parts {
         plan: write_plan(alloc, plan)?,
-        planes: planes(alloc, plan)?,
-        predictions: predictions(alloc, plan)?,
+        planes,
+        predictions,
     })
+}
+
+// How many bytes a row of luma has.
+#[tactic(auto, unfolding(av1_trace::specs::Samples::sample_len))]
+fn row_len(header: &Header) -> usize
+    ensures { result ≡ row_len header.now }
+{
+    let width = usize::from(header.width);
+    if header.depth == 8 { width } else { 2 * width }
 }
 
 // Appends the page of a valid plan.
