@@ -10,7 +10,7 @@ use Rattle.av1_blocks.specs.declared.partition.PartitionType.{PartitionType}
 use Rattle.av1_plan.specs.declared.header.Header.{Header}
 use Rattle.av1_plan.specs.Format.{Format, done, ◌>>=◌}
 use Rattle.av1_plan.specs.Geometry.{plane_len, has_slot, carries_chroma}
-use Rattle.av1_plan.specs.Grammar.{where_, is_mark, cut_by, mark, plan}
+use Rattle.av1_plan.specs.Grammar.{is_mark, cut_by, mark, plan}
 use Rattle.av1_plan.specs.Grammar as grammar
 use Rattle.av1_plan.specs.Plan.{LeafValue, PlanValue}
 use Rattle.av1_plan.specs.ReadPlans.{IsReadFrame, ArePlane}

@@ -1,6 +1,6 @@
 //! Plans written whole.
 
-ghost use Rattle.std.specs.Prelude.{◌≡◌, ◌<◌, ◌≤◌, IfOk};
+ghost use Rattle.std.specs.Prelude.{◌≡◌, ◌<◌, IfOk};
 ghost use Rattle.av1_plan.specs.Values.{plan_value};
 ghost use Rattle.av1_planwrite.specs.Bare.{bare, bare_text, IsTextOf};
 ghost use Rattle.av1_planwrite.specs.Text.{plan_text};
@@ -13,9 +13,9 @@ use av1_plan::Plan;
 use std::alloc::Global;
 
 impl Text {
-    ghost use Rattle.std.specs.Prelude.{◌≡◌, ◌≤◌, ◌<◌, ◌++◌, OnOk, slice_index_or, None};
+    ghost use Rattle.std.specs.Prelude.{◌≡◌, ◌<◌, ◌++◌, OnOk, slice_index_or, None};
     ghost use Rattle.av1_plan.specs.Values.{plan_value};
-    ghost use Rattle.av1_planwrite.specs.Text.{sample_text, plane_text, slot_text, references_text};
+    ghost use Rattle.av1_planwrite.specs.Text.{slot_text, references_text};
     ghost use Rattle.av1_plan.specs.Plan.{carried_plane};
     ghost use Rattle.av1_planwrite.specs.Writing.{samples_text};
 

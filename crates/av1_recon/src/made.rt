@@ -1,5 +1,5 @@
 //! The plan of a number: its bytes, and four lines on it.
-ghost use Rattle.std.specs.Prelude.{◌≡◌, ◌≤◌, None, IfOk, IfErr, ℕ, List};
+ghost use Rattle.std.specs.Prelude.{◌≡◌, None, IfOk, IfErr, ℕ, List};
 ghost use Rattle.av1_generate.specs.Generator.{plan_bytes};
 ghost use Rattle.av1_plan.specs.Values.{plan_value};
 ghost use Rattle.av1_plan.specs.Validity.{first_fault};

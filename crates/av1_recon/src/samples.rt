@@ -1,5 +1,5 @@
 //! Samples as bytes: one byte a sample, or two, the low one first.
-ghost use Rattle.std.specs.Prelude.{◌≡◌, ◌*◌, ◌≤◌, false, ◌==◌, length, map, take};
+ghost use Rattle.std.specs.Prelude.{◌≡◌, ◌*◌, ◌≤◌, ◌==◌, length, map, take};
 ghost use Rattle.std.specs.List.{flat_map};
 ghost use Rattle.av1_tile.specs.Output.{sample_bytes};
 

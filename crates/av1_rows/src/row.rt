@@ -1,6 +1,6 @@
 //! Rows: a call, and the answer that is wanted.
 
-ghost use Rattle.std.specs.Prelude.{◌≡◌, ◌<◌, ◌≤◌, length, IfSome};
+ghost use Rattle.std.specs.Prelude.{◌≡◌, ◌<◌, IfSome};
 ghost use Rattle.av1_replay.specs.Fields.{unread};
 ghost use Rattle.av1_rows.specs.Rows.{call_kind, fields_before, row_before};
 

@@ -1,7 +1,6 @@
 //! How many rows of each kind there were, and how many differ.
 
-ghost use Rattle.std.specs.Prelude.{◌≡◌, ◌<◌, IfOk, IsNone, OnOk, IsTrue, ◌↔◌};
-ghost use Rattle.av1_replay.specs.Answers.{Agrees};
+ghost use Rattle.std.specs.Prelude.{◌≡◌, ◌<◌, IsNone, OnOk, IsTrue, ◌↔◌};
 ghost use Rattle.av1_rows.specs.Rows.{told_by, wanted_by};
 ghost use Rattle.av1_rows.specs.Tallies.{counts_by, no_rows, with_row};
 

@@ -106,14 +106,6 @@ module _ {T : Type 0} (num : T → ℕ) (pixel : ℕ → T) (law : (v : ℕ) →
       go true = refl
       go false = refl
 
-  -- the block lies in it
-  pub between_inside : Stores num h block.plane before → 8 ≤ h.depth → InPlane (area_at block at) before → InPlane (area_at block at) between
-  between_inside stores deep inside = record {
-    storage = (between_stores stores deep).place.whole;
-    columns = subst (λ (c : PlaneConfig). c.xorigin + at.x + tx_width block.area.tx_size ≤ c.stride) (sym between_layout) inside.columns;
-    rows = subst (λ (c : PlaneConfig). c.yorigin + at.y + tx_height block.area.tx_size ≤ c.alloc_height) (sym between_layout) inside.rows;
-  }
-
   module _ (triples : List Triple) (after : Plane T)
       (painted : after ≡ painted_plane between (area_at block at)
       (λ r c v. pixel (added h.depth (num v) (block_residue h.depth block triples at.number r c)))) where

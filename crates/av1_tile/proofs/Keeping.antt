@@ -1,17 +1,16 @@
 -- What the walk keeps of its predictions: a rectangle that is copied, and what the steps of a block leave.
-use Rattle.std.proofs.Common.{ℕ, ◌+◌, ◌-◌, ◌*◌, ◌/◌, ◌%◌, ◌<◌, ◌≤◌, ◌≡◌, Bool, true, false, ◌&&◌, if◌then◌else◌, List, [], ◌∷◌, length, get_or, refl, ap}
+use Rattle.std.proofs.Common.{ℕ, ◌+◌, ◌-◌, ◌*◌, ◌/◌, ◌%◌, ◌<◌, ◌≤◌, ◌≡◌, Bool, true, false, if◌then◌else◌, List, [], ◌∷◌, length, get_or, refl, ap}
 use Rattle.std.proofs.Common.{arith, ◌∙◌}
-use Rattle.std.proofs.Common.{Option, Some, sym, ℤ, ◌⊎◌, inl, inr, min}
+use Rattle.std.proofs.Common.{Some, sym, ℤ, ◌⊎◌, inl, inr, min}
 use Rattle.std.specs.List.{fold}
-use Rattle.std.specs.Prelude.{nat_lt}
 use Rattle.std.proofs.Math.Nat.{div-mul-le_self, mod-lt}
-use Rattle.std.proofs.lemmas.Bool.{cases_lt, ltb-true}
+use Rattle.std.proofs.lemmas.Bool.{cases_lt}
 use Rattle.std.proofs.lemmas.Bool.Decides.{nat_tests}
 use Rattle.av1_frame.specs.declared.plane.Plane.{Plane}
 use Rattle.av1_frame.specs.declared.plane_region.StoredArea.{StoredArea}
 use Rattle.av1_frame.specs.Areas.{VisibleArea}
 use Rattle.av1_frame.specs.Planes.{InPlane, painted_plane, place_at, sample_at}
-use Rattle.av1_frame.specs.Samples.{in_area, paint, paint_row, painted_at, part}
+use Rattle.av1_frame.specs.Samples.{in_area, paint, painted_at, part}
 use Rattle.av1_frame.proofs.Fits.{rows_le}
 use Rattle.av1_frame.proofs.Planes.{run_in_storage}
 use Rattle.av1_frame.proofs.RowParts.{part_sample}
@@ -32,19 +31,6 @@ use Rattle.av1_tile.specs.Walk.{area_at, fast_in}
 use Rattle.av1_tile.proofs.BlockSteps.{some_factor, two_steps}
 
 -- ---- a rectangle that is copied
-
--- a sample that changes where a test holds
-changed_alike : {X : Type 0} (b : Bool) (x y v : X) → (b ≡ true → x ≡ y) → (if b then x else v) ≡ (if b then y else v)
-changed_alike true x y v e = e refl
-changed_alike false x y v e = refl
-
--- a row whose samples change alike
-pub row_alike : {X : Type 0} (w : ℕ) (f g : ℕ → X → X) (s : List X) → ((c : ℕ) (v : X) → c < w → f c v ≡ g c v) → paint_row w f s ≡ paint_row w g s
-unfolding paint_row
-row_alike w f g s e =
-    update_is _ s _ (length-update _ s)
-    (λ k d l. get_or-update _ s k d l
-    ∙ changed_alike (nat_lt k w) (f k (get_or s k d)) (g k (get_or s k d)) (get_or s k d) (λ t. e k (get_or s k d) (ltb-true k w t)))
 
 -- a row of a rectangle lies in the plane where the rectangle does
 pub row_inside : {T : Type 0} (plane : Plane T) (a : StoredArea) (r : ℕ) → InPlane (visible_in a) plane → r < a.height →

@@ -1,11 +1,10 @@
 -- Frames that are laid out alike: planes that store one of them store the other.
-use Rattle.std.proofs.Common.{◌≡◌, ◌∙◌, ℕ, zero, suc, ◌+◌, ◌*◌, ◌/◌, ◌^◌, ◌<◌, ◌≤◌, All, List, if◌then◌else◌, nat_lt, ◌==◌, ap, ap₂, sym, refl, subst}
+use Rattle.std.proofs.Common.{◌≡◌, ◌∙◌, ℕ, zero, suc, ◌+◌, ◌*◌, ◌/◌, ◌^◌, ◌<◌, ◌≤◌, All, if◌then◌else◌, nat_lt, ◌==◌, ap, ap₂, sym, refl, subst}
 use Rattle.std.specs.Int.{next_multiple_of}
 use Rattle.av1_frame.specs.declared.plane.Plane.{Plane}
 use Rattle.av1_frame.specs.declared.plane.PlaneConfig.{PlaneConfig}
 use Rattle.av1_plan.specs.declared.header.Header.{Header}
 use Rattle.av1_plan.specs.Geometry.{xdec, ydec, plane_width, plane_height}
-use Rattle.av1_tile.specs.declared.planes.Planes.{Planes}
 use Rattle.av1_tile.specs.Memory.{HasRoomFor, WalkRoom}
 use Rattle.av1_tile.specs.State.{AreAlike, IsSound, Picture}
 use Rattle.av1_tile.specs.Walk.{Stores, StoresAll, HasRoomIn, HasRoom}

@@ -1,11 +1,11 @@
 -- What the walk has kept of its predictions is what the slow definition draws of them.
-use Rattle.std.proofs.Common.{ℕ, zero, suc, ◌+◌, ◌-◌, ◌*◌, ◌<◌, ◌≤◌, ◌≡◌, Bool, true, false, ◌&&◌, cond, List, [], ◌∷◌, ◌++◌, length, get_or, map, take}
+use Rattle.std.proofs.Common.{ℕ, zero, suc, ◌+◌, ◌-◌, ◌*◌, ◌<◌, ◌≡◌, Bool, true, false, ◌&&◌, cond, List, [], ◌∷◌, ◌++◌, length, get_or, map, take}
 use Rattle.std.proofs.Common.{drop, refl, ap}
-use Rattle.std.proofs.Common.{arith, ◌∙◌, sym, subst, replicate, slice_index, Option, Some, None}
+use Rattle.std.proofs.Common.{arith, ◌∙◌, sym, subst, replicate, slice_index, Option, Some}
 use Rattle.std.specs.List.{flat_map, fold, range_with_len}
 use Rattle.std.specs.Prelude.{nat_le, nat_lt}
 use Rattle.std.proofs.lemmas.Bool.{and_parts, leb-true}
-use Rattle.std.proofs.lemmas.List.{get_or-drop, get_or-map, get_or-replicate, get_or-take, length-drop, length-map, length-replicate, length-take, map-id}
+use Rattle.std.proofs.lemmas.List.{get_or-drop, get_or-map, get_or-take, length-drop, length-map, length-replicate, length-take, map-id}
 use Rattle.std.proofs.lemmas.List.{take-append-drop}
 use Rattle.std.proofs.lemmas.List.FromFn.{fill_by_all}
 use Rattle.std.proofs.lemmas.List.Sums.{fold_push}
@@ -25,14 +25,14 @@ use Rattle.av1_tile.specs.Canvas.{Component, Y, U, V, Written, Canvas, blank, tu
 use Rattle.av1_tile.specs.Edge.{sample_of}
 use Rattle.av1_tile.specs.Output.{by_rows}
 use Rattle.av1_tile.specs.PlaneBlocks.{extent_of, number}
-use Rattle.av1_tile.specs.Predicted.{AreBlank, Keeping, Progress, ShowsPredictions, copied, keeping_step, kept_in, no_progress, predictions_in, rows_in}
+use Rattle.av1_tile.specs.Predicted.{AreBlank, ShowsPredictions, copied, keeping_step, kept_in, predictions_in, rows_in}
 use Rattle.av1_tile.specs.Predicted.{slow_predictions}
 use Rattle.av1_tile.specs.Predicted.{slow_progress, stored_in, with_rows}
 use Rattle.av1_tile.specs.Reference.{predicted, slow_in, slow_step}
 use Rattle.av1_tile.specs.SampleRows.{SampleRows}
 use Rattle.av1_tile.specs.Steps.{Step, predict, add, PlaneStep, steps}
 use Rattle.av1_tile.specs.Walk.{fast_step, plane_of}
-use Rattle.av1_tile.proofs.Agreement.{Agrees, stored_place}
+use Rattle.av1_tile.proofs.Agreement.{stored_place}
 use Rattle.av1_tile.proofs.Readiness.{AreReady, Each, StepReady}
 use Rattle.av1_tile.proofs.Simulation.{AllAgree, AllWhole, step_agrees, step_whole, walked}
 

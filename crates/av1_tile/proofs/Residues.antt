@@ -1,14 +1,14 @@
 -- Each sample is the sum of its prediction and its residue.
-use Rattle.std.proofs.Common.{ℕ, ◌+◌, ◌-◌, ◌≡◌, Bool, true, false, List, [], ◌∷◌, refl, arith, ◌∙◌, ℤ, pos, ◌+ℤ◌, ◌-ℤ◌, Option, Some, None, if◌then◌else◌}
+use Rattle.std.proofs.Common.{ℕ, ◌+◌, ◌≡◌, Bool, true, false, List, [], ◌∷◌, arith, ℤ, pos, ◌+ℤ◌, Option, Some, if◌then◌else◌}
 use Rattle.std.specs.List.{fold}
 use Rattle.std.proofs.lemmas.Int.{ints}
 use Rattle.av1_frame.specs.Areas.{in_visible}
 use Rattle.av1_plan.specs.Plan.{PlanValue}
 use Rattle.av1_tile.specs.Canvas.{Component, Y, U, V, Canvas, blank, turned}
 use Rattle.av1_tile.specs.Edge.{sample_of}
-use Rattle.av1_tile.specs.Predicted.{no_progress, predictions_in, slow_predictions, slow_progress}
+use Rattle.av1_tile.specs.Predicted.{predictions_in, slow_predictions, slow_progress}
 use Rattle.av1_tile.specs.Reference.{slow_in, slow_step, slow_walk}
-use Rattle.av1_tile.specs.Residues.{SamplesAreSums, nothing_added, residue_in, slow_adding, slow_residue}
+use Rattle.av1_tile.specs.Residues.{SamplesAreSums, residue_in, slow_adding, slow_residue}
 use Rattle.av1_tile.specs.Steps.{Step, predict, add, PlaneStep, steps}
 
 -- each sample so far is the sum

@@ -1,8 +1,7 @@
 -- Every step leaves samples within the depth.
-use Rattle.std.proofs.Common.{ℕ, ◌+◌, ◌^◌, ◌<◌, ◌≤◌, ◌≡◌, inl, inr, ◌&&◌, Bool, true, false, cond, min, if◌then◌else◌, List, [], ◌∷◌, ℤ, arith, refl, Option}
+use Rattle.std.proofs.Common.{ℕ, ◌+◌, ◌^◌, ◌<◌, ◌≤◌, ◌≡◌, ◌&&◌, Bool, true, false, cond, min, if◌then◌else◌, List, [], ◌∷◌, ℤ, arith, refl, Option}
 use Rattle.std.proofs.Common.{None}
 use Rattle.std.specs.List.{fold}
-use Rattle.av1_blocks.specs.Depths.{IsDepth}
 use Rattle.av1_blocks.specs.declared.predict.PredictionMode.{PredictionMode}
 use Rattle.av1_blocks.specs.declared.predict.PredictionMode.TheVariants.{UV_CFL_PRED}
 use Rattle.av1_blocks.specs.declared.predict.IntraParam.{IntraParam}

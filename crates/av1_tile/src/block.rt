@@ -1,6 +1,6 @@
 //! One transform block: its prediction from the samples round it, and its residue.
 
-ghost use Rattle.std.specs.Prelude.{◌≡◌, ℕ, ◌+◌, ◌-◌, ◌*◌, ◌^◌, ◌<◌, ◌≤◌, length, All, IsTrue, pos, map, reverse, [], ◌∷◌};
+ghost use Rattle.std.specs.Prelude.{◌≡◌, ◌-◌, ◌^◌, ◌<◌, ◌≤◌, length, All, IsTrue, pos, map, reverse, [], ◌∷◌};
 ghost use Rattle.av1_blocks.specs.Depths.{IsDepth};
 ghost use Rattle.av1_blocks.specs.Transforms.{tx_width, tx_height, valid_av1_transform};
 ghost use Rattle.av1_blocks.specs.declared.transform.TxSize.TheVariants.{TX_4X4};
@@ -13,6 +13,7 @@ ghost use Rattle.av1_plan.specs.Geometry.{plane_width, plane_height};
 ghost use Rattle.av1_tile.specs.Reference.{added, block_residue};
 ghost use Rattle.av1_tile.specs.Walk.{area_at, edge_for, predicted_at, EdgePredictionFits, IsPlaceIn, Stores, TripleFits};
 
+use crate::buffers::ResidueRoom;
 use crate::coefficients::{coefficients_up_to, load_coefficients};
 use crate::plane_block::PlaneBlock;
 use av1_blocks::{IntraParam, PredictionMode};
@@ -193,12 +194,10 @@ fn add_residue<T: Pixel>(
     );
 }
 
-/// Adds the residue of a transform block to its samples; `coefficients` is room for its coefficients. Without triples
-/// the samples stay: they lie within the depth.
+/// Adds the residue of a transform block to its samples. Without triples the samples stay: they lie within the depth.
 pub fn add_block<T: Pixel>(
     plane: &mut Plane<T>,
-    coefficients: &mut [T::Coeff],
-    scratch: &mut TxScratch,
+    room: &mut ResidueRoom<T>,
     header: &Header,
     block: &PlaneBlock,
     at: BlockPlace,
@@ -209,13 +208,13 @@ pub fn add_block<T: Pixel>(
     requires depths { IsDepth header.now.depth }
     requires place { IsPlaceIn header.now block.now at }
     requires fits { InPlane (area_at block.now at) plane.old }
-    requires room { length coefficients.old ≡ 1024 }
     requires valid { IsTrue (valid_av1_transform block.now.area.tx_size block.now.tx_type) }
     requires lossless { block.now.tx_type ≡ WHT_WHT → block.now.area.tx_size ≡ TX_4X4 }
     requires triples { All (TripleFits header.now.depth block.now) triples.now }
-    ensures { let depth = header.now.depth
+    ensures painted { let depth = header.now.depth
         in plane.new ≡ painted_plane plane.old (area_at block.now at)
         (λ r c v. T.pixel (added depth (T.num v) (block_residue depth block.now triples.now at.number r c))) }
+    ensures fits { InPlane (area_at block.now at) plane.new }
 {
     if triples.is_empty() {
         return;
@@ -226,8 +225,8 @@ pub fn add_block<T: Pixel>(
     let bit_depth = usize::from(header.depth);
     add_residue(
         &mut region,
-        coefficients,
-        scratch,
+        room.coefficients.as_mut_slice(),
+        &mut room.scratch,
         bit_depth,
         block,
         at.number,

@@ -16,6 +16,16 @@ const MOST_COEFFICIENTS: usize = 1024;
 /// The most samples of a block of chroma that is predicted from luma.
 const MOST_FROM_LUMA: usize = 32 * 32;
 
+/// Room for the residue of one transform block.
+#[derive(Drop)]
+pub struct ResidueRoom<T: Pixel> {
+    /// Its coefficients.
+    pub(crate) coefficients: Vec<T::Coeff>,
+    /// What their transform works in.
+    pub(crate) scratch: TxScratch,
+    pub(crate) ghost coefficients_len: { vec_len coefficients ≡ 1024 },
+}
+
 /// Room for one transform block, for the luma of a leaf and for one leaf's prediction from two references; and the
 /// predictions that are kept.
 #[derive(Drop)]
@@ -24,16 +34,13 @@ pub struct WalkBuffers<T: Pixel> {
     pub(crate) edges: IntraEdgeBuffer<T>,
     /// How far luma is from its mean, row by row, for each sample of a leaf's chroma that is predicted from it.
     pub(crate) luma: Vec<i16>,
-    /// The coefficients of a transform block.
-    pub(crate) coefficients: Vec<T::Coeff>,
-    /// What their transform works in.
-    pub(crate) scratch: TxScratch,
+    /// What the residue of a transform block takes.
+    pub(crate) residue: ResidueRoom<T>,
     /// The prepared values of a leaf from each of two references.
     pub(crate) compound: InterCompoundBuffers,
     /// What is kept of the predictions: nothing, unless a caller asks for them.
     pub(crate) kept: PredictedPlanes<T>,
     pub(crate) ghost luma_long: { vec_len luma ≡ 1024 },
-    pub(crate) ghost coefficients_len: { vec_len coefficients ≡ 1024 },
 }
 
 /// `count` zero coefficients.
@@ -47,6 +54,16 @@ fn coefficients<C: Coefficient>(alloc: Global, count: usize) -> Result<Vec<C>, A
     Ok(coefficients)
 }
 
+impl<T: Pixel> ResidueRoom<T> {
+    /// Takes the memory.
+    fn new(alloc: Global) -> Result<ResidueRoom<T>, OutOfMemory> {
+        Ok(ResidueRoom {
+            coefficients: coefficients(alloc, MOST_COEFFICIENTS)?,
+            scratch: TxScratch::new(alloc)?,
+        })
+    }
+}
+
 impl<T: Pixel> WalkBuffers<T> {
     ghost use Rattle.std.specs.Prelude.{◌≡◌, IfOk};
 
@@ -56,15 +73,13 @@ impl<T: Pixel> WalkBuffers<T> {
     {
         let edges = IntraEdgeBuffer::new(alloc)?;
         let luma = vec![in alloc; 0; MOST_FROM_LUMA]?;
-        let coefficients = coefficients(alloc, MOST_COEFFICIENTS)?;
-        let scratch = TxScratch::new(alloc)?;
+        let residue = ResidueRoom::new(alloc)?;
         let compound = InterCompoundBuffers::new(alloc)?;
         let kept = PredictedPlanes::none(alloc);
         Ok(WalkBuffers {
             edges,
             luma,
-            coefficients,
-            scratch,
+            residue,
             compound,
             kept,
         })

@@ -1,6 +1,6 @@
 //! The coefficients of a transform block, from the triples of its leaf.
 
-ghost use Rattle.std.specs.Prelude.{◌≡◌, ℕ, ◌≤◌, ◌<◌, ◌-◌, ◌^◌, length, map, pos, neg_ℤ, ◌≤ℤ◌, ◌<ℤ◌, All, replicate, slice_set, if◌then◌else◌};
+ghost use Rattle.std.specs.Prelude.{◌≡◌, ℕ, ◌≤◌, ◌<◌, ◌-◌, length, map, pos, All, replicate, slice_set, if◌then◌else◌};
 ghost use Rattle.std.specs.List.{fold};
 ghost use Rattle.av1_tile.specs.Reference.{with_triple};
 ghost use Rattle.av1_dct.specs.Arithmetic.{FitsBits};

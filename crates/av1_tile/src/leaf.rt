@@ -1,6 +1,6 @@
 //! A leaf, in each of the planes that it covers.
 
-ghost use Rattle.std.specs.Prelude.{◌≡◌, ℕ, ◌≤◌, ◌<◌, ◌*◌, length, true, []};
+ghost use Rattle.std.specs.Prelude.{◌≡◌, ℕ, ◌<◌, length, []};
 ghost use Rattle.std.specs.List.{fold};
 ghost use Rattle.av1_frame.specs.Planes.{sample_at};
 ghost use Rattle.av1_intra.specs.ChromaFromLuma.{ac_at, chroma_block, leaf_difference};

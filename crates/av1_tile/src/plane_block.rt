@@ -2,11 +2,10 @@
 //!
 //! AV1 specification: residual syntax, which goes over the planes of a block.
 
-ghost use Rattle.std.specs.Prelude.{◌≡◌, ◌<◌, ◌^◌, pos, ℤ, Option};
+ghost use Rattle.std.specs.Prelude.{◌≡◌, ◌<◌, ℤ, Option};
 ghost use Rattle.av1_blocks.specs.declared.predict.PredictionMode.{PredictionMode};
 ghost use Rattle.av1_intra.specs.declared.neighbours.IntraEdgeFilterParameters.{IntraEdgeFilterParameters};
 ghost use Rattle.av1_plan.specs.declared.leaf.LeafKind.TheVariants.{Intra};
-ghost use Rattle.av1_tile.specs.Canvas.{U, V};
 ghost use Rattle.av1_tile.specs.PlaneBlocks.{component, prediction_in, type_in};
 ghost use Rattle.av1_tile.specs.Walk.{leaf_with};
 ghost use Rattle.std.specs.Prelude.{[]};

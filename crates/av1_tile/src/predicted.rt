@@ -1,6 +1,6 @@
 //! What was predicted of a frame's samples, where a caller asks for it.
 
-ghost use Rattle.std.specs.Prelude.{◌≡◌, ◌+◌, ◌*◌, ◌<◌, ◌≤◌, length};
+ghost use Rattle.std.specs.Prelude.{◌≡◌, ◌+◌, ◌*◌, ◌<◌, length};
 ghost use Rattle.av1_frame.specs.Areas.{AreRows};
 ghost use Rattle.av1_frame.specs.Planes.{InPlane, sample_at};
 ghost use Rattle.av1_frame.specs.Samples.{paint};
@@ -45,7 +45,7 @@ impl<T> Model for PredictedPlane<T> {
 }
 
 impl<T: Pixel> PredictedPlane<T> {
-    ghost use Rattle.std.specs.Prelude.{◌≡◌, IfOk, [], ◌<◌, ◌≤◌};
+    ghost use Rattle.std.specs.Prelude.{◌≡◌, IfOk, [], ◌<◌};
     ghost use Rattle.av1_frame.specs.Planes.{InPlane};
     ghost use Rattle.av1_plan.specs.ReadPlans.{IsReadFrame};
     ghost use Rattle.av1_tile.specs.Predicted.{copied, no_rows, visible_in};

@@ -1,6 +1,6 @@
 //! The walk over the leaves of a plan.
 
-ghost use Rattle.std.specs.Prelude.{◌≡◌, ℕ, ◌<◌, All, length};
+ghost use Rattle.std.specs.Prelude.{◌≡◌, ◌<◌, All, length};
 ghost use Rattle.std.specs.List.{fold};
 ghost use Rattle.av1_plan.specs.Values.{leaves_value};
 ghost use Rattle.av1_plan.specs.Plan.{PlanValue};

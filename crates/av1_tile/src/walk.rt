@@ -1,9 +1,8 @@
 //! The walk: over the transform blocks of a leaf's block in a plane, and over the planes that a leaf covers.
 
-ghost use Rattle.std.specs.Prelude.{◌≡◌, ◌≢◌, ℕ, ◌+◌, ◌*◌, ◌/◌, ◌<◌, ◌≤◌, length, slice_index_or, [], All, IfSome, IfNone, Some, None, true};
+ghost use Rattle.std.specs.Prelude.{◌≡◌, ◌≢◌, ℕ, ◌+◌, ◌*◌, ◌<◌, ◌≤◌, length, slice_index_or, [], IfSome, IfNone, Some, None, true};
 ghost use Rattle.std.specs.List.{fold};
-ghost use Rattle.av1_blocks.specs.Blocks.{block_height};
-ghost use Rattle.av1_blocks.specs.Transforms.{tx_width, tx_height};
+ghost use Rattle.av1_blocks.specs.Transforms.{tx_width};
 ghost use Rattle.av1_frame.specs.Planes.{InPlane};
 ghost use Rattle.av1_intra.specs.ChromaFromLuma.{ac_at};
 ghost use Rattle.av1_plan.specs.Plan.{PlanValue};
@@ -15,8 +14,8 @@ ghost use Rattle.av1_tile.specs.Canvas.Component.{Y};
 ghost use Rattle.av1_tile.specs.PlaneBlocks.{block_told, component, is_whole, prediction_in};
 ghost use Rattle.av1_tile.specs.Predicted.{WalksKeeping, keeping_in, kept_in};
 ghost use Rattle.av1_tile.specs.Reference.{no_luma};
-ghost use Rattle.av1_tile.specs.Steps.{own_prediction, whole_steps, plane_steps, steps_at, steps_of, joined};
-ghost use Rattle.av1_tile.specs.Walk.{area_at, block_by, cell_at, Begins, edges_in, edges_after, fast_in, fast_step, leaf_with, BlockFits, HasCells, IsPlaceIn};
+ghost use Rattle.av1_tile.specs.Steps.{own_prediction, whole_steps, plane_steps, steps_at, joined};
+ghost use Rattle.av1_tile.specs.Walk.{area_at, block_by, cell_at, Begins, edges_in, fast_in, leaf_with, BlockFits, HasCells, IsPlaceIn};
 ghost use Rattle.av1_tile.specs.Walk.{block_in, HoldsPlane, IsWalked, KeepsPlane, PredictionFits, Stores, Walks, with_header};
 
 use crate::block::{BlockPlace, EdgePrediction, add_block, predict_from_edge};
@@ -88,6 +87,7 @@ fn predict_block<T: Pixel>(
     requires prediction { PredictionFits header.now block.now.plane block.now.area block.now.prediction }
     ensures walked { Walks T.num T.pixel header.now block.now buffers.old.luma.items (own_prediction block.now at.number (area_at block.now at)) plane.old
         plane.new }
+    ensures fits { InPlane (area_at block.now at) plane.new }
     ensures counted { buffers.new.edges.prepared ≡ fold edges_in buffers.old.edges.prepared (own_prediction block.now at.number (area_at block.now at)) }
     ensures luma { buffers.new.luma.items ≡ buffers.old.luma.items }
     ensures predictions { buffers.new.kept ≡ buffers.old.kept }
@@ -191,15 +191,7 @@ fn reconstruct_block<T: Pixel>(
 {
     predict_block(plane, buffers, header, block, at);
     keep_block(&mut buffers.kept, plane, block, at);
-    add_block(
-        plane,
-        buffers.coefficients.as_mut_slice(),
-        &mut buffers.scratch,
-        header,
-        block,
-        at,
-        triples,
-    );
+    add_block(plane, &mut buffers.residue, header, block, at, triples);
 }
 
 /// How many triples at the front are of transform block `number`.

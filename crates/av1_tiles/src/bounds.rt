@@ -1,6 +1,5 @@
 //! Where the columns and the rows of tiles begin.
 
-ghost use Rattle.std.specs.Prelude.{◌≡◌, OnOk};
 ghost use Rattle.av1_plan.specs.Format.{read_field, read, add};
 ghost use Rattle.av1_plan.specs.Reading.{Gives, input, Fits, Moves};
 ghost use Rattle.av1_tiles.specs.Grammar.{start_after, starts, bounds};

@@ -1,7 +1,7 @@
 //! Reading a grid of tiles from bytes.
 
 ghost use Rattle.std.specs.Prelude.{◌≡◌, ◌≤◌, ◌^◌, length, map, [], IfOk, vec_len, All};
-ghost use Rattle.av1_plan.specs.Format.{four, read_field, read, start, on_ok};
+ghost use Rattle.av1_plan.specs.Format.{four, read_field, read};
 ghost use Rattle.av1_plan.specs.Grammar.{where_};
 ghost use Rattle.av1_plan.specs.Reading.{Gives, input, Fits, Moves};
 ghost use Rattle.av1_tiles.specs.Bounds.{IsReadFile};

@@ -1,17 +1,13 @@
 //! The frame that the tiles of a grid come to.
 
-ghost use Rattle.std.specs.Prelude.{◌≡◌, ◌≢◌, ◌≤◌, ◌<◌, ℕ, OnOk, IfOk, IfErr};
-ghost use Rattle.av1_plan.specs.Plan.{PlanValue};
-ghost use Rattle.av1_plan.specs.ReadPlans.{IsReadFrame};
+ghost use Rattle.std.specs.Prelude.{◌≡◌, ◌≤◌, ◌<◌, IfOk, IfErr};
 ghost use Rattle.av1_tile.specs.Walk.{AreFrame, samples_of};
 ghost use Rattle.av1_tiles.specs.Bounds.{IsReadFile};
 ghost use Rattle.av1_tiles.specs.Errors.{tile_error};
-ghost use Rattle.av1_tiles.specs.File.{front_value, file_value};
+ghost use Rattle.av1_tiles.specs.File.{file_value};
 ghost use Rattle.av1_tiles.specs.Frames.{IsFrame, samples_in};
-ghost use Rattle.av1_tiles.specs.Grammar.{count_tiles};
-ghost use Rattle.av1_tiles.specs.Joined.{ComesTo, ShowsTile};
+ghost use Rattle.av1_tiles.specs.Joined.{ComesTo};
 ghost use Rattle.av1_tiles.specs.Refusals.{RefusesTiles};
-ghost use Rattle.av1_tiles.specs.Validity.{IsTile, RefusesTile};
 
 use crate::error::{TileError, TilesError};
 use crate::file::TileFile;

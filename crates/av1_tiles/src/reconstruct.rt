@@ -1,6 +1,6 @@
 //! From the bytes of a grid of tiles to the bytes of its planes.
 
-ghost use Rattle.std.specs.Prelude.{◌≡◌, ◌≢◌, ◌≤◌, Ok, IfOk, IfErr, OnOk, length};
+ghost use Rattle.std.specs.Prelude.{◌≢◌, ◌≤◌, Ok, IfOk, IfErr, OnOk, length};
 ghost use Rattle.std.specs.Io.KnownBytes.{Appends};
 ghost use Rattle.av1_streams.specs.Faults.{HasCause};
 ghost use Rattle.av1_streams.specs.Streams.{AppendsPrefix, max_plan_bytes};

@@ -3,7 +3,7 @@
 ghost use Rattle.std.specs.Prelude.{◌≡◌, ◌+◌, ◌*◌, ◌<◌, ◌≤◌, length, IfOk, IfErr, MatchResult, option_map, vec_len};
 ghost use Rattle.av1_plan.specs.declared.error.PlanError.TheVariants.{Memory};
 ghost use Rattle.av1_plan.specs.Values.{plan_value, IfMalformed};
-ghost use Rattle.av1_plan.specs.Plan.{PlanValue, planes_value, slot_value, slot_values};
+ghost use Rattle.av1_plan.specs.Plan.{PlanValue, slot_value, slot_values};
 ghost use Rattle.av1_plan.specs.ReadPlans.{ArePlane, IsReadFrame, IsStoredSlot, AreStoredSlots};
 ghost use Rattle.av1_plan.specs.Spelling.{AreText, AreRefused};
 ghost use Rattle.av1_tiles.specs.Bounds.{AreBounds, IsReadFront, IsReadFile};

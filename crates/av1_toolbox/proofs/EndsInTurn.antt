@@ -1,10 +1,10 @@
 -- What the exit status says of a sequence of frames, by what the call did.
-use Rattle.std.proofs.Common.{◌≡◌, ◌⊎◌, inl, inr, ℕ, List, Option, Ok, Err, refl, sym, subst}
+use Rattle.std.proofs.Common.{◌≡◌, inl, inr, ℕ, List, Option, Ok, Err, refl, sym, subst}
 use Rattle.std.specs.Prelude.{IfSome, IsOk}
 use Rattle.std.proofs.lemmas.Option.{IfSome_then}
 use Rattle.av1_sequence.specs.declared.error.SequenceError.{SequenceError}
 use Rattle.av1_sequence.specs.declared.error.SequenceError.TheVariants as errors
-use Rattle.av1_sequence.specs.Files.{Answer, HasOutcome}
+use Rattle.av1_sequence.specs.Files.{Answer}
 use Rattle.av1_sequence.specs.Tasks.{AnswersInTurn, ErrorAnswers, IsBeforeFrames, PerformsInTurn, cause_of}
 use Rattle.av1_streams.specs.Tasks.{Cause, read_failed, too_long, refused, write_failed, no_memory}
 use Rattle.av1_streams.proofs.Told.{any}

@@ -1,12 +1,12 @@
 //! The exit status and the line of each answer.
-ghost use Rattle.std.specs.Prelude.{◌≡◌, ◌≤◌, ◌++◌, length};
+ghost use Rattle.std.specs.Prelude.{◌≡◌};
 ghost use Rattle.av1_recon.specs.Answers.{HasLine};
 ghost use Rattle.av1_recon.specs.Ends.{answer_line as line_of, answer_status as status_of, written};
 ghost use Rattle.av1_sequence.specs.Tasks.{cause_of as sequence_cause};
 ghost use Rattle.av1_tiles.specs.Tasks.{cause_of as tiles_cause};
 ghost use Rattle.av1_trace.specs.Answers.{error_line as trace_line};
 ghost use Rattle.av1_trace.specs.Checking.{cause as trace_cause};
-ghost use Rattle.av1_toolbox.specs.Answers.{frame_fault_text, sequence_line, tiles_line, trace_done};
+ghost use Rattle.av1_toolbox.specs.Answers.{sequence_line, tiles_line, trace_done};
 
 use av1_recon::{
     PlanRefusal, Sink, malformed_line, plain_line, push_invalid, push_malformed, push_refusal, say,

@@ -1,8 +1,8 @@
 //! The samples of each leaf, given and defined.
 
-ghost use Rattle.std.specs.Prelude.{◌≡◌, ◌≢◌, ◌↔◌, ℕ, ◌+◌, ◌-◌, ◌*◌, ◌<◌, ◌≤◌, ◌++◌, ◌==◌, [], None, IfOk, IfNone, IfSome, OnOk, Some, length, map};
+ghost use Rattle.std.specs.Prelude.{◌≡◌, ◌≢◌, ◌↔◌, ℕ, ◌+◌, ◌-◌, ◌*◌, ◌<◌, ◌≤◌, ◌++◌, [], None, IfOk, IfNone, IfSome, OnOk, Some, length, map};
 ghost use Rattle.std.specs.Prelude.{slice_index};
-ghost use Rattle.av1_plan.specs.Values.{plan_value, stored_leaves, stored_triples};
+ghost use Rattle.av1_plan.specs.Values.{plan_value, stored_triples};
 ghost use Rattle.av1_plan.specs.Plan.{leaf_value};
 ghost use Rattle.av1_plan.specs.Validity.{first_fault};
 ghost use Rattle.av1_tile.specs.Output.{planes_of};

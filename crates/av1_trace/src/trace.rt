@@ -2,7 +2,6 @@
 ghost use Rattle.std.specs.Prelude.{◌≡◌, ◌≢◌, ◌<◌, ◌≤◌, ◌^◌, ℕ, List, IfOk, IfErr, length};
 ghost use Rattle.av1_plan.specs.Values.{plan_value};
 ghost use Rattle.av1_plan.specs.Plan.{PlanValue};
-ghost use Rattle.av1_plan.specs.Validity.{first_fault};
 ghost use Rattle.av1_streams.specs.Streams.{max_plan_bytes};
 ghost use Rattle.av1_streams.specs.Tasks.{WritesBytes};
 ghost use Rattle.av1_trace.specs.Checking.{Checks, ReadsTrace, cause};

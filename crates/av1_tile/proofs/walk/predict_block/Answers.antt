@@ -1,6 +1,8 @@
-use Rattle.std.proofs.Common.{rules, ◌≡◌, ◌∙◌, List, ℤ, ap, refl, to_z, of_z, w8, w16}
+use Rattle.std.proofs.Common.{rules, ◌≡◌, ◌∙◌, List, ℤ, ap, refl, subst, sym, to_z, of_z, w8, w16}
 use Rattle.std.specs.List.{fold}
 use Rattle.av1_blocks.specs.Transforms.{tx_width}
+use Rattle.av1_frame.specs.Planes.{InPlane}
+use Rattle.av1_frame.proofs.Planes.{painted_plane_fits}
 use Rattle.av1_intra.specs.ChromaFromLuma.{ac_at}
 use Rattle.av1_tile.specs.Steps.{own_prediction}
 use Rattle.av1_tile.specs.Walk.{area_at, fast_in, with_header}
@@ -29,3 +31,13 @@ returns-in-FromLuma-clause-walked g c = λ value.
     c.in-FromLuma.alpha (to_z w16 (of_z w16 c.from.result)) c.in-FromLuma.is weight c.predict_from_edge-in-FromLuma.ensures.painted
     ∙ ap (λ (ac : List ℤ). fold (fast_in g.T.Pixel.num g.T.Pixel.pixel (with_header a.header.now value) b.plane (λ _. ac_at (tx_width b.area.tx_size) ac))
     a.plane.now (own_prediction b a.at.number (area_at b a.at))) same
+
+pub returns-in-Intra-clause-fits : goal.returns-in-Intra-clause-fits
+returns-in-Intra-clause-fits g c =
+    let area = area_at c.args.block.now c.args.at in
+    subst (InPlane area) (sym c.predict_from_edge.ensures.painted) (painted_plane_fits c.args.plane.now area _ area c.requires.fits)
+
+pub returns-in-FromLuma-clause-fits : goal.returns-in-FromLuma-clause-fits
+returns-in-FromLuma-clause-fits g c =
+    let area = area_at c.args.block.now c.args.at in
+    subst (InPlane area) (sym c.predict_from_edge-in-FromLuma.ensures.painted) (painted_plane_fits c.args.plane.now area _ area c.requires.fits)

@@ -7,7 +7,7 @@ use Rattle.av1_tile.specs.declared.predicted.PredictedPlanes.{PredictedPlanes}
 use Rattle.av1_tile.specs.Predicted.{kept_in}
 use Rattle.av1_tile.specs.Steps.{own_prediction}
 use Rattle.av1_tile.specs.Walk.{area_at, with_header}
-use Rattle.av1_tile.proofs.BlockSteps.{after_layout, after_stores, between_inside, between_stores, block_counted, block_inside, block_walked}
+use Rattle.av1_tile.proofs.BlockSteps.{after_layout, after_stores, between_stores, block_counted, block_inside, block_walked}
 use Rattle.av1_tile.proofs.Keeping.{block_kept}
 use Rattle.av1_tile.proofs.walk.reconstruct_block.Goals as goal
 
@@ -16,16 +16,6 @@ predict_block-requires-clause-fits g c =
     let a = c.args in
     block_inside a.header.now a.block.now a.at a.triples.now a.plane.now c.requires.held.stores.place c.requires.fits c.requires.found
 
-pub keep_block-requires : goal.keep_block-requires
-keep_block-requires g c =
-    let a = c.args in
-    let inside = block_inside a.header.now a.block.now a.at a.triples.now a.plane.now c.requires.held.stores.place c.requires.fits c.requires.found in
-    record {
-      fits = between_inside g.T.Pixel.num g.T.Pixel.pixel g.met.T.Pixel.num_of_pixel g.met.T.Pixel.pixel_of_num a.header.now a.block.now a.at
-          c.requires.place a.buffers.now.luma.items a.plane.now c.predict_block.new.plane c.predict_block.ensures.walked
-          c.requires.held.stores (least_depth _ c.requires.held.frame.depth) inside;
-    }
-
 pub add_block-requires-clause-stores : goal.add_block-requires-clause-stores
 add_block-requires-clause-stores g c =
     let a = c.args in
@@ -33,20 +23,12 @@ add_block-requires-clause-stores g c =
     a.buffers.now.luma.items a.plane.now c.predict_block.new.plane c.predict_block.ensures.walked
     c.requires.held.stores (least_depth _ c.requires.held.frame.depth)
 
-pub add_block-requires-clause-fits : goal.add_block-requires-clause-fits
-add_block-requires-clause-fits g c =
-    let a = c.args in
-    let inside = block_inside a.header.now a.block.now a.at a.triples.now a.plane.now c.requires.held.stores.place c.requires.fits c.requires.found in
-    between_inside g.T.Pixel.num g.T.Pixel.pixel g.met.T.Pixel.num_of_pixel g.met.T.Pixel.pixel_of_num a.header.now a.block.now a.at c.requires.place
-    a.buffers.now.luma.items a.plane.now c.predict_block.new.plane c.predict_block.ensures.walked
-    c.requires.held.stores (least_depth _ c.requires.held.frame.depth) inside
-
 pub returns-clause-walked : goal.returns-clause-walked
 returns-clause-walked g c =
     let a = c.args in
     block_walked g.T.Pixel.num g.T.Pixel.pixel g.met.T.Pixel.num_of_pixel g.met.T.Pixel.pixel_of_num a.header.now a.block.now a.at c.requires.place
     a.buffers.now.luma.items a.plane.now c.predict_block.new.plane c.predict_block.ensures.walked
-    a.triples.now c.add_block.new.plane c.add_block.ensures c.requires.found
+    a.triples.now c.add_block.new.plane c.add_block.ensures.painted c.requires.found
 
 pub returns-clause-counted : goal.returns-clause-counted
 returns-clause-counted g c =
@@ -60,10 +42,10 @@ returns-clause-kept g c =
     record {
       stores = after_stores g.T.Pixel.num g.T.Pixel.pixel g.met.T.Pixel.num_of_pixel g.met.T.Pixel.pixel_of_num a.header.now a.block.now a.at c.requires.place
           a.buffers.now.luma.items a.plane.now c.predict_block.new.plane c.predict_block.ensures.walked
-          a.triples.now c.add_block.new.plane c.add_block.ensures c.requires.held.stores (least_depth _ c.requires.held.frame.depth);
+          a.triples.now c.add_block.new.plane c.add_block.ensures.painted c.requires.held.stores (least_depth _ c.requires.held.frame.depth);
       config = after_layout g.T.Pixel.num g.T.Pixel.pixel g.met.T.Pixel.num_of_pixel g.met.T.Pixel.pixel_of_num a.header.now a.block.now a.at c.requires.place
           a.buffers.now.luma.items a.plane.now c.predict_block.new.plane c.predict_block.ensures.walked
-          a.triples.now c.add_block.new.plane c.add_block.ensures;
+          a.triples.now c.add_block.new.plane c.add_block.ensures.painted;
     }
 
 pub returns-clause-predictions : goal.returns-clause-predictions
@@ -74,4 +56,4 @@ returns-clause-predictions g c = λ value.
     fold (kept_in g.T.Pixel.num g.T.Pixel.pixel block.plane c.predict_block.new.plane) k (own_prediction block a.at.number (area_at block a.at)) in
     block_kept g.T.Pixel.num g.T.Pixel.pixel (with_header a.header.now value) (λ _. ac_at (tx_width block.area.tx_size) a.buffers.now.luma.items)
     a.header.now block a.at a.triples.now a.plane.now c.predict_block.new.plane c.add_block.new.plane a.buffers.now.kept c.keep_block.new.kept
-    c.requires.found (c.predict_block.ensures.walked value) (c.keep_block.ensures ∙ ap keep c.predict_block.ensures.predictions) c.add_block.ensures
+    c.requires.found (c.predict_block.ensures.walked value) (c.keep_block.ensures ∙ ap keep c.predict_block.ensures.predictions) c.add_block.ensures.painted

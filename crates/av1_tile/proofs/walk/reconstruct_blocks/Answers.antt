@@ -6,8 +6,7 @@ use Rattle.av1_intra.specs.ChromaFromLuma.{ac_at}
 use Rattle.av1_plan.specs.Plan.{PlanValue}
 use Rattle.av1_plan.specs.Geometry.{block_count, transform_block}
 use Rattle.av1_tile.specs.declared.plane_block.PlaneBlock.{PlaneBlock}
-use Rattle.av1_tile.specs.declared.predicted.PredictedPlanes.{PredictedPlanes}
-use Rattle.av1_tile.specs.Predicted.{Keeping, keeping_in}
+use Rattle.av1_tile.specs.Predicted.{keeping_in}
 use Rattle.av1_tile.specs.Steps.{joined, steps_at}
 use Rattle.av1_tile.specs.Walk.{Stores, edges_in, fast_in, with_header}
 use Rattle.av1_tile.proofs.BlockTriples.{IsRun, run_within, run_before, run_behind, run_is_own, own_edges, own_fits, own_kept, own_steps}

@@ -1,4 +1,4 @@
-use Rattle.std.proofs.Common.{◌≡◌, ◌+◌, ◌*◌, ◌≤◌, length, List, ℕ, ◌-◌, min, ap, ◌∙◌, sym, refl, subst, arith, inl, inr, ◌⊎◌, take, drop, ◌++◌}
+use Rattle.std.proofs.Common.{◌≡◌, ◌+◌, ◌*◌, ◌≤◌, length, List, ℕ, ◌-◌, min, ap, ◌∙◌, sym, subst, arith, inl, inr, ◌⊎◌, take, drop, ◌++◌}
 use Rattle.std.proofs.Math.Seq.{take-append_seam}
 use Rattle.av1_frame.specs.declared.plane_region.StoredArea.{StoredArea}
 use Rattle.av1_frame.specs.Planes.{sample_at}
