@@ -6,8 +6,9 @@
 //!
 //! - `has_top_right` and `has_bottom_left` give rav1e's answers from its tables (`specs/Availability.antt`), for every
 //!   size and argument. For every block with sides up to 64, squares, 2:1 and 4:1, in planes that are halved or not,
-//!   and any of the equal transforms that tile it, the answer is yes exactly where each sample of the run past the
-//!   transform comes before it in coding order (`specs/Order.antt`, `specs/Agreement.antt`).
+//!   and any of the equal transforms that tile it, where both sides are said to be available the answer is yes exactly
+//!   where each sample of the run past the transform comes before it in coding order (`specs/Order.antt`,
+//!   `specs/Agreement.antt`).
 //! - `has_tr` and `has_bl` give the answers from the bits of a block's place (`specs/Bits.antt`). For squares and 2:1
 //!   sizes up to 64 they are those of coding order, and those of the tables for a transform as large as the block.
 //! - the tables are the lists of `specs/Tables.antt`, those of the 4:1 sizes follow from those of the squares, and the

@@ -25,7 +25,7 @@
 //! `specs/IntraPlanes.antt`), or the place (`specs/MotionPlaces.antt`), or each difference of luma
 //! (`specs/LumaBlocks.antt`), or the numbers (`specs/CflPads.antt`, `specs/AngleSteps.antt`,
 //! `specs/SmoothNeighbours.antt`). Good arguments give [`DONE`]. Each other status names the first argument that is at
-//! fault, and leaves everything as it was.
+//! fault, and leaves what was to be written as it was; what it works in may have changed.
 #![tactic(auto)]
 
 mod angle_step;

@@ -4,8 +4,8 @@
 //! The crate stands on the standard library and on `av1_lists`. It promises to the two-dimensional transforms above it:
 //!
 //! - `av1_idct4` to `av1_idct64` give `cosine` of `specs/Cosine.antt` for their length, and leave the rest of `output`
-//!   as it was. `cosine_words` is the one function behind them, for every length and every `Word`: an `i32`, or eight
-//!   of them side by side. Only `av1_idct8` has a way of its own, whose sums go four at a time.
+//!   as it was. `cosine_words` is the one function behind them, for every length and every `Word`: an `i32`, or four
+//!   or eight of them side by side. Only `av1_idct8` has a way of its own, whose sums go four at a time.
 //! - `cosine_lanes` runs eight transforms at a time over `i32x8`, with `cosine` in each lane, and counts them in a
 //!   `LaneCount`, which no other call raises. Where the range is 16 it cuts the words to lanes of 16 bits, and widens
 //!   what comes out.

@@ -32,6 +32,15 @@ paint_row_step c g s t x v a h e r =
     let y : x ≡ get_or s c x = e ∙ ap (λ u. get_or u c x) a ∙ (get_or-update _ s c x h ∙ grind (arith, nat_tests)) in
     ap (λ u. set u c v) a ∙ paint_row_more c g s v h (r ∙ ap (g c) (y ∙ get_or_default s c x v h))
 
+-- two changes that agree on the first w samples of a row
+pub paint_row_same : {X : Type 0} (w : ℕ) (f g : ℕ → X → X) (s : List X) → ((c : ℕ) (v : X) → c < w → f c v ≡ g c v) → paint_row w f s ≡ paint_row w g s
+unfolding paint_row
+paint_row_same w f g s e =
+    update_is _ s _ (length-update _ s) (λ k d l. get_or-update _ s k d l ∙ elim (cases_lt k w) [
+      | inl b ↦ (let t = e k (get_or s k d) b in grind (arith, nat_tests))
+      | inr b ↦ grind (arith, nat_tests)
+    ])
+
 -- a loop that writes a row sample by sample
 pub ruleset row_painting = (paint_row_none, paint_row_more)
 

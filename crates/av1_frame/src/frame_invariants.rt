@@ -1,6 +1,6 @@
 //! What is the same for all blocks of a frame.
 
-ghost use Rattle.std.specs.Prelude.{◌≡◌, ◌/◌, ◌%◌, ◌<◌, ◌≤◌, IfOk, All, None, Some, slice_set, slice_index_or, replicate};
+ghost use Rattle.std.specs.Prelude.{◌≡◌, ◌/◌, ◌%◌, ◌<◌, ◌≤◌, IfOk, All, None, Some, slice_set, slice_index_or};
 ghost use Rattle.std.specs.Option.{option_map};
 ghost use Rattle.av1_frame.specs.Frames.{new_frame, slot_plane};
 

@@ -1,6 +1,6 @@
 //! The planes of earlier frames.
 
-ghost use Rattle.std.specs.Prelude.{◌≡◌, ◌<◌, ◌≤◌, IfOk, None, Some, length, slice_set, slice_index_or, replicate};
+ghost use Rattle.std.specs.Prelude.{◌≡◌, ◌<◌, IfOk, None, Some, length, slice_set, slice_index_or, replicate};
 ghost use Rattle.std.specs.Option.{option_map};
 ghost use Rattle.av1_frame.specs.Frames.{plane_of};
 

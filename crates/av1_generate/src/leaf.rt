@@ -19,7 +19,6 @@ fn chroma_modes(size: BlockSize) -> u16
 
 impl Maker {
     ghost use Rattle.std.specs.Prelude.{◌≡◌, ◌<◌, OnOk};
-    ghost use Rattle.av1_generate.specs.Draft.{only_if};
     ghost use Rattle.av1_generate.specs.Generator.{step, weight, chroma_step, chroma_mode, intra, component, motion, single, compound, kind};
     ghost use Rattle.av1_generate.specs.Making.{work, run};
 

@@ -9,7 +9,8 @@ use Rattle.av1_frame.specs.Arithmetic.{clip}
 use Rattle.av1_frame.specs.Samples.{paint_row}
 use Rattle.av1_blocks.specs.Depths.{IsDepth}
 use Rattle.av1_inter.specs.Motion.{averaged, bias, intermediate_bits}
-use Rattle.av1_inter.proofs.Rows.{painted_sample, paint_row_same}
+use Rattle.av1_inter.proofs.Rows.{painted_sample}
+use Rattle.av1_frame.proofs.Paint.{paint_row_same}
 
 -- what holding a number in 16 bits does to it
 abbrev IsHeld : (z s : ℤ) → Type 0

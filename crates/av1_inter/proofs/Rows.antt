@@ -11,18 +11,9 @@ use Rattle.av1_frame.specs.declared.plane_region.StoredArea.{StoredArea}
 use Rattle.av1_frame.specs.Samples.{paint, paint_row, painted_at}
 use Rattle.av1_frame.specs.Slices.{stored_column, IsStoredPlace}
 use Rattle.av1_frame.proofs.Fits.{row_end_le}
-use Rattle.av1_frame.proofs.Paint.{paint_at}
+use Rattle.av1_frame.proofs.Paint.{paint_at, paint_row_same}
 use Rattle.av1_frame.proofs.Update.{update_is, length-update, get_or-update}
 use Rattle.av1_inter.specs.Places.{IsStoredFrom}
-
--- two changes that agree on the first w samples of a row
-pub paint_row_same : {X : Type 0} (w : ℕ) (f g : ℕ → X → X) (s : List X) → ((c : ℕ) (v : X) → c < w → f c v ≡ g c v) → paint_row w f s ≡ paint_row w g s
-unfolding paint_row
-paint_row_same w f g s e =
-    update_is _ s _ (length-update _ s) (λ k d l. get_or-update _ s k d l ∙ elim (cases_lt k w) [
-      | inl b ↦ (let t = e k (get_or s k d) b in grind (arith, nat_tests))
-      | inr b ↦ grind (arith, nat_tests)
-    ])
 
 -- a sample that was painted, where what it becomes hangs on no other
 pub painted_sample : {X : Type 0} (w k : ℕ) (f : ℕ → X → X) (s : List X) (d : X) → k < w → w ≤ length s → ((v : X) → f k v ≡ f k d) →

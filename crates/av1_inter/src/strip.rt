@@ -1,6 +1,6 @@
 //! Rectangles that are filtered, and filters that are laid on them.
 
-ghost use Rattle.std.specs.Prelude.{◌≡◌, false, ℕ, ◌+◌, ◌*◌, ◌^◌, ◌≤◌, ◌<◌, drop, length, map, slice_index};
+ghost use Rattle.std.specs.Prelude.{◌≡◌, false, ℕ, ◌+◌, ◌*◌, ◌^◌, ◌≤◌, ◌<◌, drop};
 ghost use Rattle.av1_inter.specs.Places.{AreWithinDepth, IsStoredFrom, samples_from};
 ghost use Rattle.av1_blocks.specs.Depths.{IsDepth};
 ghost use Rattle.av1_inter.specs.Scaffolding.{IsBlock, IsPartWidth, IsStripWidth, part_of, sample_of};

@@ -7,10 +7,9 @@
 //! AV1 specification: block inter prediction process.
 
 ghost use Rattle.std.specs.Prelude.{◌≡◌, ◌+◌, ◌≤◌, ◌<◌, length};
-ghost use Rattle.av1_blocks.specs.Depths.{IsDepth};
 ghost use Rattle.av1_frame.specs.Areas.{AreRows};
 ghost use Rattle.av1_frame.specs.Samples.{paint};
-ghost use Rattle.av1_inter.specs.Scaffolding.{AreFilters, IsBlock, IsPartWidth, strip_of, twice_filtered};
+ghost use Rattle.av1_inter.specs.Scaffolding.{AreFilters, IsBlock, IsPartWidth, twice_filtered};
 
 use crate::one_filter::filter_strip;
 use crate::rounding::between_filters;

@@ -12,8 +12,9 @@
 //!   rectangle, whose rows stand a stride apart, `samples.new ≡ paint stride area f samples.old`.
 //!   `dispatch_predict_intra_to` does so by the mode, from the sides of a block, and `dispatch_predict_intra` lends it
 //!   the samples of its region. DC prediction is `fill_block` by `mean_of` two sides, or by `half_sample` without.
-//! - `leaf_luma_ac` and `pred_cfl_ac` put into a slice, row by row, how far the luma over each sample of chroma is from
-//!   its mean, and leave the rest of the slice (`specs/ChromaFromLuma.antt`).
+//! - `leaf_luma_ac`, `luma_ac`, which is the same in a tile and lends what it put, and `pred_cfl_ac` put into a slice,
+//!   row by row, how far the luma over each sample of chroma is from its mean, and leave the rest of the slice
+//!   (`specs/ChromaFromLuma.antt`).
 //! - `filter_edge` and `upsample_edge` prepare a side in a slice, entry by entry, and leave the rest of the slice.
 //! - `select_ief_strength`, `select_ief_upsample` and `dr_intra_derivative` are their tables, and
 //!   `IntraEdgeFilterParameters` tells whether a neighbour has a smooth mode.

@@ -26,9 +26,9 @@
 //!
 //! A block is one of `TxSize`'s, `w` columns by `h` rows of samples. Its coefficients stand column by column, at most
 //! 32 of each column and 32 columns: that of row r and column c at `c * min(h, 32) + r`. Those past the end of the list
-//! that a call is given are 0. `bd` is the depth of the
-//! samples in bits, and `range` the number of bits that values within a transform are clamped to. At a depth of 12 sums
-//! of the rows can leave 32 bits; they wrap there, as in rav1e, and the definitions say so.
+//! that a call is given are 0. `bd` is the depth of the samples in bits, and `range` the number of bits that values
+//! within a transform are clamped to. At a depth of 12 sums of the rows can leave 32 bits; they wrap there, as in
+//! rav1e, and the definitions say so.
 #![tactic(auto)]
 
 mod adst;

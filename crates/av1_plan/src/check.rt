@@ -1,6 +1,6 @@
 //! Which plans are valid.
 
-ghost use Rattle.std.specs.Prelude.{◌≡◌, ◌+◌, ◌<◌, ◌≤◌, length, map, OnOk, IfErr, IfSome, true, Some, None, slice_get, ◌&&◌, not, pos, neg_ℤ, int_lt, ◌≤ℤ◌};
+ghost use Rattle.std.specs.Prelude.{◌≡◌, ◌+◌, ◌<◌, ◌≤◌, OnOk, IfErr, IfSome, true, Some, None, slice_get, ◌&&◌, not, pos, neg_ℤ, int_lt, ◌≤ℤ◌};
 ghost use Rattle.av1_plan.specs.Values.{leaf_list, leaves_value, plan_value, triple_list};
 ghost use Rattle.av1_plan.specs.Geometry.{has_block};
 ghost use Rattle.av1_plan.specs.Plan.{leaf_value};

@@ -1,6 +1,6 @@
 //! Reading the leaves of a plan, node by node.
 
-ghost use Rattle.std.specs.Prelude.{◌≡◌, ◌*◌, ◌≤◌, ◌^◌};
+ghost use Rattle.std.specs.Prelude.{◌≡◌, ◌*◌, ◌≤◌};
 ghost use Rattle.av1_plan.specs.Grammar.{half_side, quarter_side, whole_size, part_size, cut_by};
 
 use crate::error::PlanError;
@@ -21,10 +21,10 @@ pub struct Parser<'a> {
 }
 
 impl<'a> Parser<'a> {
-    ghost use Rattle.std.specs.Prelude.{◌≡◌, ◌+◌, ◌*◌, ◌<◌, ◌≤◌, ◌^◌, ◌-◌, length, IfOk, OnOk, []};
+    ghost use Rattle.std.specs.Prelude.{◌≡◌, ◌+◌, ◌*◌, ◌<◌, ◌≤◌, ◌-◌, IfOk, OnOk, []};
     ghost use Rattle.av1_blocks.specs.declared.partition.PartitionType.TheVariants.{PARTITION_SPLIT};
     ghost use Rattle.av1_plan.specs.Values.{leaves_value};
-    ghost use Rattle.av1_plan.specs.Format.{add, ended, lone, read};
+    ghost use Rattle.av1_plan.specs.Format.{add, ended, read};
     ghost use Rattle.av1_plan.specs.Grammar.{leaf_part, wide_stripes, tall_stripes, block, parts, superblock_row, superblocks};
     ghost use Rattle.av1_plan.specs.Reading.{Gives, Fits, input};
     ghost use Rattle.av1_plan.specs.Parsing.{state, IsSound};

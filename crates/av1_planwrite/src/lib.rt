@@ -16,10 +16,10 @@
 //! plan. Without its coefficients a plan is a plan, and a valid one where it was valid. `bare_plan` keeps what all
 //! calls keep that read a plan and write of it (`Converts` of `av1_recon`).
 //!
-//! Of a builder: a call is refused exactly where the grammar asks for another field, or an argument isn't admitted
-//! there, or the bytes would be too many; at `Ok` it appends exactly its own fields, and a refusal changes nothing. The
-//! bytes are always those of a proper list of the grammar, and those of a builder that is done are the text of the plan
-//! whose header, references and leaves were given (`specs/Building.antt`).
+//! Of a builder: unless memory runs out, a call is refused exactly where the grammar asks for another field, or an
+//! argument isn't admitted there, or the bytes would be too many; at `Ok` it appends exactly its own fields, and a
+//! refusal changes nothing. The bytes are always those of a proper list of the grammar, and those of a builder that is
+//! done are the text of the plan whose header, references and leaves were given (`specs/Building.antt`).
 #![tactic(auto)]
 
 mod admitted;

@@ -11,8 +11,9 @@
 //!   halved, so that motion compensation serves areas with sides up to 64 samples of luma (`proofs/Served.antt`).
 //! - `predict_single` and `predict_compound` turn each sample of a leaf's area into `single_motion` or
 //!   `compound_motion` of the plan, which speak of the plan's own samples and know of no pads, and leave all others.
-//!   They ask of the frame only that each reference names a slot with the plan's planes (`ServesPlan`): a frame that
-//!   keeps planes for later plans, in slots of its own choice, serves as well.
+//!   They ask of the frame that it has the plan's depth and filter, and that each reference names a slot with the
+//!   plan's planes (`ServesPlan`): a frame that keeps planes for later plans, in slots of its own choice, serves as
+//!   well.
 //! - `motion_lies_within_depth`: each such sample lies within the depth.
 //!
 //! Only `frame_invariants` allocates, and nothing else can fail. Columns, rows and sides are counted in samples of the

@@ -1,10 +1,10 @@
 -- A transform block whose steps are taken: where it lies, and what its steps leave.
-use Rattle.std.proofs.Common.{ℕ, zero, suc, ◌+◌, ◌*◌, ◌<◌, ◌≤◌, ◌≡◌, Bool, true, false, if◌then◌else◌, List, [], ◌∷◌, Option, Some, None, refl, ap, arith, ◌∙◌}
+use Rattle.std.proofs.Common.{ℕ, zero, suc, ◌*◌, ◌<◌, ◌≤◌, ◌≡◌, Bool, true, false, if◌then◌else◌, List, [], ◌∷◌, Option, Some, None, refl, ap, arith, ◌∙◌}
 use Rattle.std.proofs.Common.{sym, subst, ℤ}
 use Rattle.std.specs.List.{fold}
 use Rattle.std.proofs.lemmas.Grind.{fold-append}
 use Rattle.av1_blocks.proofs.Sides.{tx_width_range, tx_height_range}
-use Rattle.av1_blocks.specs.Transforms.{tx_width, tx_height}
+use Rattle.av1_blocks.specs.Transforms.{tx_width}
 use Rattle.av1_lists.specs.Counts.{counted}
 use Rattle.av1_frame.specs.declared.frame_invariants.FrameInvariants.{FrameInvariants}
 use Rattle.av1_frame.specs.declared.plane.Plane.{Plane}

@@ -11,11 +11,11 @@
 //!
 //! Promised: the outcome of bytes is one definition, `HasOutcome` (`specs/Outcomes.antt`), and each answer of
 //! [`reconstruct_tiles`] is read off it: Ok only where the bytes are a grid of valid tiles, and then exactly the bytes
-//! of the joined planes were appended; a refusal exactly where it is the outcome of the bytes, of the container before
-//! its tiles and of the first faulty tile before the others. [`read_tiles`] gives the grid that bytes are, or names the
-//! first field at fault; [`read_tile`] gives a tile's valid plan, or why there is none; [`place_tile`] writes a tile's
-//! planes into the tile's rectangle of each plane, and nothing else. The planes of the frame and the memory that tiles
-//! are reconstructed in are taken once.
+//! of the joined planes were appended; a refusal only where it is the outcome of the bytes, of the container before its
+//! tiles and of the first faulty tile before the others, and always there unless a read failed or memory ran out.
+//! [`read_tiles`] gives the grid that bytes are, or names the first field at fault; [`read_tile`] gives a tile's valid
+//! plan, or why there is none; [`place_tile`] writes a tile's planes into the tile's rectangle of each plane, and
+//! nothing else. The planes of the frame and the memory that tiles are reconstructed in are taken once.
 #![tactic(auto)]
 
 mod area;

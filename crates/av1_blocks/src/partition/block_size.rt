@@ -1,7 +1,7 @@
 //! The sides of blocks, their order and their names.
 #![tactic(auto)]
 
-ghost use Rattle.std.specs.Prelude.{◌≡◌, ◌≢◌, ◌↔◌, ◌⊎◌, ◌*◌, ◌/◌, ◌-◌, ◌^◌, ◌≤◌, max, nat_le, ◌&&◌, length, slice_get, IfOk, Some, None, Ok};
+ghost use Rattle.std.specs.Prelude.{◌≡◌, ◌≢◌, ◌↔◌, ◌⊎◌, ◌*◌, ◌/◌, ◌-◌, ◌^◌, ◌≤◌, max, length, slice_get, IfOk, Some, None, Ok};
 ghost use Rattle.std.specs.declared.cmp.Ordering.TheVariants.{Less, Equal, Greater};
 ghost use Rattle.av1_blocks.specs.Blocks.{
   block_number,

@@ -8,7 +8,7 @@ use crate::reader::Reader;
 use av1_blocks::{BlockSize, MotionVector, PredictionMode, RefType, TxSize, TxType};
 
 impl<'a> Reader<'a> {
-    ghost use Rattle.std.specs.Prelude.{◌≡◌, ◌+◌, ◌<◌, ◌≤◌, ◌^◌, length, IfOk, OnOk, sum, ◌∷◌, []};
+    ghost use Rattle.std.specs.Prelude.{◌≡◌, ◌+◌, ◌<◌, ◌≤◌, length, IfOk, OnOk, sum, ◌∷◌, []};
     ghost use Rattle.av1_plan.specs.Format.{read, lone, in_turn, add};
     ghost use Rattle.av1_plan.specs.Grammar.{
       vector,

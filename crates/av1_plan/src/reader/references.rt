@@ -41,7 +41,7 @@ fn widen(bytes: &[u8], wide: &mut [u16])
 }
 
 impl<'a> Reader<'a> {
-    ghost use Rattle.std.specs.Prelude.{◌≡◌, ◌+◌, ◌*◌, ◌≤◌, ◌<◌, ◌^◌, length, IfOk, vec_len, is_some};
+    ghost use Rattle.std.specs.Prelude.{◌≡◌, ◌+◌, ◌*◌, ◌≤◌, ◌<◌, length, IfOk, vec_len, is_some};
     ghost use Rattle.av1_plan.specs.Format.{read_field, read};
     ghost use Rattle.av1_plan.specs.Grammar.{sample, plane, reference, slot_planes, references};
     ghost use Rattle.av1_plan.specs.Plan.{planes_value, slot_value, slot_values, ArePresent};

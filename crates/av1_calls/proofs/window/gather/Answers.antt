@@ -1,8 +1,7 @@
 use Rattle.std.proofs.Common.{ℤ, ◌∙◌, ◌+◌, ◌*◌, ◌+ℤ◌, pos, ap, get_or, to_z, of_z, w64}
 use Rattle.std.proofs.lemmas.List.{get_or-drop}
 use Rattle.av1_frame.specs.Slices.{nearest_visible}
-use Rattle.av1_frame.proofs.Paint.{row_painted_rest}
-use Rattle.av1_inter.proofs.Rows.{paint_row_same}
+use Rattle.av1_frame.proofs.Paint.{row_painted_rest, paint_row_same}
 use Rattle.av1_calls.proofs.window.gather.Goals as goal
 
 pub loop-r-preserved : goal.loop-r-preserved

@@ -1,4 +1,4 @@
-use Rattle.std.proofs.Common.{◌+◌, ◌≤◌, ◌⊎◌, inl, inr, arith, rules}
+use Rattle.std.proofs.Common.{◌+◌, ◌≤◌, inl, inr, arith, rules}
 use Rattle.av1_frame.proofs.Update.{part_before, part_behind}
 use Rattle.av1_frame.proofs.storage.copy_apart_in.Goals as goal
 

@@ -1,7 +1,6 @@
 use Rattle.std.proofs.Common.{ℕ, arith, ◌+◌, ◌*◌, ◌∙◌}
-use Rattle.av1_frame.proofs.Paint.{row_painted_rest}
+use Rattle.av1_frame.proofs.Paint.{row_painted_rest, paint_row_same}
 use Rattle.av1_inter.specs.Scaffolding.{sample_of}
-use Rattle.av1_inter.proofs.Rows.{paint_row_same}
 use Rattle.av1_inter.proofs.Strips.{copied_there}
 use Rattle.av1_inter.proofs.copies.copy_any_rows.Goals as goal
 

@@ -1,8 +1,7 @@
 use Rattle.std.proofs.Common.{ℕ, arith, ap, sym, ◌+◌, ◌*◌, ◌∙◌}
 use Rattle.av1_frame.specs.Samples.{paint_row}
-use Rattle.av1_frame.proofs.Paint.{row_painted_rest}
+use Rattle.av1_frame.proofs.Paint.{row_painted_rest, paint_row_same}
 use Rattle.av1_inter.specs.Scaffolding.{sample_of}
-use Rattle.av1_inter.proofs.Rows.{paint_row_same}
 use Rattle.av1_inter.proofs.Strips.{copied_there}
 use Rattle.av1_inter.proofs.copies.copy_rows.Goals as goal
 

@@ -1,10 +1,9 @@
 use Rattle.std.proofs.Common.{ℕ, arith, ap, pos, subst, sym, length, ◌<◌, ◌≤◌, ◌+◌, ◌*◌, ◌^◌, ◌∙◌, ◌-ℤ◌}
 use Rattle.std.proofs.lemmas.List.{get_or_default}
 use Rattle.av1_frame.specs.Samples.{paint_row}
-use Rattle.av1_frame.proofs.Paint.{row_painted_rest}
+use Rattle.av1_frame.proofs.Paint.{row_painted_rest, paint_row_same}
 use Rattle.av1_inter.specs.Motion.{bias, intermediate_bits}
 use Rattle.av1_inter.specs.Scaffolding.{sample_of}
-use Rattle.av1_inter.proofs.Rows.{paint_row_same}
 use Rattle.av1_inter.proofs.Strips.{part_sample}
 use Rattle.av1_inter.proofs.copies.widen_rows.Goals as goal
 

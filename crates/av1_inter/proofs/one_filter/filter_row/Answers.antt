@@ -1,8 +1,7 @@
 use Rattle.std.proofs.Common.{ap, sym, ◌∙◌}
 use Rattle.av1_frame.specs.Samples.{paint_row}
-use Rattle.av1_frame.proofs.Paint.{row_painted_rest}
+use Rattle.av1_frame.proofs.Paint.{row_painted_rest, paint_row_same}
 use Rattle.av1_inter.specs.Scaffolding.{filtered}
-use Rattle.av1_inter.proofs.Rows.{paint_row_same}
 use Rattle.av1_inter.proofs.one_filter.filter_row.Goals as goal
 
 pub returns : goal.returns

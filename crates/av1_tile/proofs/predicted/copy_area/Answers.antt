@@ -1,7 +1,6 @@
 use Rattle.std.proofs.Common.{◌+◌, ap, ◌∙◌, get_or, List}
 use Rattle.av1_frame.specs.Planes.{sample_at}
-use Rattle.av1_frame.proofs.Paint.{row_painted_rest}
-use Rattle.av1_inter.proofs.Rows.{paint_row_same}
+use Rattle.av1_frame.proofs.Paint.{paint_row_same, row_painted_rest}
 use Rattle.av1_tile.proofs.Keeping.{row_inside, run_sample}
 use Rattle.av1_tile.proofs.predicted.copy_area.Goals as goal
 
