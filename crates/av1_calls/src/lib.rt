@@ -43,6 +43,7 @@ mod prep_8tap;
 mod prep_moved;
 mod put_8tap;
 mod put_moved;
+mod rows;
 mod samples;
 mod smooth_neighbour;
 mod status;
@@ -70,6 +71,7 @@ pub use prep_8tap::{av1_prep_8tap_8, av1_prep_8tap_16, av1_prep_tested_16};
 pub use prep_moved::{av1_prep_moved_8, av1_prep_moved_16};
 pub use put_8tap::{av1_put_8tap_8, av1_put_8tap_16, av1_put_tested_16};
 pub use put_moved::{av1_put_moved_8, av1_put_moved_16};
+pub use rows::{load_rows, store_rows};
 pub use smooth_neighbour::{Neighbours, av1_smooth_neighbour};
 pub use status::{
     BAD_ANGLE, BAD_AREA, BAD_COEFFICIENT, BAD_DEPTH, BAD_FRACTION, BAD_MODE, BAD_PAD, BAD_SAMPLE,
