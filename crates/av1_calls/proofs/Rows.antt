@@ -1,6 +1,6 @@
 -- Rows that a loop has gone over, and those that are left.
 use Rattle.std.proofs.Common.{◌≡◌, ◌∙◌, ℕ, zero, suc, ◌+◌, ◌<◌, ◌≤◌, List, [], ◌∷◌, ◌++◌, length, take, drop, get_or, set, refl, sym, ap, arith}
-use Rattle.std.proofs.Common.{MutBor, append-nil, append_assoc, flat_map, length-append, take-append-drop}
+use Rattle.std.proofs.Common.{MutBor, append-nil, append_assoc, flat_map, length-append, length-drop, take-append-drop}
 use Rattle.std.proofs.lemmas.List.{take_more, take_at, drop_at, drop-drop}
 use Rattle.std.proofs.lemmas.List.Concat.{flat_map-append}
 use Rattle.av1_calls.specs.Rows.{all_lent, stored, with_front}
@@ -43,6 +43,11 @@ module _ {T : Type 0} where
           ∙ drop-drop (length r) (length s) block ∙ ap (λ k. drop k block) (sym (length-append s r)) in
       ap (λ t. t ++ (r ++ drop (n + length r) (s ++ rest))) front ∙ ap (λ t. s ++ (r ++ t)) behind
       ∙ sym (append_assoc s r (drop (length (s ++ r)) block))
+
+  -- it is as long as before
+  pub length_front : (s block : List T) → length s ≤ length block → length (with_front s block) ≡ length block
+  length_front s block h =
+      let all = length-append s (drop (length s) block) in let rest = length-drop (length s) block in omega (arith, all, rest, h)
 
   abbrev Row : Type 0
   Row = MutBor (List T)

@@ -27,8 +27,8 @@
 //! `specs/Motions.antt`, `specs/MovedBlocks.antt`, `specs/IntraBlocks.antt`, `specs/IntraEdges.antt`,
 //! `specs/IntraPlanes.antt`), or the place (`specs/MotionPlaces.antt`), or each difference of luma
 //! (`specs/LumaBlocks.antt`), or the numbers (`specs/CflPads.antt`, `specs/AngleSteps.antt`,
-//! `specs/SmoothNeighbours.antt`), or the rows (`specs/Rows.antt`). Good arguments give [`DONE`]. Each other status names the first argument that is at
-//! fault, and leaves everything as it was.
+//! `specs/SmoothNeighbours.antt`), or the rows (`specs/Rows.antt`). Good arguments give [`DONE`]. Each other status
+//! names the first argument that is at fault, and leaves everything as it was.
 #![tactic(auto)]
 
 mod angle_step;
