@@ -73,7 +73,8 @@ fn fits_lent<T>(rows: &mut [&mut [T]], room: usize) -> bool
 {
     let mut left = room;
     for y in 0..rows.len() {
-        let count = length_of(rows[y]);
+        let row = &mut rows[y];
+        let count = length_of(row);
         if left < count {
             return false;
         }
@@ -100,7 +101,8 @@ fn store<T: Copy>(rows: &mut [&mut [T]], block: &[T])
 {
     let mut at = 0;
     for y in 0..rows.len() {
-        at = store_row(rows[y], block, at);
+        let row = &mut rows[y];
+        at = store_row(row, block, at);
     }
 }
 

@@ -39,27 +39,34 @@ module _ {T : Type 0} where
       let rest = drop (length s) block in
       let front : take n (s ++ rest) ≡ s = take_at s rest n (sym e) in
       let behind : drop (n + length r) (s ++ rest) ≡ drop (length (s ++ r)) block =
-          sym (drop-drop (length r) n (s ++ rest)) ∙ ap (drop (length r)) (drop_at s rest n (sym e))
-          ∙ drop-drop (length r) (length s) block ∙ ap (λ k. drop k block) (sym (length-append s r)) in
+      sym (drop-drop (length r) n (s ++ rest)) ∙ ap (drop (length r)) (drop_at s rest n (sym e))
+      ∙ drop-drop (length r) (length s) block ∙ ap (λ k. drop k block) (sym (length-append s r)) in
       ap (λ t. t ++ (r ++ drop (n + length r) (s ++ rest))) front ∙ ap (λ t. s ++ (r ++ t)) behind
       ∙ sym (append_assoc s r (drop (length (s ++ r)) block))
+
+  -- it takes one row more, by `f` its samples
+  pub load_on : {R : Type 0} (f : R → List T) (rows : List R) (block : List T) (i at : ℕ) (row : R) (now : List T)
+      → i < length rows → at ≡ length (flat_map f (take i rows)) → row ≡ get_or rows i row
+      → now ≡ with_front (flat_map f (take i rows)) block
+      → take at now ++ (f row ++ drop (at + length (f row)) now) ≡ with_front (flat_map f (take (i + 1) rows)) block
+  load_on f rows block i at row now l e is was =
+      let front = flat_map f (take i rows) in
+      ap (λ b. take at b ++ (f row ++ drop (at + length (f row)) b)) was ∙ front_on front (f row) block at e
+      ∙ ap (λ s. with_front s block) (ap (λ r. front ++ f r) is ∙ sym (pieces_more f rows i row l))
 
   -- it is as long as before
   pub length_front : (s block : List T) → length s ≤ length block → length (with_front s block) ≡ length block
   length_front s block h =
       let all = length-append s (drop (length s) block) in let rest = length-drop (length s) block in omega (arith, all, rest, h)
 
-  abbrev Row : Type 0
-  Row = MutBor (List T)
-
   -- rows of which the first ones are stored: the next one is as it was
-  pub row_left : (rows : List Row) (block : List T) (i : ℕ) (d : Row) → i < length rows
+  pub row_left : (rows : List (MutBor (List T))) (block : List T) (i : ℕ) (d : MutBor (List T)) → i < length rows
       → get_or (stored (take i rows) block ++ drop i rows) i d ≡ get_or rows i d
   row_left [] block i d l = absurd (omega arith)
   row_left (r ∷ rs) block zero d l = refl
   row_left (r ∷ rs) block (suc i) d l = row_left rs (drop (length r.now) block) i d (omega arith)
 
-  store_next : (rows : List Row) (block : List T) (i : ℕ) (d : Row) → i < length rows
+  store_next : (rows : List (MutBor (List T))) (block : List T) (i : ℕ) (d : MutBor (List T)) → i < length rows
       → set (stored (take i rows) block ++ drop i rows) i
       (record (get_or rows i d) { now = take (length (get_or rows i d).now) (drop (length (all_lent (take i rows))) block) })
       ≡ stored (take (suc i) rows) block ++ drop (suc i) rows
@@ -71,16 +78,20 @@ module _ {T : Type 0} where
       let first = record r { now = take (length r.now) block } in
       let all = all_lent (take i rs) in
       let left : drop (length (r.now ++ all)) block ≡ drop (length all) behind =
-          ap (λ n. drop n block) (length-append r.now all) ∙ sym (drop-drop (length all) (length r.now) block) in
+      ap (λ n. drop n block) (length-append r.now all) ∙ sym (drop-drop (length all) (length r.now) block) in
       ap (λ s. first ∷ set (stored (take i rs) behind ++ drop i rs) i (record row { now = take (length row.now) s })) left
       ∙ ap (λ s. first ∷ s) (store_next rs behind i d (omega arith))
 
   -- it is stored
-  pub store_on : (rows : List Row) (block : List T) (i at : ℕ) (d : Row) → i < length rows → at ≡ length (all_lent (take i rows))
-      → set (stored (take i rows) block ++ drop i rows) i (record (get_or rows i d) { now = take (length (get_or rows i d).now) (drop at block) })
+  pub store_on : (rows now : List (MutBor (List T))) (block : List T) (i at : ℕ) (d : MutBor (List T)) → i < length rows
+      → at ≡ length (all_lent (take i rows)) → now ≡ stored (take i rows) block ++ drop i rows
+      → set now i (record (get_or now i d) { now = take (length (get_or now i d).now) (drop at block) })
       ≡ stored (take (i + 1) rows) block ++ drop (i + 1) rows
-  store_on rows block i at d l e =
+  store_on rows now block i at d l e was =
       let on : suc i ≡ i + 1 = omega arith in
+      let done = stored (take i rows) block ++ drop i rows in
       let row = get_or rows i d in
-      ap (λ n. set (stored (take i rows) block ++ drop i rows) i (record row { now = take (length row.now) (drop n block) })) e
+      ap (λ rs. set rs i (record (get_or rs i d) { now = take (length (get_or rs i d).now) (drop at block) })) was
+      ∙ ap (λ (r : MutBor (List T)). set done i (record r { now = take (length r.now) (drop at block) })) (row_left rows block i d l)
+      ∙ ap (λ n. set done i (record row { now = take (length row.now) (drop n block) })) e
       ∙ store_next rows block i d l ∙ ap (λ n. stored (take n rows) block ++ drop n rows) on
