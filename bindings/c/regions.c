@@ -121,6 +121,19 @@ static void a_plane_upside_down(void) {
         for (size_t x = COLUMNS; x < STRIDE; x++) CHECK(samples[y * STRIDE + x] == 77);
 }
 
+/* What a block reads of a reference that stands upside down is loaded, and is the same as in one that stands upright. */
+static void a_reference_upside_down(void) {
+    static uint8_t flipped[SIDE * SIDE];
+    uint8_t window[15 * 15], one[64], other[64];
+    av1_read_region_8 region = {flipped + (SIDE - 1) * SIDE, -SIDE, SIDE, SIDE};
+    av1_motion_block block = motion_of(3, 5, 2);
+    for (size_t y = 0; y < SIDE; y++) memcpy(flipped + y * SIDE, reference_8 + (SIDE - 1 - y) * SIDE, SIDE);
+    CHECK(av1_load_region_8(&region, SIDE - 15, SIDE - 15, 15, 15, window, sizeof window) == AV1_DONE);
+    CHECK(av1_put_8tap_8(one, 64, 8, 0, 0, window, sizeof window, 15, 3, 3, &block) == AV1_DONE);
+    CHECK(av1_put_8tap_8(other, 64, 8, 0, 0, reference_8, sizeof reference_8, SIDE, SIDE - 12, SIDE - 12, &block) == AV1_DONE);
+    CHECK(memcmp(one, other, 64) == 0);
+}
+
 /* The calls that `work` doesn't make, beside those on all samples. */
 static void other_calls_of_8(void) {
     uint8_t *samples = before_a_page(LEN), expected[FULL], room[64], window[15 * 15], side[16] = {9, 8, 7, 6, 5, 4, 3, 2, 50, 60, 70, 80, 90, 99, 98, 97};
@@ -230,6 +243,7 @@ int main(void) {
     for (size_t i = 0; i < SIDE * SIDE; i++) reference_8[i] = (uint8_t)(i * 7 + i / SIDE), reference_16[i] = (uint16_t)(i * 29 % 1024);
     tiles_of_one_plane();
     a_plane_upside_down();
+    a_reference_upside_down();
     other_calls_of_8();
     calls_of_16();
     transforms_in_tiles();
