@@ -84,7 +84,7 @@ as_the_program() {
         "$work/example" "$work/made" >"$work/planes" && cmp "$work/planes" "$work/expected"
 }
 
-programs="calls parts starved transform_block motion_block luma intra build_plan"
+programs="calls parts starved transform_block motion_block luma intra regions build_plan"
 memcheck="valgrind -q --error-exitcode=1 --leak-check=full --show-leak-kinds=all"
 
 try "the library, by LLVM" ./archive.sh out
@@ -111,6 +111,7 @@ for folder in out out/rattle; do
     for program in $programs; do
         try "$folder: valgrind $program.c" runs "$memcheck" $program.c $folder gcc -g -O1
     done
+    try "$folder: clang -g -fsanitize=thread regions.c" runs "" regions.c $folder clang -g -fsanitize=thread
     try "$folder: a shared library" shared $folder
     try "$folder: cargo test" env AV1_C_FOLDER="$here/$folder" cargo test --offline --manifest-path rust/Cargo.toml --target-dir "$here/out/target"
 done

@@ -40,6 +40,9 @@ NAMES = {
     "Motion": ("av1_motion", "crate::Motion"),
     "LeafNumbers": ("av1_leaf", "crate::Leaf"),
 }
+# The slices that stand in memory, as elements of others: in C a struct of a pointer and a length, in this order. The Rust
+# crate, whose regions hand out their rows as slices, doesn't declare the calls on them.
+ROWS = {"&mut [u8]": "av1_row_8", "&mut [u16]": "av1_row_16", "&[u8]": "av1_read_row_8", "&[u16]": "av1_read_row_16"}
 # The numbers: in C, in C's types, and their bytes.
 NUMBERS = {"u8": ("uint8_t", 1), "i8": ("int8_t", 1), "u16": ("uint16_t", 2), "i16": ("int16_t", 2), "u32": ("uint32_t", 4),
            "i32": ("int32_t", 4), "usize": ("size_t", 8), "isize": ("ptrdiff_t", 8)}
@@ -159,6 +162,9 @@ def field_in_rust(declared, of):
 
 def crossing(of):
     """What a parameter becomes, in C and in Rust: a slice is a pointer and a length."""
+    rows = re.fullmatch(r"&(mut )?\[(&.+)\]", of)
+    if rows:
+        return [("%s *" if rows[1] else "const %s *") % ROWS[rows[2]], "size_t"], None
     match = re.fullmatch(r"&(mut )?(\[)?(\w+)\]?", of)
     if not match:
         return [in_c(of)], [in_rust(of)]
@@ -183,6 +189,8 @@ def of_c(declared):
         lines += ["", "HOLDS(sizeof(%s) == %d);" % (NAMES[name][0], declared.layout(name)[0])]
         for field, of, at in declared.places(name)[0]:
             lines.append("FIELD(%s, %s, %s, %d);" % (NAMES[name][0], field, pointer_in_c(declared, of), at))
+    for of, name in ROWS.items():
+        lines += ["", "HOLDS(sizeof(%s) == 16);" % name, "FIELD(%s, at, %s*, 0);" % (name, crossing(of)[0][0]), "FIELD(%s, len, size_t *, 8);" % name]
     lines.append("")
     for name, (types, answer) in declared.calls.items():
         words = [word for of in types for word in crossing(of)[0]]
@@ -202,6 +210,8 @@ def of_rust(declared):
             lines.append("field!(%s, %s, %s, %d);" % (NAMES[name][1], field, field_in_rust(declared, of), at))
     lines.append("")
     for name, (types, answer) in declared.calls.items():
+        if any(crossing(of)[1] is None for of in types):
+            continue
         words = ", ".join(word for of in types for word in crossing(of)[1])
         lines.append(wrapped('const _: unsafe extern "C" fn(%s) -> %s = sys::%s;' % (words, in_rust(answer), name)))
     return "\n".join(lines + [""])

@@ -6,7 +6,7 @@
  *   - each pointer leads to as many elements as the length beside it says (it may be NULL where that length is 0), or to one value;
  *   - what a call writes to (each pointer without `const`) overlaps nothing else that the call is given. What it reads may overlap.
  * A rectangle whose rows stand `stride` samples apart lies in its samples where x + width <= stride and (y + height) * stride <= their number: its
- * last row is there as far as the stride, too.
+ * last row is there as far as the stride, too. Regions, below, have neither that nor what stands between their rows.
  * Calls keep nothing from one to the next, and may run at the same time in threads, over memory that they don't share.
  * Numbers are of the machine's own byte order; those inside a plan and samples of 16 bits in planes are little-endian. */
 #ifndef AV1_C_H
@@ -33,9 +33,11 @@ extern "C" {
 uint32_t av1_c_version(void);
 
 /* Stack: a call takes at most so many bytes of it, its arguments and its return address among them; bindings/stack.py works it out from the code of
- * the archive. Beside them come what `malloc` and its like take, where a call takes memory, and `memcpy`, `memmove` and `memset`.
+ * the archive. Beside them come what `malloc` and its like take, where a call takes memory, and `memcpy`, `memmove` and `memset`. The functions on
+ * regions, which are C, take 2,500 bytes more than the calls that they make.
  *    1,024  av1_angle_step, av1_builder_begin, av1_builder_finish, av1_c_version, av1_cfl_ac_8, av1_cfl_ac_16, av1_cfl_block_of, av1_intra_edge_8,
- *           av1_intra_edge_16, av1_mc_avg_8, av1_mc_avg_16, av1_motion_place, av1_planes_len, av1_smooth_neighbour, av1_test_samples_16
+ *           av1_intra_edge_16, av1_load_rows_8, av1_load_rows_16, av1_mc_avg_8, av1_mc_avg_16, av1_motion_place, av1_planes_len,
+ *           av1_smooth_neighbour, av1_store_rows_8, av1_store_rows_16, av1_test_samples_16
  *    2,048  av1_builder_leaf, av1_builder_mark, av1_builder_reference
  *    4,096  av1_predict_cfl_8, av1_predict_cfl_16, av1_predict_in_plane_8, av1_predict_in_plane_16, av1_predict_intra_8, av1_predict_intra_16,
  *           av1_prep_8tap_8, av1_prep_8tap_16, av1_prep_moved_8, av1_prep_moved_16, av1_prep_tested_16, av1_put_8tap_8, av1_put_8tap_16,
@@ -511,6 +513,308 @@ typedef struct {
  * Answers AV1_DONE, AV1_BAD_SAMPLING, AV1_BAD_SIZE (of the block or the transforms, or its chroma has none up to 32) or AV1_BAD_PAD (nothing of its
  * luma is visible). */
 uint32_t av1_cfl_block_of(av1_cfl_block *block, const av1_luma_block *luma);
+
+/* ---- regions: rectangles of a plane that a call has alone
+ *
+ * The calls above have all samples that they are given, those between the rows of a rectangle, too, so that threads can't make them on tiles of one
+ * plane. A region has its own rows and nothing else. A call on one works in `room`, a buffer of the caller in which the rows of the block stand side
+ * by side: where the call reads them, they are loaded from the region, and what it leaves is stored there, if it succeeds. The archive has the calls
+ * that load rows and store them. The functions behind these are C, and put that together. */
+
+/* Samples that stand side by side, such as a row of a region. The pointer is never NULL, even where there are none. */
+typedef struct {
+    uint8_t *at;
+    size_t len;
+} av1_row_8;
+typedef struct {
+    uint16_t *at;
+    size_t len;
+} av1_row_16;
+/* The same, to be read alone. */
+typedef struct {
+    const uint8_t *at;
+    size_t len;
+} av1_read_row_8;
+typedef struct {
+    const uint16_t *at;
+    size_t len;
+} av1_read_row_16;
+
+/* Puts the samples of rows to the front of `block`, one row behind the other; the rest of it stays. Rows may be of any lengths, and may overlap one
+ * another. Nothing between them is read. It takes no memory.
+ * Answers AV1_DONE or AV1_TOO_SHORT: the block has fewer samples than the rows. */
+uint32_t av1_load_rows_8(uint8_t *block, size_t block_len, const av1_read_row_8 *rows, size_t rows_len);
+uint32_t av1_load_rows_16(uint16_t *block, size_t block_len, const av1_read_row_16 *rows, size_t rows_len);
+
+/* Puts the front of `block` into rows, one row behind the other. Nothing between them is read or written. Rows may be of any lengths, and overlap
+ * nothing. It takes no memory, and leaves the pointers and the lengths as they are.
+ * Answers AV1_DONE or AV1_TOO_SHORT: the block has fewer samples than the rows. */
+uint32_t av1_store_rows_8(av1_row_8 *rows, size_t rows_len, const uint8_t *block, size_t block_len);
+uint32_t av1_store_rows_16(av1_row_16 *rows, size_t rows_len, const uint16_t *block, size_t block_len);
+
+/* A rectangle of a plane. Of a region that is written no two rows overlap. */
+typedef struct {
+    uint8_t *first;   /* the first sample of its first row */
+    ptrdiff_t stride; /* how many samples behind a row the next one begins; where it is negative, the next one begins before it */
+    size_t width;     /* how many columns it has */
+    size_t height;    /* how many rows it has; the last one need not go on behind its own samples */
+} av1_region_8;
+typedef struct {
+    uint16_t *first;
+    ptrdiff_t stride;
+    size_t width;
+    size_t height;
+} av1_region_16;
+/* The same, to be read alone. */
+typedef struct {
+    const uint8_t *first;
+    ptrdiff_t stride;
+    size_t width;
+    size_t height;
+} av1_read_region_8;
+typedef struct {
+    const uint16_t *first;
+    ptrdiff_t stride;
+    size_t width;
+    size_t height;
+} av1_read_region_16;
+
+/* How many rows the functions below copy at most: those of a block with the 7 more that motion reads. */
+#define AV1_ROWS 135
+
+/* Whether a rectangle lies in one of so many columns and rows. */
+static inline int av1_lies_within(size_t columns, size_t rows, size_t x, size_t y, size_t width, size_t height) {
+    return x <= columns && width <= columns - x && y <= rows && height <= rows - y;
+}
+
+/* Copies the rectangle of `width` by `height` samples at column `x` of row `y` of a region to the front of `block`, row by row.
+ * Answers AV1_DONE, AV1_BAD_SIZE (more than AV1_ROWS rows), AV1_BAD_AREA (the rectangle does not lie in the region) or AV1_TOO_SHORT (the block). */
+static inline uint32_t av1_load_region_8(const av1_read_region_8 *region, size_t x, size_t y, size_t width, size_t height, uint8_t *block,
+                                         size_t block_len) {
+    av1_read_row_8 rows[AV1_ROWS];
+    if (height > AV1_ROWS) return AV1_BAD_SIZE;
+    if (!av1_lies_within(region->width, region->height, x, y, width, height)) return AV1_BAD_AREA;
+    for (size_t row = 0; row < height; row++) {
+        rows[row].at = region->first + (ptrdiff_t)(y + row) * region->stride + (ptrdiff_t)x;
+        rows[row].len = width;
+    }
+    return av1_load_rows_8(block, block_len, rows, height);
+}
+static inline uint32_t av1_load_region_16(const av1_read_region_16 *region, size_t x, size_t y, size_t width, size_t height, uint16_t *block,
+                                          size_t block_len) {
+    av1_read_row_16 rows[AV1_ROWS];
+    if (height > AV1_ROWS) return AV1_BAD_SIZE;
+    if (!av1_lies_within(region->width, region->height, x, y, width, height)) return AV1_BAD_AREA;
+    for (size_t row = 0; row < height; row++) {
+        rows[row].at = region->first + (ptrdiff_t)(y + row) * region->stride + (ptrdiff_t)x;
+        rows[row].len = width;
+    }
+    return av1_load_rows_16(block, block_len, rows, height);
+}
+
+/* Copies the front of `block` into such a rectangle. Answers alike. */
+static inline uint32_t av1_store_region_8(const av1_region_8 *region, size_t x, size_t y, size_t width, size_t height, const uint8_t *block,
+                                          size_t block_len) {
+    av1_row_8 rows[AV1_ROWS];
+    if (height > AV1_ROWS) return AV1_BAD_SIZE;
+    if (!av1_lies_within(region->width, region->height, x, y, width, height)) return AV1_BAD_AREA;
+    for (size_t row = 0; row < height; row++) {
+        rows[row].at = region->first + (ptrdiff_t)(y + row) * region->stride + (ptrdiff_t)x;
+        rows[row].len = width;
+    }
+    return av1_store_rows_8(rows, height, block, block_len);
+}
+static inline uint32_t av1_store_region_16(const av1_region_16 *region, size_t x, size_t y, size_t width, size_t height, const uint16_t *block,
+                                           size_t block_len) {
+    av1_row_16 rows[AV1_ROWS];
+    if (height > AV1_ROWS) return AV1_BAD_SIZE;
+    if (!av1_lies_within(region->width, region->height, x, y, width, height)) return AV1_BAD_AREA;
+    for (size_t row = 0; row < height; row++) {
+        rows[row].at = region->first + (ptrdiff_t)(y + row) * region->stride + (ptrdiff_t)x;
+        rows[row].len = width;
+    }
+    return av1_store_rows_16(rows, height, block, block_len);
+}
+
+static inline size_t av1_least(size_t a, size_t b) { return a < b ? a : b; }
+
+/* The sides of a transform by its number; 0 where none has it. */
+static inline size_t av1_tx_width(uint8_t tx_size) {
+    static const uint8_t widths[] = {4, 8, 16, 32, 64, 4, 8, 8, 16, 16, 32, 32, 64, 4, 16, 8, 32, 16, 64};
+    return tx_size < sizeof widths ? widths[tx_size] : 0;
+}
+static inline size_t av1_tx_height(uint8_t tx_size) {
+    static const uint8_t heights[] = {4, 8, 16, 32, 64, 8, 4, 16, 8, 32, 16, 64, 32, 16, 4, 32, 8, 64, 16};
+    return tx_size < sizeof heights ? heights[tx_size] : 0;
+}
+
+/* The calls on a block, over a region: each is the call that has its name without `_in`, on the rectangle of the block at column `x` of row `y` of `to`.
+ * Of the region nothing beside that rectangle is read or written.
+ *   room, room_len   room for the block: as many samples as it has, for any block 16,384. What it holds doesn't matter. Calls that run at the same
+ *                    time need one each
+ * Answers as that call, and AV1_BAD_AREA where the rectangle does not lie in the region; AV1_BAD_AREA or AV1_TOO_SHORT where the room is too short.
+ * What is refused leaves the region as it was. A call that reads alone is made on what av1_load_region_8 loads. */
+static inline uint32_t av1_put_8tap_in_8(const av1_region_8 *to, size_t x, size_t y, uint8_t *room, size_t room_len, const uint8_t *src,
+                                         size_t src_len, size_t src_stride, size_t src_x, size_t src_y, const av1_motion_block *block) {
+    uint32_t status = av1_put_8tap_8(room, room_len, block->width, 0, 0, src, src_len, src_stride, src_x, src_y, block);
+    return status ? status : av1_store_region_8(to, x, y, block->width, block->height, room, room_len);
+}
+static inline uint32_t av1_put_8tap_in_16(const av1_region_16 *to, size_t x, size_t y, uint16_t *room, size_t room_len, const uint16_t *src,
+                                          size_t src_len, size_t src_stride, size_t src_x, size_t src_y, const av1_motion_block *block,
+                                          size_t bit_depth) {
+    uint32_t status = av1_put_8tap_16(room, room_len, block->width, 0, 0, src, src_len, src_stride, src_x, src_y, block, bit_depth);
+    return status ? status : av1_store_region_16(to, x, y, block->width, block->height, room, room_len);
+}
+static inline uint32_t av1_put_tested_in_16(const av1_region_16 *to, size_t x, size_t y, uint16_t *room, size_t room_len, const uint16_t *src,
+                                            size_t src_len, size_t src_stride, size_t src_x, size_t src_y, const av1_motion_block *block,
+                                            size_t bit_depth) {
+    uint32_t status = av1_put_tested_16(room, room_len, block->width, 0, 0, src, src_len, src_stride, src_x, src_y, block, bit_depth);
+    return status ? status : av1_store_region_16(to, x, y, block->width, block->height, room, room_len);
+}
+static inline uint32_t av1_put_moved_in_8(const av1_region_8 *to, size_t x, size_t y, uint8_t *room, size_t room_len, const uint8_t *src,
+                                          size_t src_len, const av1_motion_plane *plane, const av1_moved_block *block, uint8_t *window,
+                                          size_t window_len) {
+    uint32_t status = av1_put_moved_8(room, room_len, block->width, 0, 0, src, src_len, plane, block, window, window_len);
+    return status ? status : av1_store_region_8(to, x, y, block->width, block->height, room, room_len);
+}
+static inline uint32_t av1_put_moved_in_16(const av1_region_16 *to, size_t x, size_t y, uint16_t *room, size_t room_len, const uint16_t *src,
+                                           size_t src_len, const av1_motion_plane *plane, const av1_moved_block *block, uint16_t *window,
+                                           size_t window_len, size_t bit_depth) {
+    uint32_t status = av1_put_moved_16(room, room_len, block->width, 0, 0, src, src_len, plane, block, window, window_len, bit_depth);
+    return status ? status : av1_store_region_16(to, x, y, block->width, block->height, room, room_len);
+}
+static inline uint32_t av1_mc_avg_in_8(const av1_region_8 *to, size_t x, size_t y, uint8_t *room, size_t room_len, size_t width, size_t height,
+                                       const int16_t *first, size_t first_len, const int16_t *second, size_t second_len) {
+    uint32_t status = av1_mc_avg_8(room, room_len, width, 0, 0, width, height, first, first_len, second, second_len);
+    return status ? status : av1_store_region_8(to, x, y, width, height, room, room_len);
+}
+static inline uint32_t av1_mc_avg_in_16(const av1_region_16 *to, size_t x, size_t y, uint16_t *room, size_t room_len, size_t width, size_t height,
+                                        const int16_t *first, size_t first_len, const int16_t *second, size_t second_len, size_t bit_depth) {
+    uint32_t status = av1_mc_avg_16(room, room_len, width, 0, 0, width, height, first, first_len, second, second_len, bit_depth);
+    return status ? status : av1_store_region_16(to, x, y, width, height, room, room_len);
+}
+static inline uint32_t av1_inverse_transform_add_in_8(const av1_region_8 *to, size_t x, size_t y, uint8_t *room, size_t room_len,
+                                                      av1_transform_scratch *scratch, const int16_t *coefficients, size_t coefficients_len,
+                                                      uint8_t tx_size, uint8_t tx_type) {
+    size_t width = av1_tx_width(tx_size), height = av1_tx_height(tx_size);
+    av1_read_region_8 from = {to->first, to->stride, to->width, to->height};
+    uint32_t status = av1_load_region_8(&from, x, y, width, height, room, room_len);
+    if (!status) status = av1_inverse_transform_add_8(scratch, coefficients, coefficients_len, room, room_len, width, 0, 0, tx_size, tx_type);
+    return status ? status : av1_store_region_8(to, x, y, width, height, room, room_len);
+}
+static inline uint32_t av1_inverse_transform_add_in_16(const av1_region_16 *to, size_t x, size_t y, uint16_t *room, size_t room_len,
+                                                       av1_transform_scratch *scratch, const int32_t *coefficients, size_t coefficients_len,
+                                                       uint8_t tx_size, uint8_t tx_type, size_t bit_depth) {
+    size_t width = av1_tx_width(tx_size), height = av1_tx_height(tx_size);
+    av1_read_region_16 from = {to->first, to->stride, to->width, to->height};
+    uint32_t status = av1_load_region_16(&from, x, y, width, height, room, room_len);
+    if (!status) status = av1_inverse_transform_add_16(scratch, coefficients, coefficients_len, room, room_len, width, 0, 0, tx_size, tx_type,
+                                                       bit_depth);
+    return status ? status : av1_store_region_16(to, x, y, width, height, room, room_len);
+}
+static inline uint32_t av1_inverse_transform_add_clamped_in_16(const av1_region_16 *to, size_t x, size_t y, uint16_t *room, size_t room_len,
+                                                               av1_transform_scratch *scratch, const int32_t *coefficients, size_t coefficients_len,
+                                                               uint8_t tx_size, uint8_t tx_type, size_t bit_depth) {
+    size_t width = av1_tx_width(tx_size), height = av1_tx_height(tx_size);
+    av1_read_region_16 from = {to->first, to->stride, to->width, to->height};
+    uint32_t status = av1_load_region_16(&from, x, y, width, height, room, room_len);
+    if (!status) status = av1_inverse_transform_add_clamped_16(scratch, coefficients, coefficients_len, room, room_len, width, 0, 0, tx_size,
+                                                               tx_type, bit_depth);
+    return status ? status : av1_store_region_16(to, x, y, width, height, room, room_len);
+}
+static inline uint32_t av1_predict_intra_in_8(const av1_region_8 *to, size_t x, size_t y, uint8_t *room, size_t room_len,
+                                              const av1_intra_block *block, const uint8_t *left, size_t left_len, uint8_t corner,
+                                              const uint8_t *above, size_t above_len) {
+    size_t width = av1_tx_width(block->tx_size), height = av1_tx_height(block->tx_size);
+    uint32_t status = av1_predict_intra_8(room, room_len, width, 0, 0, block, left, left_len, corner, above, above_len);
+    return status ? status : av1_store_region_8(to, x, y, width, height, room, room_len);
+}
+static inline uint32_t av1_predict_intra_in_16(const av1_region_16 *to, size_t x, size_t y, uint16_t *room, size_t room_len,
+                                               const av1_intra_block *block, const uint16_t *left, size_t left_len, uint16_t corner,
+                                               const uint16_t *above, size_t above_len) {
+    size_t width = av1_tx_width(block->tx_size), height = av1_tx_height(block->tx_size);
+    uint32_t status = av1_predict_intra_16(room, room_len, width, 0, 0, block, left, left_len, corner, above, above_len);
+    return status ? status : av1_store_region_16(to, x, y, width, height, room, room_len);
+}
+static inline uint32_t av1_predict_cfl_in_8(const av1_region_8 *to, size_t x, size_t y, uint8_t *room, size_t room_len, const av1_intra_block *block,
+                                            const uint8_t *left, size_t left_len, const uint8_t *above, size_t above_len, const int16_t *ac,
+                                            size_t ac_len, int16_t alpha) {
+    size_t width = av1_tx_width(block->tx_size), height = av1_tx_height(block->tx_size);
+    uint32_t status = av1_predict_cfl_8(room, room_len, width, 0, 0, block, left, left_len, above, above_len, ac, ac_len, alpha);
+    return status ? status : av1_store_region_8(to, x, y, width, height, room, room_len);
+}
+static inline uint32_t av1_predict_cfl_in_16(const av1_region_16 *to, size_t x, size_t y, uint16_t *room, size_t room_len,
+                                             const av1_intra_block *block, const uint16_t *left, size_t left_len, const uint16_t *above,
+                                             size_t above_len, const int16_t *ac, size_t ac_len, int16_t alpha) {
+    size_t width = av1_tx_width(block->tx_size), height = av1_tx_height(block->tx_size);
+    uint32_t status = av1_predict_cfl_16(room, room_len, width, 0, 0, block, left, left_len, above, above_len, ac, ac_len, alpha);
+    return status ? status : av1_store_region_16(to, x, y, width, height, room, room_len);
+}
+
+/* av1_predict_in_plane_8 in a tile that is a region: its first sample is that of the tile, and it has all columns and rows of the tile and of the
+ * transform. In it the samples round the transform are read from which its edge is prepared, and those of the transform are written.
+ *   room, room_len   room for both: for any transform 16,641 samples
+ *   plane            where its samples stand (stride, x, y) is not read
+ *   block .. alpha   as in that call
+ * Answers as that call, but AV1_BAD_AREA before all else, and AV1_TOO_SHORT where the room is too short. What is refused leaves the region as it was. */
+static inline uint32_t av1_predict_in_tile_8(const av1_region_8 *tile, uint8_t *room, size_t room_len, const av1_edge_plane *plane,
+                                             const av1_edge_block *block, uint8_t smooth_neighbour, const int16_t *ac, size_t ac_len,
+                                             int16_t alpha) {
+    size_t width = av1_tx_width(block->tx_size), height = av1_tx_height(block->tx_size), more = av1_least(width, height);
+    size_t left = block->x > 0, above = block->y > 0, x = block->x - left, y = block->y - above;
+    size_t columns = left + width + more, rows = above + height + more;
+    av1_read_region_8 from = {tile->first, tile->stride, tile->width, tile->height};
+    av1_edge_plane window = *plane;
+    av1_edge_block moved = *block;
+    uint32_t status = AV1_DONE;
+    if (!av1_lies_within(plane->width, plane->height, plane->tile_x, plane->tile_y, plane->tile_width, plane->tile_height)) return AV1_BAD_AREA;
+    if (block->x >= plane->tile_width || block->y >= plane->tile_height) return AV1_BAD_AREA;
+    if (!av1_lies_within(tile->width, tile->height, block->x, block->y, width, height)) return AV1_BAD_AREA;
+    if (columns * rows > room_len) return AV1_TOO_SHORT;
+    for (size_t row = 0; !status && row < av1_least(rows, tile->height - y); row++)
+        status = av1_load_region_8(&from, x, y + row, av1_least(columns, tile->width - x), 1, room + row * columns, columns);
+    window.stride = columns;
+    window.x = window.y = window.tile_x = window.tile_y = 0;
+    window.width = av1_least(columns, plane->width - plane->tile_x - x);
+    window.height = av1_least(rows, plane->height - plane->tile_y - y);
+    window.tile_width = av1_least(columns, plane->tile_width - x);
+    window.tile_height = av1_least(rows, plane->tile_height - y);
+    moved.x = left;
+    moved.y = above;
+    if (!status) status = av1_predict_in_plane_8(room, columns * rows, &window, &moved, smooth_neighbour, ac, ac_len, alpha);
+    for (size_t row = 0; !status && row < height; row++)
+        status = av1_store_region_8(tile, block->x, block->y + row, width, 1, room + (above + row) * columns + left, width);
+    return status;
+}
+static inline uint32_t av1_predict_in_tile_16(const av1_region_16 *tile, uint16_t *room, size_t room_len, const av1_edge_plane *plane,
+                                              const av1_edge_block *block, uint8_t smooth_neighbour, const int16_t *ac, size_t ac_len,
+                                              int16_t alpha) {
+    size_t width = av1_tx_width(block->tx_size), height = av1_tx_height(block->tx_size), more = av1_least(width, height);
+    size_t left = block->x > 0, above = block->y > 0, x = block->x - left, y = block->y - above;
+    size_t columns = left + width + more, rows = above + height + more;
+    av1_read_region_16 from = {tile->first, tile->stride, tile->width, tile->height};
+    av1_edge_plane window = *plane;
+    av1_edge_block moved = *block;
+    uint32_t status = AV1_DONE;
+    if (!av1_lies_within(plane->width, plane->height, plane->tile_x, plane->tile_y, plane->tile_width, plane->tile_height)) return AV1_BAD_AREA;
+    if (block->x >= plane->tile_width || block->y >= plane->tile_height) return AV1_BAD_AREA;
+    if (!av1_lies_within(tile->width, tile->height, block->x, block->y, width, height)) return AV1_BAD_AREA;
+    if (columns * rows > room_len) return AV1_TOO_SHORT;
+    for (size_t row = 0; !status && row < av1_least(rows, tile->height - y); row++)
+        status = av1_load_region_16(&from, x, y + row, av1_least(columns, tile->width - x), 1, room + row * columns, columns);
+    window.stride = columns;
+    window.x = window.y = window.tile_x = window.tile_y = 0;
+    window.width = av1_least(columns, plane->width - plane->tile_x - x);
+    window.height = av1_least(rows, plane->height - plane->tile_y - y);
+    window.tile_width = av1_least(columns, plane->tile_width - x);
+    window.tile_height = av1_least(rows, plane->tile_height - y);
+    moved.x = left;
+    moved.y = above;
+    if (!status) status = av1_predict_in_plane_16(room, columns * rows, &window, &moved, smooth_neighbour, ac, ac_len, alpha);
+    for (size_t row = 0; !status && row < height; row++)
+        status = av1_store_region_16(tile, block->x, block->y + row, width, 1, room + (above + row) * columns + left, width);
+    return status;
+}
 
 /* ---- plans built field by field
  *

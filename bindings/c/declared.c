@@ -213,6 +213,22 @@ FIELD(av1_plan_header, edge_filter, uint8_t *, 8);
 FIELD(av1_plan_header, mask, uint8_t *, 9);
 FIELD(av1_plan_header, slots, uint8_t (*)[7], 10);
 
+HOLDS(sizeof(av1_row_8) == 16);
+FIELD(av1_row_8, at, uint8_t **, 0);
+FIELD(av1_row_8, len, size_t *, 8);
+
+HOLDS(sizeof(av1_row_16) == 16);
+FIELD(av1_row_16, at, uint16_t **, 0);
+FIELD(av1_row_16, len, size_t *, 8);
+
+HOLDS(sizeof(av1_read_row_8) == 16);
+FIELD(av1_read_row_8, at, const uint8_t **, 0);
+FIELD(av1_read_row_8, len, size_t *, 8);
+
+HOLDS(sizeof(av1_read_row_16) == 16);
+FIELD(av1_read_row_16, at, const uint16_t **, 0);
+FIELD(av1_read_row_16, len, size_t *, 8);
+
 uint32_t av1_builder_begin(const av1_plan_header *, av1_builder *, uint8_t *, size_t);
 uint32_t av1_builder_reference(av1_builder *, uint8_t *, size_t, const uint16_t *, size_t, const uint16_t *, size_t,
     const uint16_t *, size_t);
@@ -269,6 +285,10 @@ uint32_t av1_prep_tested_16(int16_t *, size_t, const uint16_t *, size_t, size_t,
     *, size_t);
 uint32_t av1_planes_len(const uint8_t *, size_t, size_t *, av1_refusal *);
 uint32_t av1_reconstruct_plan(const uint8_t *, size_t, uint8_t *, size_t, size_t *, av1_refusal *);
+uint32_t av1_load_rows_8(uint8_t *, size_t, const av1_read_row_8 *, size_t);
+uint32_t av1_load_rows_16(uint16_t *, size_t, const av1_read_row_16 *, size_t);
+uint32_t av1_store_rows_8(av1_row_8 *, size_t, const uint8_t *, size_t);
+uint32_t av1_store_rows_16(av1_row_16 *, size_t, const uint16_t *, size_t);
 uint32_t av1_reconstruct_sequence(const uint8_t *, size_t, uint8_t *, size_t, size_t *, av1_part_refusal *);
 uint32_t av1_reconstruct_tiles(const uint8_t *, size_t, uint8_t *, size_t, size_t *, av1_part_refusal *);
 uint32_t av1_inverse_transform_add_8(av1_transform_scratch *, const int16_t *, size_t, uint8_t *, size_t, size_t,

@@ -219,6 +219,29 @@ static void numbers(void) {
     tell("av1_smooth_neighbour", deepest);
 }
 
+static void rows(void) {
+    av1_row_8 stored_8[SIDE];
+    av1_row_16 stored_16[SIDE];
+    av1_read_row_8 loaded_8[SIDE];
+    av1_read_row_16 loaded_16[SIDE];
+    size_t deepest = 0, all = SIDE * SIDE;
+    for (size_t y = 0; y < SIDE; y++) {
+        stored_8[y] = (av1_row_8){plane_8 + y * SIDE, SIDE}, loaded_8[y] = (av1_read_row_8){plane_8 + y * SIDE, SIDE};
+        stored_16[y] = (av1_row_16){plane_16 + y * SIDE, SIDE}, loaded_16[y] = (av1_read_row_16){plane_16 + y * SIDE, SIDE};
+    }
+    DEEP(av1_load_rows_8(other_8, all, loaded_8, SIDE));
+    tell("av1_load_rows_8", deepest);
+    deepest = 0;
+    DEEP(av1_load_rows_16(other_16, all, loaded_16, SIDE));
+    tell("av1_load_rows_16", deepest);
+    deepest = 0;
+    DEEP(av1_store_rows_8(stored_8, SIDE, other_8, all));
+    tell("av1_store_rows_8", deepest);
+    deepest = 0;
+    DEEP(av1_store_rows_16(stored_16, SIDE, other_16, all));
+    tell("av1_store_rows_16", deepest);
+}
+
 static void whole(const uint8_t *plan, size_t len) {
     static uint8_t room[MOST];
     size_t wanted, written, deepest = 0;
@@ -305,6 +328,7 @@ int main(int count, char **words) {
     }
     clamped();
     numbers();
+    rows();
     place();
     tests();
     motion(PUT_8, "av1_put_8tap_8");

@@ -5,10 +5,11 @@
 //! plans as parts, and [`av1_trace_differences`] lists where planes of another encoder are not those of their plan.
 //! [`av1_builder_begin`] and the calls behind it write a plan field by field to a buffer of the caller, who keeps a
 //! [`Builder`] between them, and take no memory. The calls on one block (`src/transform_calls.rt`,
-//! `src/motion_calls.rt`, `src/intra_calls.rt`) are those of `av1_calls`, and take no memory either. [`av1_c_version`]
-//! tells which version of the archive it is that is called. Each call tests all of its arguments, and answers one of
-//! the statuses of `src/status.rt` and of `av1_calls`. What is owed by the caller is told by no test: each pointer
-//! leads to as many elements as the length beside it says, and what is written overlaps nothing else.
+//! `src/motion_calls.rt`, `src/intra_calls.rt`) and on rows of samples (`src/row_calls.rt`) are those of `av1_calls`,
+//! and take no memory either. [`av1_c_version`] tells which version of the archive it is that is called. Each call
+//! tests all of its arguments, and answers one of the statuses of `src/status.rt` and of `av1_calls`. What is owed by
+//! the caller is told by no test: each pointer leads to as many elements as the length beside it says, and what is
+//! written overlaps nothing else.
 //!
 //! It stands on `av1_plan` for the grammar and the check of plans, on `av1_recon` for the planes that a plan comes to,
 //! on `av1_tiles` and `av1_sequence` for those of grids of tiles and of sequences, on `av1_trace` for their length and
@@ -42,6 +43,7 @@ mod part_planes;
 mod plan_header;
 mod planes_length;
 mod reconstruct;
+mod row_calls;
 mod sequence;
 mod status;
 mod tiles;
@@ -70,6 +72,7 @@ pub use part_fault::PartRefusal;
 pub use plan_header::PlanHeader;
 pub use planes_length::av1_planes_len;
 pub use reconstruct::av1_reconstruct_plan;
+pub use row_calls::{av1_load_rows_8, av1_load_rows_16, av1_store_rows_8, av1_store_rows_16};
 pub use sequence::av1_reconstruct_sequence;
 pub use status::{
     BAD_STATE, INVALID, INVALID_BLOCK_SIZE, INVALID_COEFFICIENT, INVALID_MODE, INVALID_PART,

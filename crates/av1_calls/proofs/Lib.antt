@@ -10,3 +10,4 @@ pub mod CflPads
 pub mod MotionPlaces
 pub mod PlaneCalls
 pub mod MovedBlocks
+pub mod StoredRows

@@ -12,3 +12,4 @@ pub mod TestedSamples
 pub mod AngleSteps
 pub mod SmoothNeighbours
 pub mod CflPads
+pub mod Rows

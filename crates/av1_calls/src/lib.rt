@@ -15,6 +15,9 @@
 //! without a look at its samples before they read them, and so do [`av1_put_moved_16`] and [`av1_prep_moved_16`];
 //! [`av1_test_samples_16`] looks at them once.
 //!
+//! [`load_rows`] and [`store_rows`] copy a block from rows of samples and into them. Each row is lent by itself, so that
+//! what lies between the rows of a rectangle may be lent to others, as to threads.
+//!
 //! It stands on `av1_itx` for the transforms of blocks, on `av1_inter` for their motion, and on `av1_edges` and
 //! `av1_intra` for their prediction. `av1_c` exports the calls for C.
 //!
@@ -24,8 +27,9 @@
 //! `specs/Motions.antt`, `specs/MovedBlocks.antt`, `specs/IntraBlocks.antt`, `specs/IntraEdges.antt`,
 //! `specs/IntraPlanes.antt`), or the place (`specs/MotionPlaces.antt`), or each difference of luma
 //! (`specs/LumaBlocks.antt`), or the numbers (`specs/CflPads.antt`, `specs/AngleSteps.antt`,
-//! `specs/SmoothNeighbours.antt`). Good arguments give [`DONE`]. Each other status names the first argument that is at
-//! fault, and leaves what was to be written as it was; what it works in may have changed.
+//! `specs/SmoothNeighbours.antt`), or the rows (`specs/Rows.antt`). Good arguments give [`DONE`]. Each other status
+//! names the first argument that is at fault, and leaves what was to be written as it was; what it works in may have
+//! changed.
 #![tactic(auto)]
 
 mod angle_step;
@@ -43,6 +47,7 @@ mod prep_8tap;
 mod prep_moved;
 mod put_8tap;
 mod put_moved;
+mod rows;
 mod samples;
 mod smooth_neighbour;
 mod status;
@@ -70,6 +75,7 @@ pub use prep_8tap::{av1_prep_8tap_8, av1_prep_8tap_16, av1_prep_tested_16};
 pub use prep_moved::{av1_prep_moved_8, av1_prep_moved_16};
 pub use put_8tap::{av1_put_8tap_8, av1_put_8tap_16, av1_put_tested_16};
 pub use put_moved::{av1_put_moved_8, av1_put_moved_16};
+pub use rows::{load_rows, store_rows};
 pub use smooth_neighbour::{Neighbours, av1_smooth_neighbour};
 pub use status::{
     BAD_ANGLE, BAD_AREA, BAD_COEFFICIENT, BAD_DEPTH, BAD_FRACTION, BAD_MODE, BAD_PAD, BAD_SAMPLE,
