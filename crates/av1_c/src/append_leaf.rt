@@ -1,11 +1,11 @@
 //! The fields of a leaf appended to the bytes of a plan, in a buffer of the caller.
 
-ghost use Rattle.std.specs.Prelude.{◌≡◌, ◌<◌, ◌≤◌, ◌+◌, ◌*◌, ◌++◌, ◌^◌, true, false, length, map, take, is_some, if◌then◌else◌, IfErr, IfOk, OnErr, OnOk};
+ghost use Rattle.std.specs.Prelude.{◌≡◌, ◌<◌, ◌≤◌, ◌+◌, ◌*◌, ◌++◌, ◌^◌, true, length, map, take, is_some, if◌then◌else◌, IfErr, IfOk, OnErr, OnOk};
 ghost use Rattle.std.specs.List.{All};
 ghost use Rattle.av1_planwrite.specs.Given.{FitsTriple};
-ghost use Rattle.av1_planwrite.specs.Text.{chroma_triples_text, fields_text, triples_text};
+ghost use Rattle.av1_planwrite.specs.Text.{chroma_triples_text, triples_text};
 ghost use Rattle.av1_c.specs.Builders.{AreAppended, room_fault};
-ghost use Rattle.av1_c.specs.Leaves.{kind_of, leaf_bytes, triple_of, tx_size_of, tx_type_of, uv_type_of};
+ghost use Rattle.av1_c.specs.Leaves.{leaf_bytes, triple_of, uv_type_of};
 ghost use Rattle.av1_c.specs.declared.build_fault.BuildFault.TheVariants as faults;
 
 use crate::appending::end_of;

@@ -1,6 +1,6 @@
 //! Fields appended to the bytes of a plan, in a buffer of the caller.
 
-ghost use Rattle.std.specs.Prelude.{◌≡◌, ◌<◌, ◌≤◌, ◌+◌, ◌++◌, ◌^◌, length, nat_le, if◌then◌else◌, IfErr, IfOk, OnErr};
+ghost use Rattle.std.specs.Prelude.{◌≡◌, ◌<◌, ◌≤◌, ◌+◌, ◌++◌, ◌^◌, length, IfErr, IfOk, OnErr};
 ghost use Rattle.av1_planwrite.specs.Text.{plane_text};
 ghost use Rattle.av1_planwrite.specs.declared.error.BuildError.TheVariants.{TooLong};
 ghost use Rattle.av1_c.specs.Builders.{AreAppended, room_fault};

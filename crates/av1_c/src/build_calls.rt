@@ -1,6 +1,6 @@
 //! The calls of a builder, but that on leaves.
 
-ghost use Rattle.std.specs.Prelude.{◌≡◌, ◌≢◌, ◌+◌, ◌≤◌, true, length, take, if◌then◌else◌, OnErr, OnOk};
+ghost use Rattle.std.specs.Prelude.{◌≡◌, ◌≢◌, ◌≤◌, true, length, take, if◌then◌else◌, OnErr, OnOk};
 ghost use Rattle.av1_plan.specs.Grammar.{plan};
 ghost use Rattle.av1_plan.specs.Plan.{PlanValue};
 ghost use Rattle.av1_plan.specs.Spelling.{AreText};

@@ -15,8 +15,8 @@
 //! without a look at its samples before they read them, and so do [`av1_put_moved_16`] and [`av1_prep_moved_16`];
 //! [`av1_test_samples_16`] looks at them once.
 //!
-//! [`load_rows`] and [`store_rows`] copy a block from rows of samples and into them. Each row is lent by itself, so that
-//! what lies between the rows of a rectangle may be lent to others, as to threads.
+//! [`load_rows`] and [`store_rows`] copy a block from rows of samples and into them. Each row is lent by itself, so
+//! that what lies between the rows of a rectangle may be lent to others, as to threads.
 //!
 //! It stands on `av1_itx` for the transforms of blocks, on `av1_inter` for their motion, and on `av1_edges` and
 //! `av1_intra` for their prediction. `av1_c` exports the calls for C.
