@@ -1,6 +1,6 @@
 //! The planes of a frame, put together of those of its tiles.
 
-ghost use Rattle.std.specs.Prelude.{◌≡◌, ◌<◌, ◌≤◌, length, map, slice_index, ◌≢◌, ℕ, None, OnOk, OnErr, IfOk, IfErr};
+ghost use Rattle.std.specs.Prelude.{◌≡◌, ◌<◌, ◌≤◌, length, slice_index, ◌≢◌, ℕ, None, OnOk, OnErr, IfOk, IfErr};
 ghost use Rattle.av1_frame.specs.Planes.{InPlane, painted_plane};
 ghost use Rattle.av1_frame.specs.Regions.{InStorage, painted};
 ghost use Rattle.av1_frame.specs.Samples.{paint_row};
@@ -25,7 +25,7 @@ use crate::error::TileError;
 use crate::file::TileFile;
 use crate::tile::{read_tile, tile_area};
 use av1_blocks::OutOfMemory;
-use av1_frame::{Pixel, Plane, PlaneRegionMut, visible_area};
+use av1_frame::{Pixel, Plane, PlaneRegionMut, copy_row, visible_area};
 use av1_plan::{Header, Plan};
 use av1_references::frame_invariants;
 use av1_tile::{Planes, WalkMemory};
@@ -40,20 +40,14 @@ pub struct TilePicture<T: Pixel> {
     pub planes: Planes<T>,
 }
 
-/// The first `width` samples of the row become those of `source`.
-#[tactic(auto, using(av1_frame::proofs::Paint::row_painting))]
-fn copy_samples<T: Pixel>(row: &mut [T], source: &[T], width: usize)
-    requires row_long { width ≤ length row.old }
-    requires source_long { width ≤ length source.now }
-    ensures { row.new ≡ paint_row width (λ c _. T.pixel (slice_index (map T.num source.now) c)) row.old }
-{
-    for c in 0..width {
-        row[c] = source[c];
-    }
-}
-
 /// The first samples of the row become the visible row `y` of plane `p` of the tile, which has `width` columns.
-fn copy_row<T: Pixel>(row: &mut [T], tile: &TilePicture<T>, p: usize, y: usize, width: usize)
+fn copy_tile_row<T: Pixel>(
+    row: &mut [T],
+    tile: &TilePicture<T>,
+    p: usize,
+    y: usize,
+    width: usize,
+)
     requires tile { AreFrame tile.now.header tile.now.planes }
     requires plane { p < 3 }
     requires in_plane { y < plane_height tile.now.header p }
@@ -61,7 +55,7 @@ fn copy_row<T: Pixel>(row: &mut [T], tile: &TilePicture<T>, p: usize, y: usize, 
     requires row_long { width ≤ length row.old }
     ensures { row.new ≡ paint_row width (λ c _. T.pixel (slice_index (row_in T.num tile.now.header tile.now.planes p y) c)) row.old }
 {
-    copy_samples(row, tile.planes.row(&tile.header, p, y), width);
+    copy_row(row, tile.planes.row(&tile.header, p, y), width);
 }
 
 /// The first rows of the region become those of the visible plane `p` of the tile.
@@ -84,7 +78,7 @@ fn copy_rows<T: Pixel>(
     ensures fits { InStorage output.new }
 {
     for r in 0..height {
-        copy_row(output.row_mut(r), tile, p, r, width);
+        copy_tile_row(output.row_mut(r), tile, p, r, width);
     }
 }
 
