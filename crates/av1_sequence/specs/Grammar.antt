@@ -4,7 +4,7 @@ use Rattle.std.specs.Prelude.{codes, zero, suc, ◌==◌, ℕ, Bool, List, [], �
 use Rattle.std.specs.Int.{w32, from_le_bytes}
 use Rattle.av1_blocks.specs.declared.mc.FilterMode.TheVariants.{REGULAR}
 use Rattle.av1_blocks.specs.declared.mc.TheConstants.FilterMode as filter_modes
-use Rattle.av1_plan.specs.Format.{one, two, four, Format, done, field, any, Input, Reading, on_ok, read}
+use Rattle.av1_plan.specs.Format.{one, two, four, Format, done, ◌>>=◌, field, any, Input, Reading, on_ok, read}
 use Rattle.av1_plan.specs.Format.{read_part, start, ended}
 use Rattle.av1_plan.specs.Grammar.{where_, byte_from, is_side, is_depth, slots}
 use Rattle.av1_plan.specs.declared.header.Header.{Header}

@@ -3,7 +3,7 @@
 use Rattle.std.specs.Prelude.{codes, zero, suc, ◌*◌, ◌-◌, ◌%◌, ◌&&◌, nat_lt, ℕ, Bool, ◌==◌, List, [], ◌∷◌, ◌++◌, length}
 use Rattle.std.specs.Prelude.{Option, Ok}
 use Rattle.std.specs.Int.{w32, from_le_bytes}
-use Rattle.av1_plan.specs.Format.{two, four, Kind, Format, done, field, Input, Reading, on_ok, read, read_part}
+use Rattle.av1_plan.specs.Format.{two, four, Kind, Format, done, ◌>>=◌, field, Input, Reading, on_ok, read, read_part}
 use Rattle.av1_plan.specs.Format.{start, ended}
 use Rattle.av1_plan.specs.Grammar.{where_, byte_from, frame, references}
 use Rattle.av1_plan.specs.declared.header.Header.{Header}
