@@ -14,7 +14,7 @@ use crate::fields::Fields;
 use crate::samples::{Format, Margins};
 use crate::way::{Signed, Way};
 use av1_blocks::{TxSize, TxType, valid_av1_transform};
-use av1_frame::{Pixel};
+use av1_frame::{Coefficient, Pixel};
 use av1_itx::{TxScratch, inverse_transform_add_to};
 use std::alloc::Global;
 
