@@ -1,7 +1,7 @@
 //! How a program starts and ends on the system.
 
 use std::env;
-use std::io::{ErrorKind};
+use std::io::{ErrorKind, Write};
 use std::process::ExitCode;
 
 // The status where the output could not be flushed, as where a write failed.
