@@ -31,6 +31,7 @@
 //! of the rows can leave 32 bits; they wrap there, as in rav1e, and the definitions say so.
 #![tactic(auto)]
 
+mod adding;
 mod adst;
 mod block;
 mod columns;
