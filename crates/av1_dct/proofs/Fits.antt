@@ -43,6 +43,10 @@ pub clamped_same : (b : ℕ) (z : ℤ) → FitsBits b z → clamp_value z b ≡ 
 unfolding clamp_value
 clamped_same b z f = let some = pow_pos (b - 1) in omega (arith, ints, clamps, f.low, f.high)
 
+-- a zero that stands for a number which is 0
+pub zero_clamped : (x z : ℤ) → x ≡ pos 0 → z ≡ pos 0 → x ≡ clamp_value z 16
+zero_clamped x z e f = e ∙ sym (ap (λ v. clamp_value v 16) f ∙ clamped_same 16 (pos 0) (zero_fits 16))
+
 pub whole_same : (z : ℤ) → FitsSigned w32 z → clamp_value z 32 ≡ z
 whole_same z f = clamped_same 32 z (record { low = omega (arith, ints, f.sfits); high = omega (arith, ints, f.sfits) })
 

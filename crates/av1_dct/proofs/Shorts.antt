@@ -59,6 +59,11 @@ written_out n P xs count = subst P (sym (by_index_is n (λ i. get_or xs i 0) xs 
 
 -- ---- one lane
 
+pub short_zeros : (i : ℕ) → i < 8 → lane_of_short (map (to_z w16) (replicate 8 0)) i ≡ pos 0
+unfolding lane_of_short
+short_zeros =
+    each_below 8 (λ i. lane_of_short (map (to_z w16) (replicate 8 0)) i ≡ pos 0) (refl, (refl, (refl, (refl, (refl, (refl, (refl, (refl, tt))))))))
+
 short_fits32 : (n : ℕ) → n < 2 ^ 16 → FitsSigned w32 (to_z w16 n)
 short_fits32 n h = let f : FitsSigned w16 (to_z w16 n) = omega (arith, ints) in record { sfits = omega (arith, f.sfits) }
 

@@ -1,6 +1,6 @@
 //! Eight lanes of 16 bits, in which transforms run whose sums are clamped to 16 bits.
 
-ghost use Rattle.std.specs.Prelude.{◌≡◌, refl, ℕ, ◌+◌, ◌-◌, ◌*◌, ◌^◌, ◌<◌, ◌≤◌, nat_le, nat_lt, ◌&&◌, if◌then◌else◌, pos, neg_ℤ, ◌+ℤ◌, ◌-ℤ◌, length};
+ghost use Rattle.std.specs.Prelude.{◌≡◌, refl, true, ℕ, ◌+◌, ◌-◌, ◌*◌, ◌^◌, ◌<◌, ◌≤◌, nat_le, nat_lt, ◌&&◌, if◌then◌else◌, pos, neg_ℤ, ◌+ℤ◌, ◌-ℤ◌, length};
 ghost use Rattle.av1_dct.specs.Arithmetic.{at, clamp_value, FitsBits};
 ghost use Rattle.av1_dct.specs.Operations.{half_btf};
 ghost use Rattle.av1_dct.specs.Word.{lane_of_pair, lane_of_short, lane_of_vector};
@@ -57,9 +57,17 @@ fn clamp_wide(v: i32x8, range: usize) -> i16x8
     cut.simd_min(i16x8::splat(top)).simd_max(i16x8::splat(low))
 }
 
+// Whether each number of a word is 0.
+#[inline(always)]
+pub(crate) fn is_zero(word: i32x8) -> bool
+    ensures { result ≡ true → (i : ℕ) → i < 8 → lane_of_vector word i ≡ pos 0 }
+{
+    word.to_array() == [0; 8]
+}
+
 // The eight numbers from place `start` on.
 #[inline(always)]
-fn eight_numbers(values: &[i32], start: usize) -> i32x8
+pub(crate) fn eight_numbers(values: &[i32], start: usize) -> i32x8
     requires { start + 8 ≤ length values.now }
     ensures { (i : ℕ) → i < 8 → lane_of_vector result i ≡ at values.now (start + i) }
 {
@@ -72,6 +80,10 @@ fn eight_numbers(values: &[i32], start: usize) -> i32x8
 
 /// Eight narrow lanes, which are filled from words or from a block, and written to them.
 pub(crate) trait Short: Butterfly {
+    /// Zeros.
+    fn none() -> Self
+        ensures { (i : ℕ) → i < 8 → Self.lane_of result i ≡ pos 0 };
+
     /// Each number of a word, clamped to 16 bits.
     fn cut(word: i32x8) -> Self
         ensures { (i : ℕ) → i < 8 → Self.lane_of result i ≡ clamp_value (lane_of_vector word i) 16 };
@@ -181,6 +193,13 @@ impl Butterfly for ShortLanes {
 }
 
 impl Short for ShortLanes {
+    #[inline(always)]
+    fn none() -> ShortLanes {
+        ShortLanes {
+            lanes: i16x8::splat(0),
+        }
+    }
+
     #[inline(always)]
     fn cut(word: i32x8) -> ShortLanes {
         let _lanes = word.to_array();

@@ -20,7 +20,7 @@ pub powers : (size : TxSize) → (tx_width size ≡ 2 * 2 ^ row_power size) × (
 powers size = elim size as (λ t. (tx_width t ≡ 2 * 2 ^ row_power t) × (tx_height t ≡ 2 * 2 ^ column_power t)) [ TX_4X4 ↦ (refl, refl) | _ ↦ (refl, refl) ]
 
 -- widths are multiples of four, and of eight where they are so great
-groups : (size : TxSize) → (4 * (tx_width size / 4) ≡ tx_width size) × (8 ≤ tx_width size → 8 * (tx_width size / 8) ≡ tx_width size) × (tx_width size ≤ 64)
+pub groups : (size : TxSize) → (4 * (tx_width size / 4) ≡ tx_width size) × (8 ≤ tx_width size → 8 * (tx_width size / 8) ≡ tx_width size) × (tx_width size ≤ 64)
 groups size =
     elim size as (λ t. (4 * (tx_width t / 4) ≡ tx_width t) × (8 ≤ tx_width t → 8 * (tx_width t / 8) ≡ tx_width t) × (tx_width t ≤ 64))
     [ TX_4X4 ↦ (refl, (λ h. omega arith), omega arith) | _ ↦ (refl, (λ h. omega arith), omega arith) ]

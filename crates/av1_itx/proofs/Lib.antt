@@ -1,4 +1,5 @@
 pub mod Fills
+pub mod Raised
 pub mod Turns
 pub mod Blocks
 pub mod Order

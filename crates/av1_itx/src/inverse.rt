@@ -1,27 +1,28 @@
 //! The inverse transform of a block, added to its samples.
 
-ghost use Rattle.std.specs.Prelude.{◌≡◌, ℕ, ◌+◌, ◌-◌, ◌*◌, ◌^◌, ◌<◌, ◌≤◌, IfOk, IsTrue, OnOk, OnErr, ℤ, pos, ◌+ℤ◌, length, map, vec_len};
+ghost use Rattle.std.specs.Prelude.{◌≡◌, ℕ, ◌+◌, ◌-◌, ◌*◌, ◌^◌, ◌<◌, ◌≤◌, ◌⊎◌, IfOk, IsTrue, OnOk, OnErr, ℤ, pos, ◌+ℤ◌, length, map, vec_len};
 ghost use Rattle.av1_blocks.specs.declared.transform.TxSize.TheVariants.{TX_4X4};
 ghost use Rattle.av1_blocks.specs.declared.transform.TxType.TheVariants.{WHT_WHT};
 ghost use Rattle.av1_blocks.specs.Depths.{IsDepth};
 ghost use Rattle.av1_blocks.specs.Transforms.{tx_width, tx_height, coded, coded_area, valid_av1_transform};
 ghost use Rattle.av1_dct.specs.Arithmetic.{at, FitsBits};
 ghost use Rattle.av1_lists.specs.Counts.{raised};
-ghost use Rattle.av1_frame.specs.Arithmetic.{clip, round_shift};
+ghost use Rattle.av1_frame.specs.Arithmetic.{clip};
 ghost use Rattle.av1_frame.specs.Areas.{AreRows};
-ghost use Rattle.av1_frame.specs.Samples.{paint, paint_row};
+ghost use Rattle.av1_frame.specs.Samples.{paint};
 ghost use Rattle.av1_frame.specs.Regions.{InStorage, painted};
 ghost use Rattle.av1_itx.specs.LaneGroups.{lane_groups};
 ghost use Rattle.av1_itx.specs.Residue.{column_shift, residue};
 ghost use Rattle.av1_itx.specs.Scaffolding.{AreCoefficients, IsPlaceFor, IsSingleBlock};
 
+use crate::adding::{add_all, raise_all};
 use crate::block::Block;
 use crate::columns::{column_pass, column_range_of};
 use crate::lanes::{CosineColumns, LANES, Lanes, Uncounted};
 use crate::rows::row_pass;
 use crate::single::{first_of, is_single, top_value};
 use av1_blocks::{OutOfMemory, TxSize, TxType};
-use av1_frame::{Pixel, PlaneRegionMut, StoredArea, clip, round_shift};
+use av1_frame::{Pixel, PlaneRegionMut, StoredArea, round_shift};
 use std::alloc::Global;
 
 /// The values of one block between its passes, its scaled coefficients, and lines of eight columns.
@@ -75,102 +76,10 @@ impl TxRoom {
     }
 }
 
-// The sample v with z, rounded, added.
-fn add_one<T: Pixel>(v: T, z: i32, shift: usize, bd: usize) -> T
-    requires depth { bd ≤ T.BITS }
-    requires shift_in { shift ≤ 4 }
-    requires fits { FitsBits 24 z }
-    ensures { result ≡ T.pixel (clip bd (pos (T.num v) +ℤ round_shift z shift)) }
-{
-    clip(v.to_i32() + round_shift(z, shift), bd)
-}
-
-// Adds the values from `start` on to the row's first w samples.
-#[tactic(auto, using(av1_frame::proofs::Paint::row_repainting))]
-fn add_row<T: Pixel>(
-    samples: &mut [T],
-    buffer: &[i32],
-    start: usize,
-    w: usize,
-    shift: usize,
-    bd: usize,
-)
-    requires row_long { w ≤ length samples.old }
-    requires buffer_long { start + w ≤ length buffer.now }
-    requires depth { bd ≤ T.BITS }
-    requires shift_in { shift ≤ 4 }
-    requires fit { (c : ℕ) → c < w → FitsBits 24 (at buffer.now (start + c)) }
-    ensures { samples.new ≡ paint_row w (λ c v. T.pixel (clip bd (pos (T.num v) +ℤ round_shift (at buffer.now (start + c)) shift))) samples.old }
-{
-    for c in 0..w {
-        samples[c] = add_one(samples[c], buffer[start + c], shift, bd);
-    }
-}
-
-// Adds the values, row by row, to the samples of the rectangle.
-#[tactic(auto, using(av1_frame::proofs::Paint::rectangle_painting))]
-fn add_rows<T: Pixel>(
-    samples: &mut [T],
-    stride: usize,
-    area: StoredArea,
-    buffer: &[i32],
-    shift: usize,
-    bd: usize,
-)
-    requires rows { AreRows stride area (length samples.old) }
-    requires buffer_long { length buffer.now ≡ area.height * area.width }
-    requires depth { bd ≤ T.BITS }
-    requires shift_in { shift ≤ 4 }
-    requires fit { (r c : ℕ) → r < area.height → c < area.width → FitsBits 24 (at buffer.now (r * area.width + c)) }
-    ensures { samples.new ≡ paint stride area (λ r c v. T.pixel (clip bd (pos (T.num v) +ℤ round_shift (at buffer.now (r * area.width + c)) shift)))
-        samples.old }
-{
-    let width = area.width;
-    for r in 0..area.height {
-        let (_, row) = samples.split_at_mut((area.y + r) * stride + area.x);
-        add_row(row, buffer, r * width, width, shift, bd);
-    }
-}
-
-// Adds one value to the row's first w samples.
-#[tactic(auto, using(av1_frame::proofs::Paint::row_repainting))]
-fn raise_row<T: Pixel>(samples: &mut [T], z: i32, w: usize, shift: usize, bd: usize)
-    requires row_long { w ≤ length samples.old }
-    requires depth { bd ≤ T.BITS }
-    requires shift_in { shift ≤ 4 }
-    requires fits { FitsBits 24 z }
-    ensures { samples.new ≡ paint_row w (λ _ v. T.pixel (clip bd (pos (T.num v) +ℤ round_shift z shift))) samples.old }
-{
-    for c in 0..w {
-        samples[c] = add_one(samples[c], z, shift, bd);
-    }
-}
-
-// Adds one value to the samples of the rectangle.
-#[tactic(auto, using(av1_frame::proofs::Paint::rectangle_painting))]
-fn raise_rows<T: Pixel>(
-    samples: &mut [T],
-    stride: usize,
-    area: StoredArea,
-    z: i32,
-    shift: usize,
-    bd: usize,
-)
-    requires rows { AreRows stride area (length samples.old) }
-    requires depth { bd ≤ T.BITS }
-    requires shift_in { shift ≤ 4 }
-    requires fits { FitsBits 24 z }
-    ensures { samples.new ≡ paint stride area (λ _ _ v. T.pixel (clip bd (pos (T.num v) +ℤ round_shift z shift))) samples.old }
-{
-    for r in 0..area.height {
-        let (_, row) = samples.split_at_mut((area.y + r) * stride + area.x);
-        raise_row(row, z, area.width, shift, bd);
-    }
-}
-
 fn column_shift_of(tx_type: TxType) -> usize
     ensures value { result ≡ column_shift tx_type }
     ensures small { result ≤ 4 }
+    ensures one_of { (result ≡ 0) ⊎ (result ≡ 4) }
 {
     if matches!(tx_type, TxType::WHT_WHT) {
         0
@@ -206,8 +115,8 @@ fn add_single<T: Pixel, R: CosineColumns>(
     let top = top_value(first_of(input), block);
     let groups = block.tx_size.width() / LANES;
     let value = lanes.run_single(top, groups, column_range_of(block.bd));
-    let shift = column_shift_of(block.tx_type);
-    raise_rows(samples, place.stride, place.area, value, shift, block.bd);
+    let residue = round_shift(value, column_shift_of(block.tx_type));
+    raise_all(samples, place.stride, place.area, residue, block.bd);
 }
 
 // The inverse transform over a buffer of just the block's size.
@@ -232,7 +141,7 @@ fn add_block<T: Pixel, R: CosineColumns>(
     row_pass(input, scaled, buffer, block);
     column_pass(buffer, lanes, block);
     let shift = column_shift_of(block.tx_type);
-    add_rows(samples, place.stride, place.area, buffer, shift, block.bd);
+    add_all(samples, place.stride, place.area, buffer, shift, block.bd);
 }
 
 // The same over a whole buffer, which a block with no coefficient but its first doesn't need.

@@ -31,6 +31,7 @@
 //! rav1e, and the definitions say so.
 #![tactic(auto)]
 
+mod adding;
 mod adst;
 mod block;
 mod columns;

@@ -1,4 +1,4 @@
-use Rattle.std.proofs.Common.{ℕ, ◌≡◌, ◌+◌, ◌*◌, ◌^◌, arith, sym, ap, ◌∙◌}
+use Rattle.std.proofs.Common.{ℕ, ◌+◌, ◌*◌, ◌^◌, arith, sym, ap, ◌∙◌}
 use Rattle.av1_dct.specs.Arithmetic.{at, clamp_value}
 use Rattle.av1_dct.specs.Columns.{column_of}
 use Rattle.av1_dct.specs.InPlace.{cut_place}
@@ -12,10 +12,13 @@ returns-then-n-first g c = λ i q h lt room. c.requires.before i q h (omega (ari
 pub loop-q-init : goal.loop-q-init
 loop-q-init g c = λ i p h lt room. c.requires.before i p h (omega arith) room
 
-pub read-requires : goal.read-requires
-read-requires g c = let room =
-    row_room c.reversed_place-row.result (c.args.start + 8) c.args.stride (2 * 2 ^ g.row.K) c.reversed_place-row.ensures.bound c.requires.columns_in
+pub row_word-requires-clause-room : goal.row_word-requires-clause-room
+row_word-requires-clause-room g c =
+    let room = row_room c.reversed_place-row.result (c.args.start + 8) c.args.stride (2 * 2 ^ g.row.K) c.reversed_place-row.ensures.bound c.requires.columns_in
     in omega (arith, room, c.requires.block_len)
+
+pub row_word-requires-clause-zeros : goal.row_word-requires-clause-zeros
+row_word-requires-clause-zeros g c = λ le i h. c.requires.zeros c.reversed_place-row.result i le c.reversed_place-row.ensures.bound h
 
 pub loop-q-preserved : goal.loop-q-preserved
 loop-q-preserved g c = λ i p h lt room.
@@ -23,10 +26,9 @@ loop-q-preserved g c = λ i p h lt room.
     let old = c.args.block.now in
     let row = c.reversed_place-row.result in
     let zs = column_of n c.args.stride (c.args.start + i) old in
-    let e : row * c.args.stride + c.args.start + i ≡ row * c.args.stride + (c.args.start + i) = omega arith in
-    column_fill g.S.Butterfly.lane_of i (cut_place g.row.K zs) c.loop-q.words _ c.read.result (omega arith)
+    column_fill g.S.Butterfly.lane_of i (cut_place g.row.K zs) c.loop-q.words _ c.row_word.result (omega arith)
     (λ y below. c.loop-q.invariant i y h (omega arith) (omega arith))
-    (c.read.ensures i h ∙ ap (λ (m : ℕ). clamp_value (at old m) 16) e
+    (c.row_word.ensures i h
     ∙ ap (λ z. clamp_value z 16) (sym (at-by_index n (λ r. at old (r * c.args.stride + (c.args.start + i))) row c.reversed_place-row.ensures.bound))
     ∙ ap (λ (r : ℕ). clamp_value (at zs r) 16) c.reversed_place-row.ensures.value) p (omega arith)
 

@@ -1,4 +1,4 @@
-use Rattle.std.proofs.Common.{arith, ℕ, ◌<◌, ◌+◌, ◌*◌, ◌∙◌, ap, sym, subst, pos, map, ℤ, ◌+ℤ◌}
+use Rattle.std.proofs.Common.{arith, ℕ, ◌≡◌, ◌≤◌, ◌<◌, ◌+◌, ◌*◌, ◌/◌, ◌∙◌, ap, sym, subst, pos, map, ℤ, ◌+ℤ◌}
 use Rattle.av1_blocks.specs.Transforms.{tx_width, tx_height}
 use Rattle.av1_dct.specs.Arithmetic.{at, FitsBits}
 use Rattle.av1_frame.specs.Arithmetic.{clip, round_shift}
@@ -6,7 +6,7 @@ use Rattle.av1_frame.specs.Samples.{paint}
 use Rattle.av1_frame.proofs.Paint.{paint_same}
 use Rattle.av1_dct.proofs.Fits.{clamp_value-fits}
 use Rattle.av1_itx.specs.Residue.{column_range}
-use Rattle.av1_itx.proofs.Handed.{columns_are}
+use Rattle.av1_itx.proofs.Handed.{columns_are, groups}
 use Rattle.av1_itx.proofs.Passes.{column-fits, residue_is}
 use Rattle.av1_itx.proofs.inverse.add_block.Goals as goal
 
@@ -16,8 +16,17 @@ column_pass-requires-clause-columns g c =
     columns_are c.args.block c.row_pass.new.buffer c.requires.block.depth c.requires.block.columns (c.row_pass.auto.buffer ∙ c.requires.buffer_len)
     (λ r q hr hq. subst P (sym (c.row_pass.ensures r q hr hq)) (clamp_value-fits _ (column_range c.args.block.bd) (omega arith)))
 
-pub add_rows-requires-clause-fit : goal.add_rows-requires-clause-fit
-add_rows-requires-clause-fit g c = λ r q hr hq.
+pub add_all-requires-clause-fours : goal.add_all-requires-clause-fours
+add_all-requires-clause-fours g c = subst (λ n. 4 * (n / 4) ≡ n) (sym c.requires.place.width) (groups c.args.block.tx_size).0
+
+pub add_all-requires-clause-eights : goal.add_all-requires-clause-eights
+add_all-requires-clause-eights g c = subst (λ n. 8 ≤ n → 8 * (n / 8) ≡ n) (sym c.requires.place.width) (groups c.args.block.tx_size).1
+
+pub add_all-requires-clause-depths : goal.add_all-requires-clause-depths
+add_all-requires-clause-depths g c = c.requires.block.depth.0
+
+pub add_all-requires-clause-fit : goal.add_all-requires-clause-fit
+add_all-requires-clause-fit g c = λ r q hr hq.
     let size = c.args.block.tx_size in
     let P : ℤ → Type 0 = λ z. FitsBits 24 z in
     let Q : ℕ → Type 0 = λ n. FitsBits 24 (at c.column_pass.new.buffer (r * n + q)) in
@@ -36,7 +45,7 @@ returns-clause-painted g c =
     let cs = map g.T.Coeff.Coefficient.val c.args.input.now in
     let buf = c.column_pass.new.buffer in
     let put_on = λ (z : ℤ) (v : _). g.T.Pixel.pixel (clip c.args.block.bd (pos (g.T.Pixel.num v) +ℤ z)) in
-    c.add_rows.ensures
+    c.add_all.ensures
     ∙ ap (λ n. paint c.args.place.stride a (λ r q v. put_on (round_shift (at buf (r * n + q)) c.column_shift_of-shift.result) v) c.args.samples.now)
     c.requires.place.width
     ∙ ap (λ n. paint c.args.place.stride a (λ r q v. put_on (round_shift (at buf (r * tx_width size + q)) n) v) c.args.samples.now)

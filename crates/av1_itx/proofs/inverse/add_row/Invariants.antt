@@ -1,9 +1,0 @@
-use Rattle.std.proofs.Common.{◌≡◌, pos, ◌+ℤ◌, ◌+◌}
-use Rattle.av1_frame.specs.Arithmetic.{clip, round_shift}
-use Rattle.av1_frame.specs.Samples.{paint_row}
-use Rattle.av1_dct.specs.Arithmetic.{at}
-use Rattle.av1_itx.proofs.inverse.add_row.Given as goal
-
-abbrev pub invariant-loop-c : goal.invariant-loop-c
-invariant-loop-c g l =
-    l.samples ≡ paint_row l.c (λ c v. g.T.Pixel.pixel (clip l.bd (pos (g.T.Pixel.num v) +ℤ round_shift (at l.buffer (l.start + c)) l.shift))) l.initial.samples
