@@ -1,5 +1,5 @@
 -- The rows that a region lends, to predict a block in them.
-use Rattle.std.proofs.Common.{ℕ, ◌≡◌, List, length, subst, sym}
+use Rattle.std.proofs.Common.{ℕ, ◌≡◌, List, length}
 use Rattle.av1_frame.specs.declared.plane_region.PlaneRegionMut.{PlaneRegionMut}
 use Rattle.av1_frame.specs.declared.plane_region.StoredArea.{StoredArea}
 use Rattle.av1_frame.specs.Areas.{AreRows}

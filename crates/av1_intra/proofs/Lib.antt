@@ -8,6 +8,7 @@ pub mod Ranges
 pub mod Places
 pub mod RowParts
 pub mod Lines
+pub mod PaintedColumns
 pub mod ModeAngles
 pub mod Means
 pub mod Weighted

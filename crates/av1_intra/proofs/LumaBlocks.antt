@@ -14,6 +14,7 @@ use Rattle.av1_edges.specs.Edges.{region_sample}
 use Rattle.av1_lists.proofs.Lists.{numbers_are}
 use Rattle.av1_intra.specs.Sides.{numbers}
 use Rattle.av1_intra.proofs.RowParts.{painted_front}
+use Rattle.av1_intra.proofs.RowReads.{entry_painted}
 use Rattle.av1_intra.specs.Dc.{mean}
 use Rattle.av1_intra.specs.ChromaFromLuma.{covered, two_rows, luma_at, lumas, luma_difference, with_rows, columns_read, rows_read}
 use Rattle.av1_intra.specs.declared.luma.ChromaBlock.{ChromaBlock}
@@ -112,11 +113,6 @@ painted_twice w f g s t e =
       | inl b ↦ (let q = get_or-update (λ c v. cond (ltb c w) (g c v) v) s k d l in grind (arith, nat_tests))
       | inr b ↦ (let q = get_or-update (λ c v. cond (ltb c w) (g c v) v) s k d l in grind (arith, nat_tests))
     ])
-
--- the entry at k of a painted list
-pub entry_painted : (w k : ℕ) (g : ℕ → ℤ → ℤ) (s t : List ℤ) (d : ℤ) → t ≡ paint_row w g s → k < w → k < length s → get_or t k d ≡ g k (get_or s k d)
-unfolding paint_row
-entry_painted w k g s t d e h l = ap (λ u. get_or u k d) e ∙ (get_or-update _ s k d l ∙ grind (arith, nat_tests))
 
 -- ---- a block
 

@@ -25,6 +25,12 @@ read_ahead num i k g s t x y e h l r n =
     let a : get_or t k x ≡ get_or s k x = ap (λ u. get_or u k x) e ∙ (get_or-update _ s k x l ∙ grind (arith, nat_tests)) in
     n ∙ ap num (r ∙ a) ∙ sym (get_or-map num s k x 0 l)
 
+-- an entry that is painted
+pub entry_painted : {X : Type 0} (w k : ℕ) (g : ℕ → X → X) (s t : List X) (d : X) → t ≡ paint_row w g s → k < w → k < length s →
+    get_or t k d ≡ g k (get_or s k d)
+unfolding paint_row
+entry_painted w k g s t d e h l = ap (λ u. get_or u k d) e ∙ (get_or-update _ s k d l ∙ grind (arith, nat_tests))
+
 -- s with its samples past a and below b turned to g; a loop that goes down paints so
 unfoldable pub painted_past : {X : Type 0} → ℕ → ℕ → (ℕ → X → X) → List X → List X
 painted_past a b g s = update (λ k v. cond (ltb a k && ltb k b) (g k v) v) s

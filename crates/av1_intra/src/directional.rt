@@ -14,7 +14,8 @@ ghost use Rattle.av1_intra.specs.Directional.{block_at, directional};
 ghost use Rattle.av1_intra.specs.Blocks.{IsRectangle};
 
 use crate::angle::dr_intra_derivative;
-use crate::interpolation::{Slopes, rows_below_90, rows_between, rows_past_180};
+use crate::columns::{Slopes, rows_between};
+use crate::interpolation::{rows_below_90, rows_past_180};
 use crate::neighbours::IntraEdgeFilterParameters;
 use crate::prepared_side::{PreparedSide, prepare_above, prepare_left};
 use av1_frame::{Pixel, PlaneRegionMut, StoredArea};

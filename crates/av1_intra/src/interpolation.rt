@@ -4,26 +4,15 @@ ghost use Rattle.std.specs.Prelude.{◌≡◌, ◌+◌, ◌-◌, ◌*◌, ◌/�
 ghost use Rattle.av1_frame.specs.Areas.{AreRows};
 ghost use Rattle.av1_frame.specs.Samples.{paint, paint_row};
 ghost use Rattle.av1_intra.specs.Sides.{entries};
-ghost use Rattle.av1_intra.specs.Angles.{ArePair};
-ghost use Rattle.av1_intra.specs.Directional.{at, below_90, between};
+ghost use Rattle.av1_intra.specs.Directional.{at, below_90};
 
 use crate::prepared_side::PreparedSide;
 use av1_frame::{Pixel, StoredArea, clip, fill_row};
 
-/// How far the lines of an angle between 90 and 180 move along each side for each sample away from it, in 64ths of a
-/// sample.
-#[derive(Clone, Copy)]
-pub(crate) struct Slopes {
-    /// Along the side above.
-    pub(crate) dx: usize,
-    /// Along the left side.
-    pub(crate) dy: usize,
-}
-
 /// The samples of a row from the place on that its line meets at `n / 64` past the corner. `UPSAMPLING` is that of the
 /// side, known to the compiler.
 #[tactic(auto, using(av1_frame::proofs::Paint::row_painting), unfolding(crate::specs::Directional::at))]
-fn interpolate_by<T: Pixel, const UPSAMPLING: usize>(
+pub(crate) fn interpolate_by<T: Pixel, const UPSAMPLING: usize>(
     row: &mut [T],
     side: &PreparedSide,
     n: usize,
@@ -44,7 +33,12 @@ fn interpolate_by<T: Pixel, const UPSAMPLING: usize>(
 }
 
 /// The samples of a row from the place on that its line meets at `n / 64` past the corner.
-fn interpolate_row<T: Pixel>(row: &mut [T], side: &PreparedSide, n: usize, bit_depth: usize)
+pub(crate) fn interpolate_row<T: Pixel>(
+    row: &mut [T],
+    side: &PreparedSide,
+    n: usize,
+    bit_depth: usize,
+)
     requires upsampling { side.now.upsampling ≤ 1 }
     requires n { n < 2 ^ 20 }
     requires short { length row.old ≤ 64 }
@@ -84,63 +78,6 @@ fn row_below_90<T: Pixel>(
     interpolate_row(&mut row[..count], above, n, bit_depth);
     let end = clip(i32::from(above.numbers[last]), bit_depth);
     fill_row(&mut row[count..width], end, width - count);
-}
-
-/// The samples of row `i` that the left side gives at an angle between 90 and 180.
-#[tactic(auto, using(av1_frame::proofs::Paint::row_painting))]
-fn row_from_left<T: Pixel>(
-    row: &mut [T],
-    left: &PreparedSide,
-    dy: usize,
-    i: usize,
-    bit_depth: usize,
-)
-    requires upsampling { left.now.upsampling ≤ 1 }
-    requires dy { dy ≤ 4096 }
-    requires i { i < 64 }
-    requires short { length row.old ≤ 64 }
-    requires inside { length row.old * dy ≤ 64 * (i + 1) }
-    requires depth { bit_depth ≤ T.BITS }
-    ensures { row.new ≡ paint_row (length row.old)
-        (λ j _. T.pixel (at bit_depth (entries left.now.numbers) left.now.upsampling (64 * (i + 1) - (j + 1) * dy) 0)) row.old }
-{
-    for j in 0..row.len() {
-        let n = 64 * (i + 1) - (j + 1) * dy;
-        row[j] = left.interpolated(n, 0, bit_depth);
-    }
-}
-
-/// The first `width` samples of row `i` at an angle between 90 and 180: the first of them from the left side, the
-/// others from the side above.
-fn row_between<T: Pixel>(
-    row: &mut [T],
-    above: &PreparedSide,
-    left: &PreparedSide,
-    slopes: Slopes,
-    i: usize,
-    width: usize,
-    bit_depth: usize,
-)
-    requires row_long { width ≤ length row.old }
-    requires width { width ≤ 64 }
-    requires i { i < 64 }
-    requires above_upsampling { above.now.upsampling ≤ 1 }
-    requires left_upsampling { left.now.upsampling ≤ 1 }
-    requires pair { ArePair slopes.dx slopes.dy }
-    requires depth { bit_depth ≤ T.BITS }
-    ensures { row.new ≡
-        paint_row width
-        (λ j _.
-        T.pixel (between bit_depth (entries above.now.numbers) above.now.upsampling (entries left.now.numbers) left.now.upsampling slopes.dx slopes.dy i j))
-        row.old }
-{
-    let line = (i + 1) * slopes.dx;
-    let split = width.min((line - 1) / 64);
-    row_from_left(&mut row[..split], left, slopes.dy, i, bit_depth);
-    if split < width {
-        let n = 64 * (split + 1) - line;
-        interpolate_row(&mut row[split..width], above, n, bit_depth);
-    }
 }
 
 /// The first `width` samples of row `i` at an angle past 180.
@@ -193,36 +130,6 @@ pub(crate) fn rows_below_90<T: Pixel>(
         let n = (i + 1) * dx + 64;
         let (_, row) = samples.split_at_mut((area.y + i) * stride + area.x);
         row_below_90(row, above, sides, n, area.width, bit_depth);
-    }
-}
-
-/// The samples of a rectangle, by an angle between 90 and 180 of these slopes.
-#[tactic(auto, using(av1_frame::proofs::Paint::rectangle_painting))]
-pub(crate) fn rows_between<T: Pixel>(
-    samples: &mut [T],
-    stride: usize,
-    area: StoredArea,
-    above: &PreparedSide,
-    left: &PreparedSide,
-    slopes: Slopes,
-    bit_depth: usize,
-)
-    requires rows { AreRows stride area (length samples.old) }
-    requires width { area.width ≤ 64 }
-    requires height { area.height ≤ 64 }
-    requires above_upsampling { above.now.upsampling ≤ 1 }
-    requires left_upsampling { left.now.upsampling ≤ 1 }
-    requires pair { ArePair slopes.dx slopes.dy }
-    requires depth { bit_depth ≤ T.BITS }
-    ensures { samples.new ≡
-        paint stride area
-        (λ i j _.
-        T.pixel (between bit_depth (entries above.now.numbers) above.now.upsampling (entries left.now.numbers) left.now.upsampling slopes.dx slopes.dy i j))
-        samples.old }
-{
-    for i in 0..area.height {
-        let (_, row) = samples.split_at_mut((area.y + i) * stride + area.x);
-        row_between(row, above, left, slopes, i, area.width, bit_depth);
     }
 }
 

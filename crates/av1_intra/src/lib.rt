@@ -30,6 +30,7 @@
 mod angle;
 mod by_mode;
 mod chroma_from_luma;
+mod columns;
 mod dc;
 mod directional;
 mod edge_filter;

@@ -1,0 +1,248 @@
+//! Rectangles at an angle between 90 and 180: the part of the left side by columns, that of the side above by rows.
+
+ghost use Rattle.std.specs.Prelude.{◌≡◌, ◌+◌, ◌-◌, ◌*◌, ◌^◌, ◌<◌, ◌≤◌, ℕ, length, nat_le, slice_index, if◌then◌else◌};
+ghost use Rattle.av1_frame.specs.Areas.{AreRows};
+ghost use Rattle.av1_frame.specs.Samples.{paint, paint_row};
+ghost use Rattle.av1_intra.specs.Sides.{entries};
+ghost use Rattle.av1_intra.specs.Angles.{ArePair};
+ghost use Rattle.av1_intra.specs.Directional.{at, between};
+
+use crate::interpolation::{interpolate_by, interpolate_row};
+use crate::prepared_side::PreparedSide;
+use av1_frame::{Pixel, StoredArea};
+
+/// How far the lines of an angle between 90 and 180 move along each side for each sample away from it, in 64ths of a
+/// sample.
+#[derive(Clone, Copy)]
+pub(crate) struct Slopes {
+    /// Along the side above.
+    pub(crate) dx: usize,
+    /// Along the left side.
+    pub(crate) dy: usize,
+}
+
+/// The first `width` samples of a row, as far as the side above gives them: the line of column `j` meets it at
+/// `64 * (j + 1) - line` 64ths of a place past the corner, or misses it. The others stay.
+fn row_from_above<T: Pixel>(
+    row: &mut [T],
+    above: &PreparedSide,
+    line: usize,
+    width: usize,
+    bit_depth: usize,
+)
+    requires row_long { width ≤ length row.old }
+    requires width { width ≤ 64 }
+    requires some { 0 < line }
+    requires inside { line ≤ 64 * width }
+    requires upsampling { above.now.upsampling ≤ 1 }
+    requires depth { bit_depth ≤ T.BITS }
+    ensures { row.new ≡
+        paint_row width
+        (λ j v. if nat_le line (64 * (j + 1)) then T.pixel (at bit_depth (entries above.now.numbers) above.now.upsampling (64 * (j + 1) - line) 0) else v)
+        row.old }
+{
+    let split = (line - 1) / 64;
+    let n = 64 * (split + 1) - line;
+    interpolate_row(&mut row[split..width], above, n, bit_depth);
+}
+
+/// The samples of a rectangle that the side above gives at an angle between 90 and 180, whose lines move `dx` 64ths
+/// along it for each row. The others stay.
+#[tactic(auto, using(av1_frame::proofs::Paint::rectangle_painting))]
+fn rows_from_above<T: Pixel>(
+    samples: &mut [T],
+    stride: usize,
+    area: StoredArea,
+    above: &PreparedSide,
+    dx: usize,
+    bit_depth: usize,
+)
+    requires rows { AreRows stride area (length samples.old) }
+    requires width { area.width ≤ 64 }
+    requires height { area.height ≤ 64 }
+    requires upsampling { above.now.upsampling ≤ 1 }
+    requires some { 0 < dx }
+    requires few { dx ≤ 4096 }
+    requires depth { bit_depth ≤ T.BITS }
+    ensures { samples.new ≡
+        paint stride area
+        (λ i j v.
+        if nat_le ((i + 1) * dx) (64 * (j + 1))
+        then T.pixel (at bit_depth (entries above.now.numbers) above.now.upsampling (64 * (j + 1) - (i + 1) * dx) 0) else v)
+        samples.old }
+{
+    let rows = area.height.min(64 * area.width / dx);
+    for i in 0..rows {
+        let (_, row) = samples.split_at_mut((area.y + i) * stride + area.x);
+        row_from_above(row, above, (i + 1) * dx, area.width, bit_depth);
+    }
+}
+
+/// The first `4 * fours` numbers of a row, from the place on that its line meets at `n / 64` past the corner: four at a
+/// time, which the compiler makes at once. `UPSAMPLING` is that of the side, known to the compiler.
+fn fours_by<const UPSAMPLING: usize>(
+    row: &mut [u16],
+    side: &PreparedSide,
+    n: usize,
+    fours: usize,
+    bit_depth: usize,
+)
+    requires long { 4 * fours ≤ length row.old }
+    requires upsampling { UPSAMPLING ≤ 1 }
+    requires inside { n + 256 * fours ≤ 8192 }
+    requires depth { bit_depth ≤ 16 }
+    ensures { row.new ≡ paint_row (4 * fours) (λ k _. at bit_depth (entries side.now.numbers) UPSAMPLING n k) row.old }
+{
+    for i in 0..fours {
+        let first = 4 * i;
+        interpolate_by::<u16, UPSAMPLING>(
+            &mut row[first..first + 4],
+            side,
+            n + 64 * first,
+            bit_depth,
+        );
+    }
+}
+
+/// The samples of a rectangle of one column become those of the first numbers of `column`.
+#[tactic(auto, using(av1_frame::proofs::Paint::rectangle_painting))]
+fn write_column<T: Pixel>(samples: &mut [T], stride: usize, area: StoredArea, column: &[u16])
+    requires rows { AreRows stride area (length samples.old) }
+    requires column { area.width ≡ 1 }
+    requires long { area.height ≤ length column.now }
+    requires fits { (i : ℕ) → i < area.height → slice_index column.now i < 2 ^ T.BITS }
+    ensures { samples.new ≡ paint stride area (λ i _ _. T.pixel (slice_index column.now i)) samples.old }
+{
+    for i in 0..area.height {
+        let (_, rest) = samples.split_at_mut((area.y + i) * stride + area.x);
+        rest[0] = T::from_u32(u32::from(column[i]));
+    }
+}
+
+/// The samples of a rectangle of one column, from the place on that its line meets at `n / 64` past the corner: in a
+/// column each lies as far between two entries as any other. `held` is room for their numbers.
+fn column_by<T: Pixel, const UPSAMPLING: usize>(
+    samples: &mut [T],
+    stride: usize,
+    area: StoredArea,
+    held: &mut [u16; 64],
+    left: &PreparedSide,
+    n: usize,
+    bit_depth: usize,
+)
+    requires rows { AreRows stride area (length samples.old) }
+    requires column { area.width ≡ 1 }
+    requires short { area.height ≤ 64 }
+    requires upsampling { UPSAMPLING ≤ 1 }
+    requires inside { n + 64 * area.height ≤ 4160 }
+    requires depth { bit_depth ≤ T.BITS }
+    ensures { samples.new ≡ paint stride area (λ i _ _. T.pixel (at bit_depth (entries left.now.numbers) UPSAMPLING n i)) samples.old }
+{
+    fours_by::<UPSAMPLING>(held, left, n, (area.height + 3) / 4, bit_depth);
+    write_column(samples, stride, area, held);
+}
+
+/// Column `j` of a rectangle, from its row `first` on.
+fn column_of(area: StoredArea, j: usize, first: usize) -> StoredArea
+    requires fits { (area.x + j < 2 ^ 64) × (area.y + area.height < 2 ^ 64) }
+    requires first { first ≤ area.height }
+    ensures { result ≡ record { x = area.x + j; y = area.y + first; width = 1; height = area.height - first } }
+{
+    StoredArea {
+        x: area.x + j,
+        y: area.y + first,
+        width: 1,
+        height: area.height - first,
+    }
+}
+
+/// The samples of a rectangle that the left side gives at an angle between 90 and 180, column by column. The others
+/// stay. `UPSAMPLING` is that of the side, known to the compiler.
+fn columns_by<T: Pixel, const UPSAMPLING: usize>(
+    samples: &mut [T],
+    stride: usize,
+    area: StoredArea,
+    left: &PreparedSide,
+    slopes: Slopes,
+    bit_depth: usize,
+)
+    requires rows { AreRows stride area (length samples.old) }
+    requires width { area.width ≤ 64 }
+    requires height { area.height ≤ 64 }
+    requires upsampling { UPSAMPLING ≤ 1 }
+    requires pair { ArePair slopes.dx slopes.dy }
+    requires depth { bit_depth ≤ T.BITS }
+    ensures { samples.new ≡
+        paint stride area
+        (λ i j v.
+        if nat_le ((i + 1) * slopes.dx) (64 * (j + 1)) then v
+        else T.pixel (at bit_depth (entries left.now.numbers) UPSAMPLING (64 * (i + 1) - (j + 1) * slopes.dy) 0))
+        samples.old }
+{
+    let reached = (area.height * slopes.dx).saturating_sub(1) / 64;
+    let columns = area.width.min(reached);
+    let mut held = [0; 64];
+    for j in 0..columns {
+        let first = 64 * (j + 1) / slopes.dx;
+        let column = column_of(area, j, first);
+        let n = 64 * (first + 1) - (j + 1) * slopes.dy;
+        column_by::<T, UPSAMPLING>(samples, stride, column, &mut held, left, n, bit_depth);
+    }
+}
+
+/// The samples of a rectangle that the left side gives at an angle between 90 and 180. The others stay.
+fn columns_from_left<T: Pixel>(
+    samples: &mut [T],
+    stride: usize,
+    area: StoredArea,
+    left: &PreparedSide,
+    slopes: Slopes,
+    bit_depth: usize,
+)
+    requires rows { AreRows stride area (length samples.old) }
+    requires width { area.width ≤ 64 }
+    requires height { area.height ≤ 64 }
+    requires upsampling { left.now.upsampling ≤ 1 }
+    requires pair { ArePair slopes.dx slopes.dy }
+    requires depth { bit_depth ≤ T.BITS }
+    ensures { samples.new ≡
+        paint stride area
+        (λ i j v.
+        if nat_le ((i + 1) * slopes.dx) (64 * (j + 1)) then v
+        else T.pixel (at bit_depth (entries left.now.numbers) left.now.upsampling (64 * (i + 1) - (j + 1) * slopes.dy) 0))
+        samples.old }
+{
+    if left.upsampling == 0 {
+        columns_by::<T, 0>(samples, stride, area, left, slopes, bit_depth);
+    } else {
+        columns_by::<T, 1>(samples, stride, area, left, slopes, bit_depth);
+    }
+}
+
+/// The samples of a rectangle, by an angle between 90 and 180 of these slopes: those of the left side by columns, then
+/// those of the side above by rows.
+pub(crate) fn rows_between<T: Pixel>(
+    samples: &mut [T],
+    stride: usize,
+    area: StoredArea,
+    above: &PreparedSide,
+    left: &PreparedSide,
+    slopes: Slopes,
+    bit_depth: usize,
+)
+    requires rows { AreRows stride area (length samples.old) }
+    requires width { area.width ≤ 64 }
+    requires height { area.height ≤ 64 }
+    requires above_upsampling { above.now.upsampling ≤ 1 }
+    requires left_upsampling { left.now.upsampling ≤ 1 }
+    requires pair { ArePair slopes.dx slopes.dy }
+    requires depth { bit_depth ≤ T.BITS }
+    ensures { samples.new ≡
+        paint stride area
+        (λ i j _.
+        T.pixel (between bit_depth (entries above.now.numbers) above.now.upsampling (entries left.now.numbers) left.now.upsampling slopes.dx slopes.dy i j))
+        samples.old }
+{
+    columns_from_left(samples, stride, area, left, slopes, bit_depth);
+    rows_from_above(samples, stride, area, above, slopes.dx, bit_depth);
+}
