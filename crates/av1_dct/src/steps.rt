@@ -2,7 +2,7 @@ ghost use Rattle.std.specs.Prelude.{◌≡◌, ℕ, ◌+◌, ◌-◌, ◌*◌, �
 ghost use Rattle.av1_dct.specs.Arithmetic.{AllFit, FitsBits, at};
 ghost use Rattle.av1_dct.specs.Word.{column};
 ghost use Rattle.av1_dct.specs.InPlace.{begun, end_all, ended, paired, rounded, sums};
-ghost use Rattle.av1_dct.specs.Cosine.{outer_turn, mirror_sum, group_sum, inner_turn, rounds};
+ghost use Rattle.av1_dct.specs.Cosine.{outer_turn};
 ghost use Rattle.av1_lists.specs.Lists.{by_index};
 
 use crate::butterfly::Butterfly;

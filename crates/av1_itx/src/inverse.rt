@@ -1,6 +1,6 @@
 //! The inverse transform of a block, added to its samples.
 
-ghost use Rattle.std.specs.Prelude.{◌≡◌, ℕ, ◌+◌, ◌-◌, ◌*◌, ◌^◌, ◌<◌, ◌≤◌, ◌⊎◌, IfOk, IsTrue, OnOk, OnErr, ℤ, pos, ◌+ℤ◌, length, map, vec_len};
+ghost use Rattle.std.specs.Prelude.{◌≡◌, ℕ, ◌+◌, ◌-◌, ◌*◌, ◌<◌, ◌≤◌, ◌⊎◌, IfOk, IsTrue, OnOk, OnErr, ℤ, pos, ◌+ℤ◌, length, map, vec_len};
 ghost use Rattle.av1_blocks.specs.declared.transform.TxSize.TheVariants.{TX_4X4};
 ghost use Rattle.av1_blocks.specs.declared.transform.TxType.TheVariants.{WHT_WHT};
 ghost use Rattle.av1_blocks.specs.Depths.{IsDepth};

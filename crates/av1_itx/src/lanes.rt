@@ -2,7 +2,7 @@
 //!
 //! Rows of coefficients go the same way, since they are the columns of the list that coefficients stand in.
 
-ghost use Rattle.std.specs.Prelude.{◌≡◌, true, ℕ, pos, ◌*◌, ◌/◌, ◌<◌, ◌≤◌, IfOk, length, vec_len};
+ghost use Rattle.std.specs.Prelude.{◌≡◌, true, ℕ, pos, ◌*◌, ◌/◌, ◌<◌, ◌≤◌, IfOk, vec_len};
 ghost use Rattle.av1_dct.specs.Arithmetic.{at, clamp_value, FitsBits};
 ghost use Rattle.av1_dct.specs.Operations.{half_btf};
 ghost use Rattle.av1_lists.specs.Counts.{raised};

@@ -3,7 +3,7 @@
 //! Coefficients stand column by column, so that their rows are the columns of the list that they make. They are scaled
 //! into such a list, transformed there in place, and written to the block row by row.
 
-ghost use Rattle.std.specs.Prelude.{◌≡◌, true, ℕ, ◌+◌, ◌*◌, ◌/◌, ◌^◌, ◌<◌, ◌≤◌, ◌==◌, if◌then◌else◌, min, pos, ◌*ℤ◌, length, map, ◌⊎◌};
+ghost use Rattle.std.specs.Prelude.{◌≡◌, true, ℕ, ◌+◌, ◌*◌, ◌/◌, ◌<◌, ◌≤◌, ◌==◌, if◌then◌else◌, min, pos, ◌*ℤ◌, length, map, ◌⊎◌};
 ghost use Rattle.std.specs.Int.{int_shr};
 ghost use Rattle.av1_blocks.specs.Transforms.{tx_width, tx_height, coded};
 ghost use Rattle.av1_dct.specs.Arithmetic.{at, clamp_value, FitsBits};

@@ -1,6 +1,6 @@
 //! Shifts of arrays of values.
 
-ghost use Rattle.std.specs.Prelude.{◌≡◌, ℕ, ◌++◌, ◌*◌, ◌/◌, ◌^◌, ◌<◌, ◌≤◌, ℤ, pos, negsuc, ◌+ℤ◌, ◌*ℤ◌, ◌≤ℤ◌, ◌<ℤ◌, map, take, drop, length};
+ghost use Rattle.std.specs.Prelude.{◌≡◌, ◌++◌, ◌*◌, ◌/◌, ◌^◌, ◌<◌, ◌≤◌, ℤ, pos, negsuc, ◌+ℤ◌, ◌*ℤ◌, ◌≤ℤ◌, ◌<ℤ◌, map, take, drop};
 ghost use Rattle.std.specs.List.{All};
 ghost use Rattle.av1_dct.specs.Arithmetic.{wrap32};
 ghost use Rattle.av1_frame.specs.Arithmetic.{round_shift};

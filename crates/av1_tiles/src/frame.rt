@@ -41,13 +41,7 @@ pub struct TilePicture<T: Pixel> {
 }
 
 /// The first samples of the row become the visible row `y` of plane `p` of the tile, which has `width` columns.
-fn copy_tile_row<T: Pixel>(
-    row: &mut [T],
-    tile: &TilePicture<T>,
-    p: usize,
-    y: usize,
-    width: usize,
-)
+fn copy_tile_row<T: Pixel>(row: &mut [T], tile: &TilePicture<T>, p: usize, y: usize, width: usize)
     requires tile { AreFrame tile.now.header tile.now.planes }
     requires plane { p < 3 }
     requires in_plane { y < plane_height tile.now.header p }

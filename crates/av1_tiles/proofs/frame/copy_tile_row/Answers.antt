@@ -16,5 +16,6 @@ returns g c =
     c.copy_row.ensures
     ∙ paint_row_same c.args.width (λ q v. get_or source q v) (λ q _. g.T.Pixel.pixel (slice_index (map g.T.Pixel.num source) q)) c.args.row.now
     (λ q v h. let inside : q < length source = omega (arith, h, c.requires.columns, long) in
-    sample_is g.T.Pixel.num g.T.Pixel.pixel g.met.T.Pixel.pixel_of_num source q (get_or source q v) inside (get_or_default source q v (get_or source q v) inside))
+    sample_is g.T.Pixel.num g.T.Pixel.pixel g.met.T.Pixel.pixel_of_num source q (get_or source q v) inside
+    (get_or_default source q v (get_or source q v) inside))
     ∙ ap (λ (ns : List ℕ). paint_row c.args.width (λ q _. g.T.Pixel.pixel (slice_index ns q)) c.args.row.now) c.row.ensures
