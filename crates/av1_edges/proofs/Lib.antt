@@ -4,4 +4,5 @@ pub mod Parted
 pub mod WholePlane
 pub mod Available
 pub mod Within
+pub mod Needed
 pub mod ByBits

@@ -68,15 +68,15 @@ fn edge_corner<T: Pixel>(
     }
 }
 
-/// Fills the samples of a buffer with the edge of `parts`: the left side ends before the corner, which stands in the
-/// middle, and the side above begins behind it.
+/// Fills the samples of a buffer with the edge of `parts`, and tells how many places it has: the left side ends before
+/// the corner, which stands in the middle, and the side above begins behind it.
 fn fill_edge<T: Pixel>(
     samples: &mut [T],
     dst: &PlaneRegion<'_, T>,
     at: TransformPosition,
     bit_depth: usize,
     parts: Parts,
-)
+) -> EdgePlaces
     requires whole { length samples.old ≡ 257 }
     requires begins { BeginsVisible dst.now }
     requires fits { PositionFits dst.now at }
@@ -84,10 +84,11 @@ fn fill_edge<T: Pixel>(
     requires depth { bit_depth ≤ T.BITS }
     requires inside { 0 < at.x → parts.left ≡ true }
     requires smooth { parts.smoothed ≡ true → parts.left ≡ true }
-    ensures left { let n = left_places parts at.tx_size
-        in map T.num (part (128 - n) n samples.new) ≡ reverse (edge_of_parts T.num dst.now at bit_depth parts).left }
+    ensures few_left { result.left ≤ 128 }
+    ensures few_above { result.above ≤ 128 }
+    ensures left { map T.num (part (128 - result.left) result.left samples.new) ≡ reverse (edge_of_parts T.num dst.now at bit_depth parts).left }
     ensures corner { map T.num (part 128 1 samples.new) ≡ (edge_of_parts T.num dst.now at bit_depth parts).corner ∷ [] }
-    ensures above { map T.num (part 129 (above_places parts at.tx_size) samples.new) ≡ (edge_of_parts T.num dst.now at bit_depth parts).above }
+    ensures above { map T.num (part 129 result.above samples.new) ≡ (edge_of_parts T.num dst.now at bit_depth parts).above }
 {
     let left_places = left_places(parts, at.tx_size);
     let above_places = above_places(parts, at.tx_size);
@@ -100,6 +101,10 @@ fn fill_edge<T: Pixel>(
     let num_avail_above = at.num_avail_above(dst, parts.above_right);
     fill_above(above, dst, at.x, at.y, num_avail_above, bit_depth);
     corner[0] = edge_corner(left, above, dst, at, bit_depth, parts);
+    EdgePlaces {
+        left: left_places,
+        above: above_places,
+    }
 }
 
 /// The edge in a buffer, of so many places to the left and above.
@@ -186,11 +191,7 @@ pub fn get_intra_edges_to<T: Pixel>(
         at.y,
         tx_size,
     );
-    fill_edge(samples, dst, at, bit_depth, parts);
-    EdgePlaces {
-        left: left_places(parts, at.tx_size),
-        above: above_places(parts, at.tx_size),
-    }
+    fill_edge(samples, dst, at, bit_depth, parts)
 }
 
 /// Prepares the samples round a transform, in `edge_buf`.

@@ -2,10 +2,9 @@
 //!
 //! AV1 specification: intra prediction process: general.
 
-ghost use Rattle.std.specs.Prelude.{◌≡◌, ◌<◌, true};
+ghost use Rattle.std.specs.Prelude.{◌≡◌, ◌+◌, ◌<◌, ◌&&◌, true, false, pos, int_lt, nat_le};
 ghost use Rattle.av1_blocks.specs.Transforms.{tx_width, tx_height};
-ghost use Rattle.av1_edges.specs.Parts.{effective, step_of, angle, needs_left, needs_below_left, needs_above_right, needs_corner, smooths_corner, parts_for};
-ghost use Rattle.av1_edges.specs.Parts.{prepared_parts};
+ghost use Rattle.av1_edges.specs.Parts.{effective, step_of, angle, is_paeth, is_slanted, needs_left, parts_for, prepared_parts};
 
 use av1_blocks::{ANGLE_STEP, IntraParam, PredictionMode, TxSize, intra_mode_to_angle};
 
@@ -54,6 +53,16 @@ fn angle(mode: PredictionMode, step: i8) -> isize
     intra_mode_to_angle(mode) + isize::from(ANGLE_STEP) * isize::from(step)
 }
 
+/// Paeth prediction.
+fn is_paeth(mode: PredictionMode) -> bool
+    ensures { result ≡ is_paeth mode }
+{
+    match mode {
+        PredictionMode::PAETH_PRED => true,
+        _ => false,
+    }
+}
+
 /// The mode needs the samples to the left of a block at column `x`.
 fn needs_left(mode: PredictionMode, x: usize) -> bool
     ensures value { result ≡ needs_left mode x }
@@ -65,58 +74,60 @@ fn needs_left(mode: PredictionMode, x: usize) -> bool
     }
 }
 
-/// The mode needs the samples below those to the left.
-fn needs_below_left(mode: PredictionMode, step: i8) -> bool
-    ensures { result ≡ needs_below_left mode step }
-{
-    mode.is_directional() && angle(mode, step) > 180
-}
-
-/// The mode needs the samples to the right of those above.
-fn needs_above_right(mode: PredictionMode, step: i8) -> bool
-    ensures { result ≡ needs_above_right mode step }
-{
-    mode.is_directional() && angle(mode, step) < 90
-}
-
-/// The mode needs the corner.
-fn needs_corner(mode: PredictionMode, step: i8) -> bool
-    ensures { result ≡ needs_corner mode step }
-{
-    match mode {
-        PredictionMode::PAETH_PRED => true,
-        _ => {
-            let angle = angle(mode, step);
-            mode.is_directional() && angle != 90 && angle != 180
+impl Parts {
+    /// Those of a mode whose angle has so many degrees, for a block of `tx_size`. The corner is smoothed where the edge
+    /// filter is on, the angle lies between 90 and 180 degrees and the sides come to 24 or more.
+    fn along(filter: bool, degrees: isize, tx_size: TxSize) -> Parts
+        ensures { result ≡ record {
+          left = true;
+          below_left = int_lt (pos 180) degrees;
+          above_right = int_lt degrees (pos 90);
+          corner = is_slanted degrees;
+          smoothed = filter && int_lt (pos 90) degrees && int_lt degrees (pos 180) && nat_le 24 (tx_width tx_size + tx_height tx_size);
+        } }
+    {
+        Parts {
+            left: true,
+            below_left: degrees > 180,
+            above_right: degrees < 90,
+            corner: degrees != 90 && degrees != 180,
+            smoothed: filter
+                && degrees > 90
+                && degrees < 180
+                && tx_size.width() + tx_size.height() >= 24,
         }
     }
-}
 
-/// The edge filter smooths the corner of a block of `tx_size`.
-fn smooths_corner(filter: bool, mode: PredictionMode, step: i8, tx_size: TxSize) -> bool
-    ensures { result ≡ smooths_corner filter mode step (tx_width tx_size) (tx_height tx_size) }
-{
-    let angle = angle(mode, step);
-    filter
-        && mode.is_directional()
-        && angle > 90
-        && angle < 180
-        && tx_size.width() + tx_size.height() >= 24
-}
+    /// Those of a mode without an angle, for a block at column `x`.
+    fn level(mode: PredictionMode, x: usize) -> Parts
+        ensures value { result ≡ record {
+          left = needs_left mode x;
+          below_left = false;
+          above_right = false;
+          corner = is_paeth mode;
+          smoothed = false;
+        } }
+        ensures inside { 0 < x → result.left ≡ true }
+    {
+        Parts {
+            left: needs_left(mode, x),
+            below_left: false,
+            above_right: false,
+            corner: is_paeth(mode),
+            smoothed: false,
+        }
+    }
 
-impl Parts {
     /// Those that the mode `mode` needs where it is in effect.
     fn needed(filter: bool, mode: PredictionMode, step: i8, x: usize, tx_size: TxSize) -> Parts
         ensures value { result ≡ parts_for filter mode step x (tx_width tx_size) (tx_height tx_size) }
         ensures inside { 0 < x → result.left ≡ true }
         ensures smooth { result.smoothed ≡ true → result.left ≡ true }
     {
-        Parts {
-            left: needs_left(mode, x),
-            below_left: needs_below_left(mode, step),
-            above_right: needs_above_right(mode, step),
-            corner: needs_corner(mode, step),
-            smoothed: smooths_corner(filter, mode, step, tx_size),
+        if mode.is_directional() {
+            Parts::along(filter, angle(mode, step), tx_size)
+        } else {
+            Parts::level(mode, x)
         }
     }
 

@@ -1,6 +1,5 @@
-use Rattle.std.proofs.Common.{ℕ, ap, ◌∙◌, ◌≡◌, ◌-◌, map, reverse, [], ◌∷◌, sym, subst}
+use Rattle.std.proofs.Common.{ap, ◌∙◌, ◌≡◌, reverse, [], ◌∷◌, sym, subst}
 use Rattle.av1_blocks.specs.Transforms.{tx_width, tx_height}
-use Rattle.av1_frame.specs.Samples.{part}
 use Rattle.av1_edges.specs.declared.parts.Parts.{Parts}
 use Rattle.av1_edges.specs.declared.position.TransformPosition.{TransformPosition}
 use Rattle.av1_edges.specs.Edges.{Edge, edge_of_parts, prepared_edge, position_of, PositionFits}
@@ -19,7 +18,6 @@ returns g c =
     let w = tx_width a.tx_size in
     let h = tx_height a.tx_size in
     let step = step_of a.intra_param in
-    let samples = c.fill_edge.new.samples in
     let same : edge_of_parts num a.dst.now here a.bit_depth c.prepared-parts.result ≡
     prepared_edge num a.dst.now (position_of a.partition_bo a.bx a.by a.partition_size a.po a.tx_size) a.bit_depth a.opt_mode a.enable_intra_edge_filter
     a.intra_param =
@@ -27,9 +25,9 @@ returns g c =
     ∙ ap (λ (p : TransformPosition). edge_of_parts num a.dst.now p a.bit_depth (prepared_parts a.enable_intra_edge_filter a.opt_mode step p.x p.y w h))
     c.position_of-at.ensures in
     record {
-      few_left = c.left_places.ensures.most;
-      few_above = c.above_places.ensures.most;
-      left = ap (λ (n : ℕ). map num (part (128 - n) n samples)) c.left_places.ensures.value ∙ f.left ∙ ap (λ (t : Edge). reverse t.left) same;
+      few_left = f.few_left;
+      few_above = f.few_above;
+      left = f.left ∙ ap (λ (t : Edge). reverse t.left) same;
       corner = f.corner ∙ ap (λ (t : Edge). t.corner ∷ []) same;
-      above = ap (λ (n : ℕ). map num (part 129 n samples)) c.above_places.ensures.value ∙ f.above ∙ ap (λ (t : Edge). t.above) same;
+      above = f.above ∙ ap (λ (t : Edge). t.above) same;
     }
