@@ -1,6 +1,6 @@
 //! The answers from the bits of a block's place.
 
-ghost use Rattle.std.specs.Prelude.{◌≡◌, ◌-◌, ◌%◌};
+ghost use Rattle.std.specs.Prelude.{◌≡◌, ◌-◌};
 ghost use Rattle.av1_avail.specs.Agreement.{bottom_left_earlier, IsNearSquare, top_right_earlier};
 ghost use Rattle.av1_avail.specs.Bits.{bits_bottom_left, bits_top_right, reaches_lower_right};
 

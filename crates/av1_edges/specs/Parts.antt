@@ -81,3 +81,8 @@ abbrev pub prepared_parts : Bool → Option PredictionMode → ℤ → (x y w h 
 prepared_parts filter None step x y w h =
     record { left = true; below_left = true; above_right = true; corner = true; smoothed = false }
 prepared_parts filter (Some mode) step x y w h = parts_for filter (effective mode x y) step x w h
+
+-- Paeth prediction
+abbrev pub is_paeth : PredictionMode → Bool
+is_paeth PAETH_PRED = true
+is_paeth mode = false

@@ -12,3 +12,4 @@ pub mod Predicted
 pub mod Blocks
 pub mod TileLuma
 pub mod Lending
+pub mod Scaffolding

@@ -3,7 +3,8 @@
 ghost use Rattle.std.specs.Prelude.{◌≡◌, ℕ, ◌+◌, ◌-◌, ◌/◌, ◌^◌, ◌<◌, ◌≤◌, List, [], ◌∷◌, length, min, unsigned_abs, true, false};
 ghost use Rattle.av1_frame.specs.Samples.{paint_row};
 ghost use Rattle.av1_intra.specs.Sides.{entries, numbers};
-ghost use Rattle.av1_intra.specs.EdgeFilter.{filter_strength, kernel, weighted, filtered, IsSmoothed};
+ghost use Rattle.av1_intra.specs.EdgeFilter.{filter_strength, kernel, weighted, filtered};
+ghost use Rattle.av1_intra.specs.Scaffolding.{IsSmoothed};
 
 use av1_frame::Pixel;
 

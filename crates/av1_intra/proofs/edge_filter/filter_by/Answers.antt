@@ -1,7 +1,7 @@
 use Rattle.std.proofs.Common.{◌≡◌, ◌+◌, ◌-◌, ◌*◌, ◌/◌, ℕ, arith, inl, inr, ap, sym, subst, refl, ◌∙◌}
 use Rattle.std.proofs.lemmas.List.{get_or-map}
 use Rattle.av1_intra.specs.Sides.{numbers}
-use Rattle.av1_intra.specs.EdgeFilter.{IsSmoothed}
+use Rattle.av1_intra.specs.Scaffolding.{IsSmoothed}
 use Rattle.av1_intra.proofs.Filter.{sample_stays}
 use Rattle.av1_intra.proofs.RowReads.{unpainted}
 use Rattle.av1_intra.proofs.edge_filter.filter_by.Goals as goal

@@ -1,5 +1,5 @@
 use Rattle.std.proofs.Common.{◌≡◌, ◌+◌, ℕ, arith, refl, subst}
-use Rattle.av1_intra.specs.EdgeFilter.{IsSmoothed}
+use Rattle.av1_intra.specs.Scaffolding.{IsSmoothed}
 use Rattle.av1_intra.proofs.edge_filter.smooth_four.Goals as goal
 
 pub loop-k-init : goal.loop-k-init

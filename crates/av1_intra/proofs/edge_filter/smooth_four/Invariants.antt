@@ -1,5 +1,5 @@
 use Rattle.std.proofs.Common.{◌≡◌, ◌+◌, ◌<◌, ◌≤◌, ◌^◌, ℕ, List, length}
-use Rattle.av1_intra.specs.EdgeFilter.{IsSmoothed}
+use Rattle.av1_intra.specs.Scaffolding.{IsSmoothed}
 use Rattle.av1_intra.proofs.edge_filter.smooth_four.Given as goal
 
 pub record Smoothing {X : Type 0} (num : X → ℕ) (pixel : ℕ → X) (BITS strength first k c d a b : ℕ) (start edge : List X) : Type 0 where
