@@ -43,11 +43,6 @@ needs_below_left mode step = is_directional mode && int_lt (pos 180) (angle mode
 abbrev pub needs_above_right : PredictionMode → ℤ → Bool
 needs_above_right mode step = is_directional mode && int_lt (angle mode step) (pos 90)
 
--- Paeth prediction
-abbrev pub is_paeth : PredictionMode → Bool
-is_paeth PAETH_PRED = true
-is_paeth mode = false
-
 -- an angle other than 90 and 180 degrees
 abbrev pub is_slanted : ℤ → Bool
 is_slanted p = not (int_eq p (pos 90)) && not (int_eq p (pos 180))

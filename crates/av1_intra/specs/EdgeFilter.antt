@@ -1,9 +1,8 @@
 -- The filter of a side before it is interpolated.
 -- A side gives a number for each entry here: entry 0 is the corner, and entry k + 1 is place k.
-use Rattle.std.specs.Prelude.{◌≡◌, ℕ, ◌+◌, ◌-◌, ◌*◌, ◌/◌, ◌==◌, List, [], ◌∷◌, Bool, true, false, ◌&&◌, nat_le, nat_lt}
+use Rattle.std.specs.Prelude.{ℕ, ◌+◌, ◌-◌, ◌*◌, ◌/◌, ◌==◌, List, [], ◌∷◌, Bool, true, false, ◌&&◌, nat_le, nat_lt}
 use Rattle.std.specs.Prelude.{if◌then◌else◌, min}
-use Rattle.av1_frame.specs.Samples.{paint_row}
-use Rattle.av1_intra.specs.Sides.{Side, numbers}
+use Rattle.av1_intra.specs.Sides.{Side}
 
 -- How strongly a side is smoothed, by the sum s of the block's sides, whether a neighbour is smooth, and how far the
 -- angle is from the side's own, d degrees. AV1 specification: intra edge filter strength selection process.
@@ -40,10 +39,3 @@ filtered n strength A = λ e.
     if (nat_lt 0 strength && nat_le 1 e) && nat_le e n
     then (weighted (kernel strength) 0 (λ j. A (min (e + j - 2) n)) + 8) / 16
     else A e
-
--- `edge` is `old` with its first i entries smoothed, and the two before entry i were a and b
-pub record IsSmoothed {X : Type 0} (num : X → ℕ) (pixel : ℕ → X) (n strength : ℕ) (old edge : List X) (i a b : ℕ) :
-    Type 0 where
-  pub painted : edge ≡ paint_row i (λ e _. pixel (filtered n strength (numbers num old) e)) old
-  pub second_before : a ≡ numbers num old (i - 2)
-  pub before : b ≡ numbers num old (i - 1)
