@@ -198,7 +198,8 @@ fn fill_words(word: i32x8, output: &mut [i32x8])
 fn cosine_of_first(input: &[i32x8], output: &mut [i32x8])
     requires some { 0 < length input.now }
     ensures { (i p : ℕ) → i < 8 → p < length output.old →
-        at (column lane_of_vector i output.new) p ≡ clamp_value (half_btf (pos 2896) (at (column lane_of_vector i input.now) 0) (pos 0) (at (column lane_of_vector i input.now) 0)) 16 }
+        at (column lane_of_vector i output.new) p ≡
+            clamp_value (half_btf (pos 2896) (at (column lane_of_vector i input.now) 0) (pos 0) (at (column lane_of_vector i input.now) 0)) 16 }
 {
     let first = taken(input, 0);
     let _first = first.to_array();
@@ -235,7 +236,7 @@ fn cosine_full(n: usize, input: &[i32x8], output: &mut [i32x8])
 {
     match n {
         8 => cosine_short_of::<2, 8, 8>(input, output),
-        16 => cosine_short_of::<3, 16, 16>(input, output),
+        16 => cosine_of_few::<3, 16, 4>(input, output),
         32 => cosine_of_few::<4, 32, 4>(input, output),
         _ => cosine_short_of::<5, 64, 64>(input, output),
     }
