@@ -199,7 +199,7 @@ fn cosine_of_first(input: &[i32x8], output: &mut [i32x8])
     requires some { 0 < length input.now }
     ensures { (i p : ℕ) → i < 8 → p < length output.old →
         at (column lane_of_vector i output.new) p ≡
-            clamp_value (half_btf (pos 2896) (at (column lane_of_vector i input.now) 0) (pos 0) (at (column lane_of_vector i input.now) 0)) 16 }
+        clamp_value (half_btf (pos 2896) (at (column lane_of_vector i input.now) 0) (pos 0) (at (column lane_of_vector i input.now) 0)) 16 }
 {
     let first = taken(input, 0);
     let _first = first.to_array();
