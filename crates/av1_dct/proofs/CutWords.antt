@@ -1,8 +1,9 @@
 -- Transforms in lanes of 16 bits: words that are cut, run and written out again.
-use Rattle.std.proofs.Common.{refl, ℕ, suc, ◌≡◌, ◌*◌, ◌^◌, ◌<◌, ℤ, pos, List, ◌++◌, map, take, drop, length, arith, ap, sym, ◌∙◌}
+use Rattle.std.proofs.Common.{refl, ℕ, suc, ◌≡◌, ◌*◌, ◌^◌, ◌<◌, ◌≤◌, ℤ, pos, List, ◌++◌, map, take, drop, length, arith, ap, sym, ◌∙◌, inl, inr}
 use Rattle.std.specs.List.{All}
 use Rattle.std.proofs.Math.Nat.{pow-suc}
-use Rattle.std.proofs.lemmas.List.{get_or-take, length-map, take-map, take_at}
+use Rattle.std.proofs.lemmas.Bool.{cases_lt}
+use Rattle.std.proofs.lemmas.List.{ext_get_or, get_or-take, get_or_past, length-map, length-take-le, take-map, take_at}
 use Rattle.std.proofs.lemmas.List.FromFn.{fill_by_all}
 use Rattle.av1_lists.specs.Lists.{by_index}
 use Rattle.av1_lists.proofs.Lists.{by_index-same}
@@ -11,7 +12,10 @@ use Rattle.av1_dct.specs.Cosine.{brev, cosine}
 use Rattle.av1_dct.specs.InPlace.{cut_place, network}
 use Rattle.av1_dct.specs.Word.{column}
 use Rattle.av1_dct.proofs.Fits.{all-fit, clamped_same}
+use Rattle.av1_dct.specs.Operations.{half_btf}
+use Rattle.av1_dct.proofs.Halves.{cosine-length}
 use Rattle.av1_dct.proofs.Places.{cosine_is}
+use Rattle.av1_dct.proofs.Single.{IsSingle, single}
 use Rattle.av1_dct.proofs.Tables.{brev-lt}
 
 -- two lists of words that agree in a lane, place by place
@@ -47,3 +51,22 @@ pub front_column : {W : Type 0} (lane : W → ℕ → ℤ) (i n m : ℕ) (new ol
 front_column {W} lane i n m new old len =
     let g = λ (x : W). lane x i in
     take-map g n (new ++ drop m old) ∙ ap (map g) (take_at new (drop m old) n len)
+
+-- words of which the first alone has values, transformed
+pub level_is : (n k : ℕ) (xs ys : List ℤ) → n ≡ 2 * 2 ^ k → 8 ≤ n → length ys ≡ n → n ≤ length xs → ((p : ℕ) → 1 ≤ p → p < n → at xs p ≡ pos 0)
+    → ((p : ℕ) → p < n → at ys p ≡ clamp_value (half_btf (pos 2896) (at xs 0) (pos 0) (at xs 0)) 16) → ys ≡ cosine 16 k (take n xs)
+level_is n k xs ys e many len long zeros is =
+    let some : 1 ≤ k = elim (cases_lt 0 k) [
+      | inl lt ↦ omega (arith, lt)
+      | inr none ↦ (let k0 : k ≡ 0 = omega (arith, none) in let m : n ≡ 2 * 2 ^ 0 = e ∙ ap (λ j. 2 * 2 ^ j) k0 in absurd (omega (arith, m, many)))
+    ] in
+    let first : at (take n xs) 0 ≡ at xs 0 = get_or-take n xs 0 (pos 0) (omega (arith, many)) in
+    let alone : IsSingle (take n xs) = record {
+      rest = λ i more. elim (cases_lt i n) [
+        | inl lt ↦ get_or-take n xs i (pos 0) lt ∙ zeros i more lt
+        | inr past ↦ get_or_past (take n xs) i (pos 0) (omega (arith, length-take-le n xs long, past))
+      ];
+    } in
+    ext_get_or (pos 0) ys (cosine 16 k (take n xs)) (len ∙ e ∙ sym (cosine-length 16 k (take n xs)))
+    (λ p lt. is p (omega (arith, len, lt)) ∙ ap (λ (z : ℤ). clamp_value (half_btf (pos 2896) z (pos 0) z) 16) (sym first)
+    ∙ sym (single 16 k (take n xs) alone some p (omega (arith, e, len, lt))))

@@ -22,25 +22,25 @@ pub returns-in-8 : goal.returns-in-8
 returns-in-8 c = λ k r q e hr hq.
     columns_at 2 k c.args.n c.args.stride c.args.start r q c.args.block.now (omega arith) e (c.columns_of-in-8.ensures r q (omega arith) hq)
 
-pub columns_of-requires-in-16-clause-block_len : goal.columns_of-requires-in-16-clause-block_len
-columns_of-requires-in-16-clause-block_len c = block_at c.args.n 16 c.args.stride c.args.block.now (omega arith) c.requires.block_len
-
-pub columns_of-requires-in-16-clause-fit : goal.columns_of-requires-in-16-clause-fit
-columns_of-requires-in-16-clause-fit c = λ r i hr hi. c.requires.fit r i (omega arith) hi
-
-pub returns-in-16 : goal.returns-in-16
-returns-in-16 c = λ k r q e hr hq.
-    columns_at 3 k c.args.n c.args.stride c.args.start r q c.args.block.now (omega arith) e (c.columns_of-in-16.ensures r q (omega arith) hq)
-
 pub columns_of_few-requires-clause-block_len : goal.columns_of_few-requires-clause-block_len
-columns_of_few-requires-clause-block_len c = block_at c.args.n 32 c.args.stride c.args.block.now (omega arith) c.requires.block_len
+columns_of_few-requires-clause-block_len c = block_at c.args.n 16 c.args.stride c.args.block.now (omega arith) c.requires.block_len
 
 pub columns_of_few-requires-clause-fit : goal.columns_of_few-requires-clause-fit
 columns_of_few-requires-clause-fit c = λ r i hr hi. c.requires.fit r i (omega arith) hi
 
+pub returns-in-16 : goal.returns-in-16
+returns-in-16 c = λ k r q e hr hq.
+    columns_at 3 k c.args.n c.args.stride c.args.start r q c.args.block.now (omega arith) e (c.columns_of_few.ensures r q (omega arith) hq)
+
+pub columns_of_few-requires-in-32-clause-block_len : goal.columns_of_few-requires-in-32-clause-block_len
+columns_of_few-requires-in-32-clause-block_len c = block_at c.args.n 32 c.args.stride c.args.block.now (omega arith) c.requires.block_len
+
+pub columns_of_few-requires-in-32-clause-fit : goal.columns_of_few-requires-in-32-clause-fit
+columns_of_few-requires-in-32-clause-fit c = λ r i hr hi. c.requires.fit r i (omega arith) hi
+
 pub returns-in-32 : goal.returns-in-32
 returns-in-32 c = λ k r q e hr hq.
-    columns_at 4 k c.args.n c.args.stride c.args.start r q c.args.block.now (omega arith) e (c.columns_of_few.ensures r q (omega arith) hq)
+    columns_at 4 k c.args.n c.args.stride c.args.start r q c.args.block.now (omega arith) e (c.columns_of_few-in-32.ensures r q (omega arith) hq)
 
 pub columns_of-requires-in_default-clause-block_len : goal.columns_of-requires-in_default-clause-block_len
 columns_of-requires-in_default-clause-block_len c = block_at c.args.n 64 c.args.stride c.args.block.now (omega arith) c.requires.block_len

@@ -9,7 +9,7 @@ use Rattle.av1_dct.proofs.Places.{column_get}
 use Rattle.av1_dct.proofs.narrow_lanes.are_zero.Goals as goal
 
 pub loop-p-preserved : goal.loop-p-preserved
-loop-p-preserved g c = λ i q h le lt.
+loop-p-preserved c = λ i q h le lt.
     let zs = column lane_of_vector i c.args.input.now in
     let word = c.taken-word.result in
     let b : Bits 8 (map (of_z w32) word) = record { count = omega (arith, length-map word (of_z w32)); fit = search rules } in
@@ -22,4 +22,4 @@ loop-p-preserved g c = λ i q h le lt.
     ]
 
 pub returns : goal.returns
-returns g c = λ t i q h le lt. c.loop-p.invariant i q h le (omega arith)
+returns c = λ t i q h le lt. c.loop-p.invariant i q h le (omega arith)

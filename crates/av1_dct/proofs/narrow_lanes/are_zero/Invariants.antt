@@ -4,4 +4,4 @@ use Rattle.av1_dct.specs.Word.{column, lane_of_vector}
 use Rattle.av1_dct.proofs.narrow_lanes.are_zero.Given as goal
 
 abbrev pub invariant-loop-p : goal.invariant-loop-p
-invariant-loop-p g l = (i q : ℕ) → i < 8 → g.row.FIRST ≤ q → q < l.p → at (column lane_of_vector i l.input) q ≡ pos 0
+invariant-loop-p l = (i q : ℕ) → i < 8 → l.first ≤ q → q < l.p → at (column lane_of_vector i l.input) q ≡ pos 0
