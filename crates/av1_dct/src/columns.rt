@@ -217,6 +217,6 @@ pub fn cosine_columns(n: usize, block: &mut [i32], start: usize, stride: usize)
         8 => columns_of::<2, 8, 8>(block, start, stride),
         16 => columns_of_few::<3, 16, 4>(block, start, stride),
         32 => columns_of_few::<4, 32, 4>(block, start, stride),
-        _ => columns_of::<5, 64, 64>(block, start, stride),
+        _ => columns_of_few::<5, 64, 4>(block, start, stride),
     }
 }

@@ -90,6 +90,19 @@ fn network_32<W: Butterfly>(w: &mut [W], range: usize)
     join_halves::<W, 4>(w, range);
 }
 
+// The last step of the transform of 64 words, as a call by itself: as one function the whole of it takes a compiler
+// longer, and less of it stays in registers.
+#[inline(never)]
+fn join_64<W: Butterfly>(w: &mut [W], range: usize)
+    requires range_in { (8 ≤ range) × (range ≤ 20) }
+    requires within { range ≤ W.bits }
+    requires len { length w.old ≡ 64 }
+    requires fit { (i : ℕ) → i < W.LANES → AllFit 20 (column W.lane_of i w.old) }
+    ensures { (i : ℕ) → i < W.LANES → column W.lane_of i w.new ≡ joined range 5 (column W.lane_of i w.old) }
+{
+    join_halves::<W, 5>(w, range);
+}
+
 // The transform of 64 words.
 #[inline(always)]
 fn network_64<W: Butterfly>(w: &mut [W], range: usize)
@@ -100,7 +113,7 @@ fn network_64<W: Butterfly>(w: &mut [W], range: usize)
     ensures { (i : ℕ) → i < W.LANES → column W.lane_of i w.new ≡ network range 5 (column W.lane_of i w.old) }
 {
     network_32(&mut w[..32], range);
-    join_halves::<W, 5>(w, range);
+    join_64(w, range);
 }
 
 // The transform of 2^(K+1) words that stand in the order of their reversed places: the even inputs make the first half

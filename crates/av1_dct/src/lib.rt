@@ -9,7 +9,7 @@
 //! - `cosine_lanes` runs eight transforms at a time over `i32x8`, with `cosine` in each lane, and counts them in a
 //!   `LaneCount`, which no other call raises. Where the range is 16 it cuts the words to lanes of 16 bits, and widens
 //!   what comes out. Zeros cost less there: where all inputs are zeros but the first, each output is the same product,
-//!   and with 16 or 32 inputs that are zeros from the fifth on, rotations of two zeros are left out.
+//!   and of 16 inputs or more that are zeros from the fifth on, rotations of two zeros are left out.
 //! - `cosine_columns` transforms eight neighbouring columns of a block in place, where values have 16 bits, and leaves
 //!   out such rotations, too. It counts nothing.
 //! - `half_btf` and `clamp_value`, the arithmetic of every network, are those of `specs/Operations.antt` and

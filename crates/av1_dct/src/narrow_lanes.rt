@@ -238,7 +238,7 @@ fn cosine_full(n: usize, input: &[i32x8], output: &mut [i32x8])
         8 => cosine_short_of::<2, 8, 8>(input, output),
         16 => cosine_of_few::<3, 16, 4>(input, output),
         32 => cosine_of_few::<4, 32, 4>(input, output),
-        _ => cosine_short_of::<5, 64, 64>(input, output),
+        _ => cosine_of_few::<5, 64, 4>(input, output),
     }
 }
 

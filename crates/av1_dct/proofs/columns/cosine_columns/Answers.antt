@@ -42,12 +42,12 @@ pub returns-in-32 : goal.returns-in-32
 returns-in-32 c = λ k r q e hr hq.
     columns_at 4 k c.args.n c.args.stride c.args.start r q c.args.block.now (omega arith) e (c.columns_of_few-in-32.ensures r q (omega arith) hq)
 
-pub columns_of-requires-in_default-clause-block_len : goal.columns_of-requires-in_default-clause-block_len
-columns_of-requires-in_default-clause-block_len c = block_at c.args.n 64 c.args.stride c.args.block.now (omega arith) c.requires.block_len
+pub columns_of_few-requires-in_default-clause-block_len : goal.columns_of_few-requires-in_default-clause-block_len
+columns_of_few-requires-in_default-clause-block_len c = block_at c.args.n 64 c.args.stride c.args.block.now (omega arith) c.requires.block_len
 
-pub columns_of-requires-in_default-clause-fit : goal.columns_of-requires-in_default-clause-fit
-columns_of-requires-in_default-clause-fit c = λ r i hr hi. c.requires.fit r i (omega arith) hi
+pub columns_of_few-requires-in_default-clause-fit : goal.columns_of_few-requires-in_default-clause-fit
+columns_of_few-requires-in_default-clause-fit c = λ r i hr hi. c.requires.fit r i (omega arith) hi
 
 pub returns-in_default : goal.returns-in_default
 returns-in_default c = λ k r q e hr hq.
-    columns_at 5 k c.args.n c.args.stride c.args.start r q c.args.block.now (omega arith) e (c.columns_of-in_default.ensures r q (omega arith) hq)
+    columns_at 5 k c.args.n c.args.stride c.args.start r q c.args.block.now (omega arith) e (c.columns_of_few-in_default.ensures r q (omega arith) hq)

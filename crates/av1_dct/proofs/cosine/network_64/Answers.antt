@@ -13,11 +13,11 @@ network_32-requires-clause-len g c = length-take-le 32 c.args.w.now (omega arith
 pub network_32-requires-clause-fit : goal.network_32-requires-clause-fit
 network_32-requires-clause-fit g c = λ i h. take-fits g.W.Butterfly.lane_of i 32 c.args.w.now (c.requires.fit i h)
 
-pub join_halves-requires-clause-fit : goal.join_halves-requires-clause-fit
-join_halves-requires-clause-fit g c = λ i h.
+pub join_64-requires-clause-fit : goal.join_64-requires-clause-fit
+join_64-requires-clause-fit g c = λ i h.
     half-fits g.W.Butterfly.lane_of i c.args.range 4 32 c.args.w.now c.network_32.new.w c.requires.range_in.1 (c.requires.fit i h) (c.network_32.ensures i h)
 
 pub returns : goal.returns
 returns g c = λ i h.
-    network_words g.W.Butterfly.lane_of i c.args.range 4 32 c.args.w.now c.network_32.new.w c.join_halves.new.w refl (c.network_32.ensures i h)
-    (c.join_halves.ensures i h)
+    network_words g.W.Butterfly.lane_of i c.args.range 4 32 c.args.w.now c.network_32.new.w c.join_64.new.w refl (c.network_32.ensures i h)
+    (c.join_64.ensures i h)

@@ -27,10 +27,10 @@ returns-in-32-clause-value c = λ k i h e.
     value_at 16 c.args.n 4 k (column lane_of_vector i c.args.input.now) (column lane_of_vector i c.cosine_of_few-in-32.new.output)
     (omega arith) e (c.cosine_of_few-in-32.ensures.value i h)
 
-pub cosine_short_of-requires-in_default-clause-fit : goal.cosine_short_of-requires-in_default-clause-fit
-cosine_short_of-requires-in_default-clause-fit c = λ i h. fits_at 16 c.args.n 64 _ (omega arith) (c.requires.fit i h)
+pub cosine_of_few-requires-in_default-clause-fit : goal.cosine_of_few-requires-in_default-clause-fit
+cosine_of_few-requires-in_default-clause-fit c = λ i h. fits_at 16 c.args.n 64 _ (omega arith) (c.requires.fit i h)
 
 pub returns-in_default-clause-value : goal.returns-in_default-clause-value
 returns-in_default-clause-value c = λ k i h e.
-    value_at 16 c.args.n 5 k (column lane_of_vector i c.args.input.now) (column lane_of_vector i c.cosine_short_of-in_default.new.output)
-    (omega arith) e (c.cosine_short_of-in_default.ensures.value i h)
+    value_at 16 c.args.n 5 k (column lane_of_vector i c.args.input.now) (column lane_of_vector i c.cosine_of_few-in_default.new.output)
+    (omega arith) e (c.cosine_of_few-in_default.ensures.value i h)
