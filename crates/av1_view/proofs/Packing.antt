@@ -14,7 +14,7 @@ use Rattle.std.proofs.lemmas.List.Sums.{fold-append}
 use Rattle.std.proofs.lemmas.Nat.{leading_length, mul-le}
 use Rattle.av1_lists.specs.Lists.{by_index}
 use Rattle.av1_lists.proofs.Below.{below}
-use Rattle.av1_lists.proofs.Lists.{by_index_is, get_or-by_index, length-by_index}
+use Rattle.av1_lists.proofs.Lists.{by_index-same, by_index_is, get_or-by_index, length-by_index}
 use Rattle.av1_streams.specs.Streams.{AreBytes}
 use Rattle.std.proofs.Math.Nat.{pow-le-pow_right}
 use Rattle.av1_view.specs.Packed.{bits_of, change, cut, group_bytes, group_count, grouped, joined, less, numbers, packed, residue, residues_from, row_before}
@@ -257,6 +257,33 @@ part_is f count at len within is =
     let few : k < 8 = omega (arith, inside, is) in
     let listed : at + k < count = omega (arith, inside, is, within) in
     get_or-take 8 (drop at all) k 0 few ∙ get_or-drop at all k 0 ∙ get_or-by_index count f (at + k) 0 listed))
+
+-- the change of a byte behind the first row
+later_change : (row i : ℕ) (planes predictions : List ℕ) → row ≤ i →
+    less (residue planes predictions i) (residue planes predictions (i - row)) ≡ change row planes predictions i
+later_change row i planes predictions later = let test = le-ltb i row later in rw test refl
+
+-- residues of bytes from a place on
+later_residue : (from k : ℕ) (planes predictions ps qs : List ℕ) → ps ≡ drop from planes → qs ≡ drop from predictions →
+    residue ps qs k ≡ residue planes predictions (from + k)
+later_residue from k planes predictions ps qs first second =
+    ap (λ l. less (slice_index l k) (slice_index qs k)) first ∙ ap (λ n. less n (slice_index qs k)) (get_or-drop from planes k 0)
+    ∙ ap (λ l. less (slice_index planes (from + k)) (slice_index l k)) second ∙ ap (less (slice_index planes (from + k))) (get_or-drop from predictions k 0)
+
+-- a group behind the first row, from these bytes and those a row before
+pub later_group_is : (row at : ℕ) (planes predictions ps qs before_ps before_qs : List ℕ) → row ≤ at → ps ≡ drop at planes → qs ≡ drop at predictions
+    → before_ps ≡ drop (at - row) planes → before_qs ≡ drop (at - row) predictions
+    → by_index 8 (λ i. sign_last (less (residue ps qs i) (residue before_ps before_qs i))) ≡
+    by_index 8 (λ i. sign_last (change row planes predictions (at + i)))
+later_group_is row at planes predictions ps qs before_ps before_qs later first second before_first before_second =
+    by_index-same 8 (λ i. sign_last (less (residue ps qs i) (residue before_ps before_qs i))) (λ i. sign_last (change row planes predictions (at + i)))
+    (λ k inside.
+    let place : at - row + k ≡ at + k - row = omega (arith, later) in
+    let behind : row ≤ at + k = omega (arith, later) in
+    ap (λ n. sign_last (less n (residue before_ps before_qs k))) (later_residue at k planes predictions ps qs first second)
+    ∙ ap (λ n. sign_last (less (residue planes predictions (at + k)) n))
+    (later_residue (at - row) k planes predictions before_ps before_qs before_first before_second ∙ ap (residue planes predictions) place)
+    ∙ ap sign_last (later_change row (at + k) planes predictions behind))
 
 -- a group is appended by its bits and its bytes
 pub group_pushed : (before between after group : List ℕ) (bits word : ℕ) → bits ≤ 8 → bits ≡ bits_of group → word ≡ joined bits group

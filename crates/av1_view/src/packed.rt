@@ -1,7 +1,7 @@
 //! Predictions, packed against the planes.
 ghost use Rattle.std.specs.Prelude.{◌≡◌, ◌+◌, ◌<◌, ◌≤◌, ◌^◌, ◌++◌, All, IfOk, drop, length, take};
 ghost use Rattle.av1_lists.specs.Lists.{by_index};
-ghost use Rattle.av1_view.specs.Packed.{bits_of, change, group_bytes, joined, numbers, packed, residue, sign_last};
+ghost use Rattle.av1_view.specs.Packed.{bits_of, change, group_bytes, joined, less, numbers, packed, residue, sign_last};
 
 use av1_blocks::OutOfMemory;
 use std::alloc::Global;
@@ -46,23 +46,37 @@ fn push_part(
 {
     let len = (planes.len().min(predictions.len()) - at).min(GROUP);
     if row <= at && len == GROUP {
-        let group = later_group(row, planes, predictions, at);
+        let before = at - row;
+        let group = later_group(
+            &planes[at..],
+            &predictions[at..],
+            &planes[before..],
+            &predictions[before..],
+        );
         return push_group(&group, bytes);
     }
     let group = any_group(row, planes, predictions, at, len);
     push_group(&group[..len], bytes)
 }
 
-// The numbers of 8 bytes from `at` on, all behind the first row.
-fn later_group(row: usize, planes: &[u8], predictions: &[u8], at: usize) -> [u8; GROUP]
-    requires later { row ≤ at }
-    requires plane { at + 8 ≤ length planes.now }
-    requires prediction { at + 8 ≤ length predictions.now }
-    ensures { result ≡ by_index 8 (λ i. sign_last (change row planes.now predictions.now (at + i))) }
+// The numbers of the first 8 of some bytes, all behind the first row, beside those a row before.
+fn later_group(
+    planes: &[u8],
+    predictions: &[u8],
+    planes_before: &[u8],
+    predictions_before: &[u8],
+) -> [u8; GROUP]
+    requires planes { 8 ≤ length planes.now }
+    requires predictions { 8 ≤ length predictions.now }
+    requires planes_before { 8 ≤ length planes_before.now }
+    requires predictions_before { 8 ≤ length predictions_before.now }
+    ensures { result ≡ by_index 8 (λ i. sign_last (less (residue planes.now predictions.now i)
+        (residue planes_before.now predictions_before.now i))) }
 {
     let mut group = [0; GROUP];
     for i in 0..GROUP {
-        group[i] = sign_last(later_change(row, planes, predictions, at + i));
+        let before = residue(planes_before, predictions_before, i);
+        group[i] = sign_last(residue(planes, predictions, i).wrapping_sub(before));
     }
     group
 }
@@ -96,22 +110,11 @@ fn change(row: usize, planes: &[u8], predictions: &[u8], i: usize) -> u8
     requires prediction { i < length predictions.now }
     ensures { result ≡ change row planes.now predictions.now i }
 {
+    let here = residue(planes, predictions, i);
     if i < row {
-        residue(planes, predictions, i)
-    } else {
-        later_change(row, planes, predictions, i)
+        return here;
     }
-}
-
-// The same behind the first row.
-fn later_change(row: usize, planes: &[u8], predictions: &[u8], i: usize) -> u8
-    requires later { row ≤ i }
-    requires plane { i < length planes.now }
-    requires prediction { i < length predictions.now }
-    ensures { result ≡ change row planes.now predictions.now i }
-{
-    let before = residue(planes, predictions, i - row);
-    residue(planes, predictions, i).wrapping_sub(before)
+    here.wrapping_sub(residue(planes, predictions, i - row))
 }
 
 // A change as a number that is small where the change is.
