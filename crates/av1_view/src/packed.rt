@@ -24,7 +24,7 @@ pub fn pack(
     ensures { IfOk result (λ bytes. bytes.items ≡ packed row planes.now predictions.now) }
 {
     let count = planes.len().min(predictions.len());
-    let mut bytes = Vec::new(alloc);
+    let mut bytes = Vec::with_capacity(alloc, count)?;
     'groups: for k in 0..(count + (GROUP - 1)) / GROUP {
         push_part(row, planes, predictions, GROUP * k, &mut bytes)?;
     }
@@ -55,6 +55,25 @@ fn push_part(
         );
         return push_group(&group, bytes);
     }
+    push_any(row, planes, predictions, at, len, bytes)
+}
+
+// Appends the group of `len` bytes from `at` on. Nearly all groups go the way above.
+#[inline(never)]
+fn push_any(
+    row: usize,
+    planes: &[u8],
+    predictions: &[u8],
+    at: usize,
+    len: usize,
+    bytes: &mut Vec<u8>,
+) -> Result<(), OutOfMemory>
+    requires short { len ≤ 8 }
+    requires plane { at + len ≤ length planes.now }
+    requires prediction { at + len ≤ length predictions.now }
+    ensures { IfOk result (λ done. bytes.new.items ≡
+        bytes.old.items ++ group_bytes (by_index len (λ i. sign_last (change row planes.now predictions.now (at + i))))) }
+{
     let group = any_group(row, planes, predictions, at, len);
     push_group(&group[..len], bytes)
 }

@@ -23,5 +23,5 @@ returns c =
     let count : ℕ = min (length c.args.planes.now) (length c.args.predictions.now) in
     let within : c.args.at ≤ count = omega (arith, c.requires.plane, c.requires.prediction) in
     let len : c.min-len.result ≡ min (count - c.args.at) 8 = c.min-len.ensures ∙ ap (λ (n : ℕ). min (n - c.args.at) 8) c.min.ensures in
-    subst (λ (l : List ℕ). IfOk c.push_group-2.result (λ done. c.push_group-2.new.bytes.items ≡ c.args.bytes.now.items ++ group_bytes l))
-    (c.any_group-group.ensures ∙ part_is number count c.args.at c.min-len.result within len) c.push_group-2.ensures
+    subst (λ (l : List ℕ). IfOk c.push_any.result (λ done. c.push_any.new.bytes.items ≡ c.args.bytes.now.items ++ group_bytes l))
+    (part_is number count c.args.at c.min-len.result within len) c.push_any.ensures
