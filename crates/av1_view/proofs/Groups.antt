@@ -1,9 +1,9 @@
 -- Base64 by whole groups, and by pieces of them.
 use Rattle.std.proofs.Common.{◌≡◌, ℕ, ◌+◌, ◌*◌, ◌-◌, ◌%◌, drop-drop, ◌⊎◌, inl, inr, List, [], ◌∷◌, ◌++◌, length, Option, refl, sym, ap, subst, ◌∙◌}
-use Rattle.std.proofs.Common.{append_assoc, append-nil, take-append-drop, arith, rules}
-use Rattle.std.specs.Prelude.{min, take, drop, ◌≤◌}
+use Rattle.std.proofs.Common.{append_assoc, get_or, append-nil, take-append-drop, arith, rules}
+use Rattle.std.specs.Prelude.{min, take, drop, ◌<◌, ◌≤◌}
 use Rattle.std.proofs.lemmas.Bool.{cases_lt}
-use Rattle.std.proofs.lemmas.List.{length-drop, length-take-le, drop_all}
+use Rattle.std.proofs.lemmas.List.{drop_more, length-drop, length-take-le, drop_all}
 use lib.Seq.{take-add}
 use Rattle.std.specs.Io.KnownBytes.{Appends}
 use Rattle.std.proofs.KnownBytes.{Appends-trans}
@@ -85,6 +85,31 @@ AppendsPrefix-piece bytes letters a b c at n count same whole within is before p
 pub Appends-none : (a : Option (List ℕ)) → Appends a a (base64_text [])
 unfolding base64_text
 Appends-none a = search rules
+
+-- a whole group at a place
+group_at : (bytes : List ℕ) (k : ℕ) → 3 * k + 2 < length bytes →
+    base64_text (drop (3 * k) bytes)
+    ≡ group (get_or bytes (3 * k) 0) (get_or bytes (3 * k + 1) 0) (get_or bytes (3 * k + 2) 0) ++ base64_text (drop (3 * (k + 1)) bytes)
+unfolding base64_text
+group_at bytes k inside =
+    let first : drop (3 * k) bytes ≡ get_or bytes (3 * k) 0 ∷ drop (3 * k + 1) bytes = drop_more bytes (3 * k) 0 (omega (arith, inside)) in
+    let second : drop (3 * k + 1) bytes ≡ get_or bytes (3 * k + 1) 0 ∷ drop (3 * k + 1 + 1) bytes = drop_more bytes (3 * k + 1) 0 (omega (arith, inside)) in
+    let two : 3 * k + 1 + 1 ≡ 3 * k + 2 = omega arith in
+    let third : drop (3 * k + 2) bytes ≡ get_or bytes (3 * k + 2) 0 ∷ drop (3 * k + 2 + 1) bytes = drop_more bytes (3 * k + 2) 0 inside in
+    let three : 3 * k + 2 + 1 ≡ 3 * (k + 1) = omega arith in
+    let a = get_or bytes (3 * k) 0 in
+    let b = get_or bytes (3 * k + 1) 0 in
+    let c = get_or bytes (3 * k + 2) 0 in
+    ap base64_text (first ∙ ap (λ l. a ∷ l) (second ∙ ap (λ l. b ∷ l) (ap (λ n. drop n bytes) two ∙ third ∙ ap (λ n. c ∷ drop n bytes) three)))
+
+-- the letters of the groups before a place, and those of a whole group there
+pub next_group : (bytes before after four : List ℕ) (k : ℕ) → 3 * k + 2 < length bytes → before ++ base64_text (drop (3 * k) bytes) ≡ base64_text bytes
+    → four ≡ group (get_or bytes (3 * k) 0) (get_or bytes (3 * k + 1) 0) (get_or bytes (3 * k + 2) 0) → after ≡ before ++ four →
+    after ++ base64_text (drop (3 * (k + 1)) bytes) ≡ base64_text bytes
+next_group bytes before after four k inside so_far here pushed =
+    let rest = base64_text (drop (3 * (k + 1)) bytes) in
+    ap (λ l. l ++ rest) pushed ∙ append_assoc before four rest ∙ ap (λ l. before ++ (l ++ rest)) here
+    ∙ ap (λ l. before ++ l) (sym (group_at bytes k inside)) ∙ so_far
 
 -- the letters of the groups before a place, and those of the group there
 pub next_letters : (bytes rest before four : List ℕ) (k : ℕ) → rest ≡ drop (3 * k) bytes → before ++ base64_text (drop (3 * k) bytes) ≡ base64_text bytes

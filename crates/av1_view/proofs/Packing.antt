@@ -1,19 +1,20 @@
 -- Predictions that were packed are read again: groups give their numbers, changes their residues, residues predictions.
 use Rattle.std.proofs.Common.{◌≡◌, ℕ, zero, suc, ◌+◌, ◌-◌, ◌*◌, ◌%◌, ◌^◌, ◌<◌, ◌≤◌, ◌==◌, max, min, All, true, List, [], ◌∷◌, ◌++◌, length, get_or}
-use Rattle.std.proofs.Common.{take, drop, map, fold}
+use Rattle.std.proofs.Common.{take, drop, set, map, fold}
 use Rattle.std.proofs.Common.{refl, sym, ap, subst, ◌∙◌, inl, inr, arith, append_assoc, append-nil, nat_lt, length-take, length-drop, take-append-drop}
 use Rattle.std.proofs.Common.{take_all, take_at, drop_at, drop-drop}
 use Rattle.std.specs.Prelude.{slice_index, if◌then◌else◌}
 use Rattle.std.specs.Int.{to_le_bytes, w64}
 use Rattle.std.specs.List.{range_with_len}
 use Rattle.std.proofs.lemmas.Bool.{cases_lt, eqb-true, le-ltb, lt-ltb}
-use Rattle.std.proofs.lemmas.List.{get_or_append_left, get_or_default, map-append}
+use Rattle.std.proofs.lemmas.List.{get_or-drop, get_or-take, get_or_append_left, get_or_default, map-append}
+use Rattle.std.proofs.lemmas.List.Edits.{fill_by_more}
 use Rattle.std.proofs.lemmas.List.FromFn.{map-range_with_len_more}
 use Rattle.std.proofs.lemmas.List.Sums.{fold-append}
 use Rattle.std.proofs.lemmas.Nat.{leading_length, mul-le}
 use Rattle.av1_lists.specs.Lists.{by_index}
 use Rattle.av1_lists.proofs.Below.{below}
-use Rattle.av1_lists.proofs.Lists.{by_index_is, get_or-by_index, length-by_index}
+use Rattle.av1_lists.proofs.Lists.{by_index-same, by_index_is, get_or-by_index, length-by_index}
 use Rattle.av1_streams.specs.Streams.{AreBytes}
 use Rattle.std.proofs.Math.Nat.{pow-le-pow_right}
 use Rattle.av1_view.specs.Packed.{bits_of, change, cut, group_bytes, group_count, grouped, joined, less, numbers, packed, residue, residues_from, row_before}
@@ -233,44 +234,76 @@ module _ (row : ℕ) (planes predictions : List ℕ) (some : 0 < row) (bytes : A
 
 -- ---- steps of the code
 
--- one number more
-pub numbers_more : (number : ℕ → ℕ) (i n : ℕ) (before after : List ℕ) → before ≡ by_index i number → n ≡ number i → after ≡ before ++ n ∷ [] →
-    after ≡ by_index (i + 1) number
-numbers_more number i n before after so_far here pushed =
-    let place : 0 + i ≡ i = omega arith in
-    pushed ∙ ap (λ l. l ++ n ∷ []) so_far ∙ ap (λ m. by_index i number ++ m ∷ []) here ∙ sym (map-range_with_len_more number 0 i i place)
+-- one number more of a group, in whose array there are 8
+pub number_more : (f : ℕ → ℕ) (group : List ℕ) (i n : ℕ) → length group ≡ 8 → i < 8 → n ≡ f i → ((k : ℕ) → k < i → get_or group k 0 ≡ f k) → (k : ℕ) →
+    k < i + 1 → get_or (set group i n) k 0 ≡ f k
+number_more f group i n long within here so_far k inside =
+    ap (λ v. get_or (set group i v) k 0) here ∙ fill_by_more f group i 0 (omega (arith, long, within)) so_far k inside
 
--- the first group of some numbers
-first_group : (left : List ℕ) (n : ℕ) → n ≡ min (length left) 8 → take n left ≡ take 8 left
-first_group left n is = elim (cases_lt (length left) 8) [
-  | inl few ↦ take_all n left (omega (arith, is, few)) ∙ sym (take_all 8 left (omega (arith, few)))
-  | inr many ↦
-      let eight : n ≡ 8 = omega (arith, is, many) in
-      ap (λ k. take k left) eight
-]
+-- those at its front
+pub numbers_all : (f : ℕ → ℕ) (group : List ℕ) (i len : ℕ) → length group ≡ 8 → len ≤ 8 → len ≤ i → ((k : ℕ) → k < i → get_or group k 0 ≡ f k) →
+    take len group ≡ by_index len f
+numbers_all f group i len long short past so_far =
+    by_index_is len f (take len group) 0 (omega (arith, long, short, length-take len group)) (λ k inside.
+    get_or-take len group k 0 inside ∙ so_far k (omega (arith, inside, past)))
 
--- is appended by its bits and its bytes
-pub group_pushed : (before between after left : List ℕ) (n bits word : ℕ) → n ≡ min (length left) 8 → bits ≤ 8 → bits ≡ bits_of (take n left)
-    → word ≡ joined bits (take n left) → between ≡ before ++ bits ∷ [] → after ≡ between ++ take bits (to_le_bytes w64 word) →
-    after ≡ before ++ group_bytes (take 8 left)
-group_pushed before between after left n bits word is few told whole first then_bytes =
-    let group : List ℕ = take n left in
+-- the numbers of a group, by their places
+pub part_is : (f : ℕ → ℕ) (count at len : ℕ) → at ≤ count → len ≡ min (count - at) 8 → by_index len (λ i. f (at + i)) ≡ take 8 (drop at (by_index count f))
+part_is f count at len within is =
+    let all : List ℕ = by_index count f in
+    let long : length (take 8 (drop at all)) ≡ len =
+    omega (arith, within, is, length-take 8 (drop at all), length-drop at all, length-by_index count f) in
+    sym (by_index_is len (λ i. f (at + i)) (take 8 (drop at all)) 0 long (λ k inside.
+    let few : k < 8 = omega (arith, inside, is) in
+    let listed : at + k < count = omega (arith, inside, is, within) in
+    get_or-take 8 (drop at all) k 0 few ∙ get_or-drop at all k 0 ∙ get_or-by_index count f (at + k) 0 listed))
+
+-- the change of a byte behind the first row
+later_change : (row i : ℕ) (planes predictions : List ℕ) → row ≤ i →
+    less (residue planes predictions i) (residue planes predictions (i - row)) ≡ change row planes predictions i
+later_change row i planes predictions later = let test = le-ltb i row later in rw test refl
+
+-- residues of bytes from a place on
+later_residue : (from k : ℕ) (planes predictions ps qs : List ℕ) → ps ≡ drop from planes → qs ≡ drop from predictions →
+    residue ps qs k ≡ residue planes predictions (from + k)
+later_residue from k planes predictions ps qs first second =
+    ap (λ l. less (slice_index l k) (slice_index qs k)) first ∙ ap (λ n. less n (slice_index qs k)) (get_or-drop from planes k 0)
+    ∙ ap (λ l. less (slice_index planes (from + k)) (slice_index l k)) second ∙ ap (less (slice_index planes (from + k))) (get_or-drop from predictions k 0)
+
+-- a group behind the first row, from these bytes and those a row before
+pub later_group_is : (row at : ℕ) (planes predictions ps qs before_ps before_qs : List ℕ) → row ≤ at → ps ≡ drop at planes → qs ≡ drop at predictions
+    → before_ps ≡ drop (at - row) planes → before_qs ≡ drop (at - row) predictions
+    → by_index 8 (λ i. sign_last (less (residue ps qs i) (residue before_ps before_qs i))) ≡
+    by_index 8 (λ i. sign_last (change row planes predictions (at + i)))
+later_group_is row at planes predictions ps qs before_ps before_qs later first second before_first before_second =
+    by_index-same 8 (λ i. sign_last (less (residue ps qs i) (residue before_ps before_qs i))) (λ i. sign_last (change row planes predictions (at + i)))
+    (λ k inside.
+    let place : at - row + k ≡ at + k - row = omega (arith, later) in
+    let behind : row ≤ at + k = omega (arith, later) in
+    ap (λ n. sign_last (less n (residue before_ps before_qs k))) (later_residue at k planes predictions ps qs first second)
+    ∙ ap (λ n. sign_last (less (residue planes predictions (at + k)) n))
+    (later_residue (at - row) k planes predictions before_ps before_qs before_first before_second ∙ ap (residue planes predictions) place)
+    ∙ ap sign_last (later_change row (at + k) planes predictions behind))
+
+-- a group is appended by its bits and its bytes
+pub group_pushed : (before between after group : List ℕ) (bits word : ℕ) → bits ≤ 8 → bits ≡ bits_of group → word ≡ joined bits group
+    → between ≡ before ++ bits ∷ [] → after ≡ between ++ take bits (to_le_bytes w64 word) → after ≡ before ++ group_bytes group
+group_pushed before between after group bits word few told whole first then_bytes =
     then_bytes ∙ ap (λ l. l ++ take bits (to_le_bytes w64 word)) first ∙ append_assoc before (bits ∷ []) (take bits (to_le_bytes w64 word))
-    ∙ ap (λ l. before ++ bits ∷ l) (word_bytes bits word few ∙ ap (cut 8 bits) whole)
-    ∙ ap (λ b. before ++ b ∷ cut 8 b (joined b group)) told ∙ ap (λ l. before ++ group_bytes l) (first_group left n is)
+    ∙ ap (λ l. before ++ bits ∷ l) (word_bytes bits word few ∙ ap (cut 8 bits) whole) ∙ ap (λ b. before ++ b ∷ cut 8 b (joined b group)) told
 
 -- one group more
-pub next_group : (groups k : ℕ) (ns left before : List ℕ) → k < groups → left ≡ drop (8 * k) ns
+pub next_group : (groups k : ℕ) (ns before after : List ℕ) → k < groups → after ≡ before ++ group_bytes (take 8 (drop (8 * k) ns))
     → before ++ grouped (groups - k) (drop (8 * k) ns) ≡ grouped groups ns →
-    (before ++ group_bytes (take 8 left)) ++ grouped (groups - (k + 1)) (drop (8 * (k + 1)) ns) ≡ grouped groups ns
+    after ++ grouped (groups - (k + 1)) (drop (8 * (k + 1)) ns) ≡ grouped groups ns
 unfolding grouped
-next_group groups k ns left before within is so_far =
+next_group groups k ns before after within pushed so_far =
     let one_less : groups - k ≡ suc (groups - (k + 1)) = omega (arith, within) in
     let further : 8 * k + 8 ≡ 8 * (k + 1) = omega arith in
     let next : drop 8 (drop (8 * k) ns) ≡ drop (8 * (k + 1)) ns = drop-drop 8 (8 * k) ns ∙ ap (λ (n : ℕ). drop n ns) further in
-    let rest = grouped (groups - (k + 1)) (drop (8 * (k + 1)) ns) in
-    append_assoc before (group_bytes (take 8 left)) rest ∙ ap (λ l. before ++ (group_bytes (take 8 l) ++ rest)) is
-    ∙ ap (λ l. before ++ (group_bytes (take 8 (drop (8 * k) ns)) ++ grouped (groups - (k + 1)) l)) (sym next)
+    let group : List ℕ = group_bytes (take 8 (drop (8 * k) ns)) in
+    let rest : List ℕ = grouped (groups - (k + 1)) (drop (8 * (k + 1)) ns) in
+    ap (λ l. l ++ rest) pushed ∙ append_assoc before group rest ∙ ap (λ l. before ++ (group ++ grouped (groups - (k + 1)) l)) (sym next)
     ∙ ap (λ n. before ++ grouped n (drop (8 * k) ns)) (sym one_less) ∙ so_far
 
 -- none are left
@@ -280,3 +313,11 @@ unfolding grouped
 last_group groups k ns before past so_far =
     let none : groups - k ≡ 0 = omega (arith, past) in
     sym (append-nil before) ∙ ap (λ n. before ++ grouped n (drop (8 * k) ns)) (sym none) ∙ so_far
+
+-- all of them are what is packed
+pub packed_are : (row : ℕ) (planes predictions bytes : List ℕ)
+    → bytes ≡ grouped (group_count (min (length planes) (length predictions))) (numbers row planes predictions) → bytes ≡ packed row planes predictions
+unfolding packed
+packed_are row planes predictions bytes is =
+    let long = length-by_index (min (length planes) (length predictions)) (λ i. sign_last (change row planes predictions i)) in
+    is ∙ ap (λ n. grouped (group_count n) (numbers row planes predictions)) (sym long)

@@ -129,8 +129,12 @@ impl Letters {
         ensures { self.new ≡ base64_text bytes.now }
     {
         self.clear();
-        'groups: for k in 0..(bytes.len() + 2) / 3 {
-            self.push(first_letters(&bytes[3 * k..]));
+        let whole = bytes.len() / 3;
+        'groups: for k in 0..whole {
+            self.push(group(bytes[3 * k], bytes[3 * k + 1], bytes[3 * k + 2]));
+        }
+        if 3 * whole < bytes.len() {
+            self.push(first_letters(&bytes[3 * whole..]));
         }
     }
 }

@@ -5,6 +5,7 @@ ghost use Rattle.std.specs.Io.KnownBytes.{WriteAppends};
 ghost use Rattle.av1_streams.specs.Faults.{HasCause};
 ghost use Rattle.av1_view.specs.Gathered.{gathered_bytes, gathered_faults};
 
+use av1_blocks::OutOfMemory;
 use av1_streams::{Failed, Sink};
 use std::alloc::Global;
 
@@ -24,6 +25,16 @@ impl Gathered {
             bytes: Vec::new(alloc),
             faults: 0,
         }
+    }
+
+    /// No bytes yet, and room for so many. An error is running out of memory.
+    pub fn with_capacity(alloc: Global, capacity: usize) -> Result<Gathered, OutOfMemory>
+        ensures { IfOk result (λ gathered. gathered_bytes gathered ≡ []) }
+    {
+        Ok(Gathered {
+            bytes: Vec::with_capacity(alloc, capacity)?,
+            faults: 0,
+        })
     }
 
     /// The bytes that were written.

@@ -1,6 +1,7 @@
 //! Predictions, packed against the planes.
-ghost use Rattle.std.specs.Prelude.{◌≡◌, ◌<◌, ◌≤◌, ◌^◌, ◌++◌, All, IfOk, length, take};
-ghost use Rattle.av1_view.specs.Packed.{bits_of, change, group_bytes, group_count, grouped, joined, numbers, packed, residue, sign_last};
+ghost use Rattle.std.specs.Prelude.{◌≡◌, ◌+◌, ◌<◌, ◌≤◌, ◌^◌, ◌++◌, All, IfOk, drop, length, take};
+ghost use Rattle.av1_lists.specs.Lists.{by_index};
+ghost use Rattle.av1_view.specs.Packed.{bits_of, change, group_bytes, joined, less, numbers, packed, residue, sign_last};
 
 use av1_blocks::OutOfMemory;
 use std::alloc::Global;
@@ -22,25 +23,95 @@ pub fn pack(
 ) -> Result<Vec<u8>, OutOfMemory>
     ensures { IfOk result (λ bytes. bytes.items ≡ packed row planes.now predictions.now) }
 {
-    let all = numbers(alloc, row, planes, predictions)?;
-    group_all(alloc, &all)
+    let count = planes.len().min(predictions.len());
+    let mut bytes = Vec::with_capacity(alloc, count)?;
+    'groups: for k in 0..(count + (GROUP - 1)) / GROUP {
+        push_part(row, planes, predictions, GROUP * k, &mut bytes)?;
+    }
+    Ok(bytes)
 }
 
-// The numbers of all bytes that were predicted.
-fn numbers(
-    alloc: Global,
+// Appends the group of the bytes from `at` on.
+fn push_part(
     row: usize,
     planes: &[u8],
     predictions: &[u8],
-) -> Result<Vec<u8>, OutOfMemory>
-    ensures { IfOk result (λ all. all.items ≡ numbers row planes.now predictions.now) }
+    at: usize,
+    bytes: &mut Vec<u8>,
+) -> Result<(), OutOfMemory>
+    requires plane { at < length planes.now }
+    requires prediction { at < length predictions.now }
+    ensures { IfOk result (λ done. bytes.new.items ≡
+        bytes.old.items ++ group_bytes (take 8 (drop at (numbers row planes.now predictions.now)))) }
 {
-    let count = planes.len().min(predictions.len());
-    let mut all = Vec::with_capacity(alloc, count)?;
-    for i in 0..count {
-        all.push(sign_last(change(row, planes, predictions, i)))?;
+    let len = (planes.len().min(predictions.len()) - at).min(GROUP);
+    if row <= at && len == GROUP {
+        let before = at - row;
+        let group = later_group(
+            &planes[at..],
+            &predictions[at..],
+            &planes[before..],
+            &predictions[before..],
+        );
+        return push_group(&group, bytes);
     }
-    Ok(all)
+    push_any(row, planes, predictions, at, len, bytes)
+}
+
+// Appends the group of `len` bytes from `at` on. Nearly all groups go the way above.
+#[inline(never)]
+fn push_any(
+    row: usize,
+    planes: &[u8],
+    predictions: &[u8],
+    at: usize,
+    len: usize,
+    bytes: &mut Vec<u8>,
+) -> Result<(), OutOfMemory>
+    requires short { len ≤ 8 }
+    requires plane { at + len ≤ length planes.now }
+    requires prediction { at + len ≤ length predictions.now }
+    ensures { IfOk result (λ done. bytes.new.items ≡
+        bytes.old.items ++ group_bytes (by_index len (λ i. sign_last (change row planes.now predictions.now (at + i))))) }
+{
+    let group = any_group(row, planes, predictions, at, len);
+    push_group(&group[..len], bytes)
+}
+
+// The numbers of the first 8 of some bytes, all behind the first row, beside those a row before.
+fn later_group(
+    planes: &[u8],
+    predictions: &[u8],
+    planes_before: &[u8],
+    predictions_before: &[u8],
+) -> [u8; GROUP]
+    requires planes { 8 ≤ length planes.now }
+    requires predictions { 8 ≤ length predictions.now }
+    requires planes_before { 8 ≤ length planes_before.now }
+    requires predictions_before { 8 ≤ length predictions_before.now }
+    ensures { result ≡ by_index 8 (λ i. sign_last (less (residue planes.now predictions.now i)
+        (residue planes_before.now predictions_before.now i))) }
+{
+    let mut group = [0; GROUP];
+    for i in 0..GROUP {
+        let before = residue(planes_before, predictions_before, i);
+        group[i] = sign_last(residue(planes, predictions, i).wrapping_sub(before));
+    }
+    group
+}
+
+// The numbers of `len` bytes from `at` on, at the front of a group.
+fn any_group(row: usize, planes: &[u8], predictions: &[u8], at: usize, len: usize) -> [u8; GROUP]
+    requires short { len ≤ 8 }
+    requires plane { at + len ≤ length planes.now }
+    requires prediction { at + len ≤ length predictions.now }
+    ensures { take len result ≡ by_index len (λ i. sign_last (change row planes.now predictions.now (at + i))) }
+{
+    let mut group = [0; GROUP];
+    for i in 0..len {
+        group[i] = sign_last(change(row, planes, predictions, at + i));
+    }
+    group
 }
 
 // By how much byte `i` of the planes is more than its prediction.
@@ -76,23 +147,12 @@ fn sign_last(difference: u8) -> u8
     }
 }
 
-// All groups of some numbers.
-#[tactic(auto, unfolding(crate::specs::Packed::grouped))]
-fn group_all(alloc: Global, all: &[u8]) -> Result<Vec<u8>, OutOfMemory>
-    ensures { IfOk result (λ bytes. bytes.items ≡ grouped (group_count (length all.now)) all.now) }
+// Appends a group: how many bits each of its numbers has, and the numbers.
+#[inline(always)]
+fn push_group(group: &[u8], bytes: &mut Vec<u8>) -> Result<(), OutOfMemory>
+    requires { length group.now ≤ 8 }
+    ensures { IfOk result (λ done. bytes.new.items ≡ bytes.old.items ++ group_bytes group.now) }
 {
-    let mut bytes = Vec::new(alloc);
-    'groups: for k in 0..(all.len() + (GROUP - 1)) / GROUP {
-        push_group(&all[GROUP * k..], &mut bytes)?;
-    }
-    Ok(bytes)
-}
-
-// Appends the first group of some numbers.
-fn push_group(left: &[u8], bytes: &mut Vec<u8>) -> Result<(), OutOfMemory>
-    ensures { IfOk result (λ done. bytes.new.items ≡ bytes.old.items ++ group_bytes (take 8 left.now)) }
-{
-    let group = &left[..left.len().min(GROUP)];
     let bits = bits_of(group);
     bytes.push(bits)?;
     let word = joined(bits, group).to_le_bytes();
@@ -101,6 +161,7 @@ fn push_group(left: &[u8], bytes: &mut Vec<u8>) -> Result<(), OutOfMemory>
 }
 
 // How many bits the greatest of some numbers has.
+#[inline(always)]
 fn bits_of(group: &[u8]) -> u8
     ensures value { result ≡ bits_of group.now }
     ensures few { result ≤ 8 }
@@ -114,6 +175,7 @@ fn bits_of(group: &[u8]) -> u8
 }
 
 // At most 8 numbers of so many bits each as one number, the first lowest.
+#[inline(always)]
 fn joined(bits: u8, group: &[u8]) -> u64
     requires few { bits ≤ 8 }
     requires short { length group.now ≤ 8 }

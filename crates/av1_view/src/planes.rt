@@ -9,6 +9,7 @@ use crate::gathered::Gathered;
 use av1_blocks::OutOfMemory;
 use av1_plan::Plan;
 use av1_recon::write_with_predictions;
+use av1_trace::planes_len;
 use std::alloc::Global;
 
 /// What a plan comes to.
@@ -30,8 +31,9 @@ pub fn reconstruct(alloc: Global, plan: &Plan) -> Result<Reconstructed, OutOfMem
     ensures planes { IfOk result (λ made. made.planes.items ≡ planes_of (plan_value plan.now)) }
     ensures predictions { IfOk result (λ made. made.predictions.items ≡ predictions_of (plan_value plan.now)) }
 {
-    let mut planes = Gathered::new(alloc);
-    let mut predictions = Gathered::new(alloc);
+    let len = planes_len(plan.header());
+    let mut planes = Gathered::with_capacity(alloc, len)?;
+    let mut predictions = Gathered::with_capacity(alloc, len)?;
     // What is gathered in memory fails only where memory runs out.
     match write_with_predictions(alloc, plan, &mut planes, &mut predictions) {
         Ok(()) => Ok(Reconstructed {

@@ -8,5 +8,5 @@ returns c =
     let bytes =
     c.in_ok-extend_from_slice.ensures.items ∙ ap (λ (n : ℕ). between ++ take n c.to_le_bytes-word.result) c.from.ensures
     ∙ ap (λ (l : List ℕ). between ++ take c.bits_of-bits.result l) c.to_le_bytes-word.ensures in
-    group_pushed c.args.bytes.now.items between _ c.args.left.now _ c.bits_of-bits.result c.joined.result c.min.ensures c.bits_of-bits.ensures.few
+    group_pushed c.args.bytes.now.items between _ c.args.group.now c.bits_of-bits.result c.joined.result c.bits_of-bits.ensures.few
     c.bits_of-bits.ensures.value c.joined.ensures c.in_ok-push.ensures.items bytes
