@@ -2,7 +2,7 @@
 """Opens pages of `av1_view` in a headless Chromium, and looks whether they show what they should.
 
     tools/view_in_browser/view_in_browser.py [--view PROGRAM] [--recon PROGRAM] [--tools PROGRAM] [--screenshots FOLDER] [--only WORD] [--small]
-        [--frame PLAN]
+        [--frame PLAN] [--coded PLAN]
 
 The programs are by default those that `rt run` leaves in the folders `out` of `av1_view`, `av1_vectors` and `av1_tools`. Each page is compared with the
 one that `view_template` puts together from the planes of `av1_vectors` and the page's own predictions, byte by byte, and opened; the
@@ -10,7 +10,8 @@ predictions with what `av1_vectors` makes of plans without the coefficients that
 `plans.py`; what it shows is looked at by keys, by the mouse, in windows of all sizes, on light and dark, and with two of the device's pixels in
 one. With `--view none` the pages are put together here, with the frame without coefficients as predictions, and the program is not asked. `--only`
 takes the groups of steps whose name has the word, and `--small` leaves out the large frames: those of 2048x2048, and that of `--frame`, the plan of an
-intra frame as `integrations/rav1e/record` leaves it, whose page has to be small and to open at once.
+intra frame as `integrations/rav1e/record` leaves it, whose page has to be small and to open at once. Of `--coded`, a small frame of a clip,
+are pictures of what an encoder does.
 
 Needs `chromium` (of Debian's packages) and no network. Ends with 'N passed, M failed'; the status is 1 where M is not 0. With
 `--screenshots` pictures of the pages are left in that folder.
@@ -158,7 +159,6 @@ def five(browser, pages, checks, options):
     plan = Plan(data)
     path, planes, predictions = pages.write("five", data)
     held.look_at(browser, checks, "make 5", path, plan, planes, predictions)
-    screenshot(browser, options, "view_frame", "view.moveTo(330, 100), view.fitFrame()")
     shown.look_at_layers(browser, checks)
     shown.look_at_components(browser, checks, plan)
     shown.look_at_gains(browser, checks, plan, planes, predictions)
@@ -183,13 +183,6 @@ def pictures_of_five(browser, options):
     browser.value("['transforms', 'chroma', 'coefficients'].forEach((l) => view.setLayer(l, false))")
     screenshot(browser, options, "view_source", "view.setLayer('source', true), view.moveToLeaf(68), view.fit({ x: 304, y: 64, width: 128, height: 96 }, 1.05)")
     browser.value("view.setLayer('source', false), view.setLocked(false)")
-    others = "['modes', 'vectors'].forEach((l) => view.setLayer(l, %s)), "
-    screenshot(browser, options, "view_residue",
-               others % "false" + "view.setSource('residue'), view.setComponent('Y'), view.setGain(64), view.moveTo(330, 100), view.fitFrame()")
-    browser.value(others % "true" + "view.setSource('reconstruction'), view.setComponent('RGB'), view.setGain('automatic')")
-    screenshot(browser, options, "view_map", others % "false" + "view.setLayer('map', true), view.moveTo(330, 100), view.fitFrame(), "
-               "document.getElementById('classes').scrollIntoView()")
-    browser.value(others % "true" + "view.setLayer('map', false)")
     browser.scheme("light")
     browser.window(390, 760)
     screenshot(browser, options, "view_narrow",
@@ -331,7 +324,25 @@ def recorded(browser, pages, checks, options):
     checks.same("recorded: faults of the page", browser.faults(), [])
 
 
-SMALL = [worked, stripes, departures, five, trace, everywhere, sequence, grid]
+def coded(browser, pages, checks, options):
+    """A frame of a clip that an encoder coded: its leaves, its residue and its modes."""
+    if not options.coded:
+        return
+    with open(options.coded, "rb") as file:
+        data = file.read()
+    path, planes, predictions = pages.write("coded", data)
+    held.look_at(browser, checks, "coded", path, Plan(data), planes, predictions)
+    place = "view.moveTo(150, 100), view.fitFrame()"
+    screenshot(browser, options, "view_coded", place)
+    others = "['modes', 'vectors'].forEach((l) => view.setLayer(l, %s)), "
+    screenshot(browser, options, "view_residue", others % "false" + "view.setSource('residue'), view.setComponent('Y'), view.setGain(8), " + place)
+    browser.value("view.setSource('reconstruction'), view.setComponent('RGB'), view.setGain('automatic')")
+    screenshot(browser, options, "view_map", "view.setLayer('map', true), " + place + ", document.getElementById('classes').scrollIntoView()")
+    browser.value(others % "true" + "view.setLayer('map', false)")
+    checks.same("coded: faults of the page", browser.faults(), [])
+
+
+SMALL = [worked, stripes, departures, five, coded, trace, everywhere, sequence, grid]
 LARGE = [great, greatest_trace, recorded]
 
 
@@ -341,6 +352,7 @@ def main():
         parser.add_argument("--" + name, default=os.path.join(CRATES, crate, "out", crate))
     parser.add_argument("--screenshots")
     parser.add_argument("--frame")
+    parser.add_argument("--coded")
     parser.add_argument("--only", default="")
     parser.add_argument("--small", action="store_true")
     options, checks = parser.parse_args(), Checks()
