@@ -61,6 +61,7 @@ static void differences(void) {
         all_kept(ac);
         return;
     }
+    w = block_sides[b.block_size][0], h = block_sides[b.block_size][1];
     kept_behind(ac, w * h);
     long sum = 0;
     for (size_t i = 0; i < w * h; i++) sum += ((int16_t *)ac.at)[i];
