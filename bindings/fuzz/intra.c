@@ -23,7 +23,7 @@ static bool is_depth_here(uint8_t bits) {
 /* How many places of each side the block reads. */
 static void read_of(const av1_intra_block *b, size_t width, size_t height, size_t *left, size_t *above) {
     *left = height, *above = width;
-    if (b->mode == 0) *left = b->has_left ? height : 0, *above = b->has_above ? width : 0;
+    if (b->mode == 0 || b->mode == 12) *left = b->has_left ? height : 0, *above = b->has_above ? width : 0;
     if (b->mode == 0 || b->mode > 8) return;
     int angle = angles[b->mode] + 3 * b->angle_step;
     if (angle <= 90) *left = 0;
