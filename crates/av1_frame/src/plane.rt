@@ -4,7 +4,7 @@ ghost use Rattle.std.specs.Prelude.{◌≡◌, ℕ, ◌+◌, ◌-◌, ◌*◌, �
 ghost use Rattle.std.specs.Borrow.{sem};
 ghost use Rattle.av1_frame.specs.Samples.{part, with_part};
 ghost use Rattle.av1_frame.specs.Areas.{area_from, from_origin, stored_area, all_visible, IsStored};
-ghost use Rattle.av1_frame.specs.Planes.{place_at, InPlane, LendsPlanePart, IsWhole, new_config, bare_config, plain_config};
+ghost use Rattle.av1_frame.specs.Planes.{place_at, InPlane, LendsPlanePart, IsWhole, with_sides, new_config, bare_config, plain_config};
 ghost use Rattle.av1_frame.specs.Regions.{InStorage, IsReadable};
 
 use crate::pixel::Pixel;
@@ -168,6 +168,20 @@ impl<T: Pixel> Plane<T> {
         ensures { result ≡ self.now.plane_cfg }
     {
         self.plane_cfg
+    }
+
+    /// Makes so many columns and rows visible, from the first visible sample on. The samples stay.
+    pub fn set_sides(&mut self, width: usize, height: usize)
+        requires whole { IsWhole self.old }
+        requires some_columns { 0 < width }
+        requires some_rows { 0 < height }
+        requires columns { let cfg = self.old.plane_cfg in cfg.xorigin + width + cfg.xpad ≤ cfg.stride }
+        requires rows { let cfg = self.old.plane_cfg in cfg.yorigin + height + cfg.ypad ≤ cfg.alloc_height }
+        ensures value { self.new ≡ with_sides width height self.old }
+        ensures whole { IsWhole self.new }
+    {
+        self.plane_cfg.width = width;
+        self.plane_cfg.height = height;
     }
 
     /// All that is stored.

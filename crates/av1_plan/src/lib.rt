@@ -14,7 +14,7 @@
 //! - A `Plan` keeps as a fact that a complete proper list of fields spells it. Its leaves stand in coding order: they
 //!   are those of one tree of marks for each superblock of the frame (`specs/Tree.antt`, `specs/CodingOrder.antt`).
 //! - What holds of every plan that is read, its accessors say (`specs/ReadPlans.antt`): the ranges of the frame's
-//!   numbers, as many reference samples as a plane has and each of the frame's depth, and of a leaf that it stands on
+//!   numbers, as many reference samples as of a plane are shown and each of the frame's depth, and of a leaf that it stands on
 //!   its grid, and has a chroma mode, a chroma type and triples of chroma where it carries chroma alone. A leaf one of
 //!   whose sides is four times the other ends in the frame.
 //! - The grammar has two versions, told by the letters at the front. The second adds two marks, which cut a node into
@@ -42,7 +42,7 @@ mod reader;
 
 pub use check::{check_leaves, check_plan, is_inter_size};
 pub use error::{Invalid, InvalidKind, PlanError};
-pub use geometry::{PlaneArea, TransformBlock, carries_chroma, plane_tx_size};
+pub use geometry::{PlaneArea, TransformBlock, carries_chroma, coded_side, plane_tx_size};
 pub use header::Header;
 pub use laws::{
     fronts_have_these_lengths, pieces_are_a_plan, texts_are_of_one_plan,

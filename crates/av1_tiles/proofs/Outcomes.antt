@@ -1,6 +1,6 @@
 -- Bytes have one outcome.
 use Rattle.std.proofs.Common.{◌≡◌, ℕ, ◌+◌, ◌-◌, ◌*◌, ◌/◌, ◌^◌, ◌<◌, ◌≤◌, List, Result, Ok, Err, sym, ap, subst, ◌∙◌, arith}
-use Rattle.av1_plan.specs.Geometry.{xdec, ydec, plane_width, plane_height}
+use Rattle.av1_plan.specs.Geometry.{xdec, ydec, shown_columns, shown_rows}
 use Rattle.av1_plan.specs.Plan.{PlanValue}
 use Rattle.av1_plan.proofs.Spelled.{one_text}
 use Rattle.av1_tile.specs.Canvas.{Component}
@@ -29,8 +29,8 @@ use Rattle.av1_tiles.proofs.Refusals.{front_spelled, not_both, one_grid, one_rea
 -- two frames that tiles come to agree at each sample
 agree : (f : FileValue) → HasBounds f.front → (plans others : ℕ → PlanValue) → AreTiles f plans → AreTiles f others → (a b : Component → ℕ → ℕ → ℕ) →
     IsJoined f plans a → IsJoined f others b
-    → (c : Component) (x y : ℕ) → x < plane_width f.front.header (number c) → y < plane_height f.front.header (number c) → a c x y ≡ b c x y
-unfolding plane_width plane_height
+    → (c : Component) (x y : ℕ) → x < shown_columns f.front.header (number c) → y < shown_rows f.front.header (number c) → a c x y ≡ b c x y
+unfolding shown_columns shown_rows
 agree f bounds plans others tiles_a tiles_b a b joined_a joined_b c x y lx ly =
     let h = f.front.header in
     let p = number c in

@@ -72,8 +72,8 @@ placed_fits h tile a p x y plane is area tile_is x_is y_is =
     let rows = rows_within h a p area in
     rw (tile_is, x_is, y_is) (record {
       storage = is.whole;
-      columns = omega (arith, columns, is.width, is.whole.visible_columns);
-      rows = omega (arith, rows, is.height, is.whole.visible_rows);
+      columns = omega (arith, columns, is.shown_columns, is.whole.visible_columns);
+      rows = omega (arith, rows, is.shown_rows, is.whole.visible_rows);
     })
 
 -- a plane of a frame that was painted is one
@@ -81,4 +81,4 @@ pub painted_plane_of : {T : Type 0} (h : Header) (p : ℕ) (plane new : Plane T)
     new ≡ painted_plane plane a f → IsPlaneOf h p new
 painted_plane_of h p plane new a f is e =
     subst (IsPlaneOf h p) (sym e)
-    (record { whole = painted_plane_whole plane a f is.whole; width = is.width; height = is.height; xdec = is.xdec; ydec = is.ydec })
+    (painted_place h p plane a f is)

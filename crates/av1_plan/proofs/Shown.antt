@@ -1,0 +1,23 @@
+-- What is shown of a plane lies in what is coded of it.
+use Rattle.std.proofs.Common.{◌≡◌, ℕ, zero, suc, ◌+◌, ◌/◌, ◌%◌, ◌^◌, ◌<◌, ◌≤◌, Bool, true, false, if◌then◌else◌, arith}
+use Rattle.std.specs.Prelude.{◌==◌, nat_lt}
+use Rattle.av1_plan.specs.declared.header.Header.{Header}
+use Rattle.av1_plan.specs.Geometry.{xdec, ydec, plane_width, plane_height, shown_columns, shown_rows}
+use Rattle.av1_plan.specs.ReadPlans.{IsReadFrame}
+
+-- a side that is shown, of one that is coded, in a direction that is halved or isn't
+side_shown : (shown coded : ℕ) (halved : Bool) → 1 ≤ shown → shown ≤ coded → coded % 8 ≡ 0 →
+    (0 < (shown + (if halved then 1 else 0)) / 2 ^ (if halved then 1 else 0))
+    × ((shown + (if halved then 1 else 0)) / 2 ^ (if halved then 1 else 0) ≤ coded / 2 ^ (if halved then 1 else 0))
+side_shown shown coded true some within whole = (omega (arith, some), omega (arith, within, whole))
+side_shown shown coded false some within whole = (omega (arith, some), omega (arith, within))
+
+pub columns_shown : (h : Header) (p : ℕ) → IsReadFrame h → (0 < shown_columns h p) × (shown_columns h p ≤ plane_width h p)
+unfolding shown_columns plane_width xdec
+columns_shown h zero is = side_shown h.shown_width h.width false is.shown_width.some is.shown_width.within is.width.whole
+columns_shown h (suc p) is = side_shown h.shown_width h.width (nat_lt h.sampling 2) is.shown_width.some is.shown_width.within is.width.whole
+
+pub rows_shown : (h : Header) (p : ℕ) → IsReadFrame h → (0 < shown_rows h p) × (shown_rows h p ≤ plane_height h p)
+unfolding shown_rows plane_height ydec
+rows_shown h zero is = side_shown h.shown_height h.height false is.shown_height.some is.shown_height.within is.height.whole
+rows_shown h (suc p) is = side_shown h.shown_height h.height (h.sampling == 0) is.shown_height.some is.shown_height.within is.height.whole
