@@ -172,13 +172,8 @@ impl<T: Pixel> Plane<T> {
 
     /// Makes so many columns and rows visible, from the first visible sample on. The samples stay.
     pub fn set_sides(&mut self, width: usize, height: usize)
-        requires whole { IsWhole self.old }
-        requires some_columns { 0 < width }
-        requires some_rows { 0 < height }
-        requires columns { let cfg = self.old.plane_cfg in cfg.xorigin + width + cfg.xpad ≤ cfg.stride }
-        requires rows { let cfg = self.old.plane_cfg in cfg.yorigin + height + cfg.ypad ≤ cfg.alloc_height }
-        ensures value { self.new ≡ with_sides width height self.old }
-        ensures whole { IsWhole self.new }
+        requires { IsWhole (with_sides width height self.old) }
+        ensures { self.new ≡ with_sides width height self.old }
     {
         self.plane_cfg.width = width;
         self.plane_cfg.height = height;

@@ -3,7 +3,7 @@ use Rattle.std.proofs.Common.{◌≡◌, ℕ, zero, suc, ◌+◌, ◌/◌, ◌%�
 use Rattle.std.specs.Prelude.{◌==◌, nat_lt}
 use Rattle.av1_plan.specs.declared.header.Header.{Header}
 use Rattle.av1_plan.specs.Geometry.{xdec, ydec, plane_width, plane_height, shown_columns, shown_rows}
-use Rattle.av1_plan.specs.ReadPlans.{IsReadFrame}
+use Rattle.av1_plan.specs.ReadPlans.{IsSide, IsShown}
 
 -- a side that is shown, of one that is coded, in a direction that is halved or isn't
 side_shown : (shown coded : ℕ) (halved : Bool) → 1 ≤ shown → shown ≤ coded → coded % 8 ≡ 0 →
@@ -12,12 +12,27 @@ side_shown : (shown coded : ℕ) (halved : Bool) → 1 ≤ shown → shown ≤ c
 side_shown shown coded true some within whole = (omega (arith, some), omega (arith, within, whole))
 side_shown shown coded false some within whole = (omega (arith, some), omega (arith, within))
 
-pub columns_shown : (h : Header) (p : ℕ) → IsReadFrame h → (0 < shown_columns h p) × (shown_columns h p ≤ plane_width h p)
+pub columns_shown : (h : Header) (p : ℕ) {version : ℕ} → IsSide h.width → IsShown version h.shown_width h.width → (0 < shown_columns h p) × (shown_columns h p ≤ plane_width h p)
 unfolding shown_columns plane_width xdec
-columns_shown h zero is = side_shown h.shown_width h.width false is.shown_width.some is.shown_width.within is.width.whole
-columns_shown h (suc p) is = side_shown h.shown_width h.width (nat_lt h.sampling 2) is.shown_width.some is.shown_width.within is.width.whole
+columns_shown h zero side is = side_shown h.shown_width h.width false is.some is.within side.whole
+columns_shown h (suc p) side is = side_shown h.shown_width h.width (nat_lt h.sampling 2) is.some is.within side.whole
 
-pub rows_shown : (h : Header) (p : ℕ) → IsReadFrame h → (0 < shown_rows h p) × (shown_rows h p ≤ plane_height h p)
+pub rows_shown : (h : Header) (p : ℕ) {version : ℕ} → IsSide h.height → IsShown version h.shown_height h.height → (0 < shown_rows h p) × (shown_rows h p ≤ plane_height h p)
 unfolding shown_rows plane_height ydec
-rows_shown h zero is = side_shown h.shown_height h.height false is.shown_height.some is.shown_height.within is.height.whole
-rows_shown h (suc p) is = side_shown h.shown_height h.height (h.sampling == 0) is.shown_height.some is.shown_height.within is.height.whole
+rows_shown h zero side is = side_shown h.shown_height h.height false is.some is.within side.whole
+rows_shown h (suc p) side is = side_shown h.shown_height h.height (h.sampling == 0) is.some is.within side.whole
+
+-- no more of it is shown than of luma
+side_few : (shown : ℕ) (halved : Bool) → (shown + (if halved then 1 else 0)) / 2 ^ (if halved then 1 else 0) ≤ shown
+side_few shown true = omega arith
+side_few shown false = omega arith
+
+pub columns_few : (h : Header) (p : ℕ) → shown_columns h p ≤ h.shown_width
+unfolding shown_columns xdec
+columns_few h zero = side_few h.shown_width false
+columns_few h (suc p) = side_few h.shown_width (nat_lt h.sampling 2)
+
+pub rows_few : (h : Header) (p : ℕ) → shown_rows h p ≤ h.shown_height
+unfolding shown_rows ydec
+rows_few h zero = side_few h.shown_height false
+rows_few h (suc p) = side_few h.shown_height (h.sampling == 0)

@@ -5,30 +5,19 @@ use Rattle.std.specs.List.{list_all}
 use Rattle.std.proofs.Math.Nat.{mul-le-mul}
 use Rattle.std.proofs.lemmas.Bool.{and_parts, eqb-true}
 use Rattle.av1_plan.specs.declared.header.Header.{Header}
-use Rattle.av1_plan.specs.Geometry.{plane_len, shown_columns, shown_rows, xdec, ydec}
+use Rattle.av1_plan.specs.Geometry.{plane_len, shown_columns, shown_rows}
+use Rattle.av1_plan.proofs.Shown.{columns_few, rows_few}
 use Rattle.av1_planwrite.specs.Building.{admits_header, admits_plane, admits_reference}
 use Rattle.av1_planwrite.proofs.ReadHeaders.{header_read}
-
-halved : (n : ℕ) (b : Bool) → n ≤ 2048 → (n + (if b then 1 else 0)) / 2 ^ (if b then 1 else 0) ≤ 2048
-halved n true le = omega (arith, le)
-halved n false le = omega (arith, le)
-
-few_columns : (h : Header) (p : ℕ) → h.shown_width ≤ 2048 → shown_columns h p ≤ 2048
-unfolding shown_columns xdec
-few_columns h zero le = halved h.shown_width false le
-few_columns h (suc p) le = halved h.shown_width (nat_lt h.sampling 2) le
-
-few_rows : (h : Header) (p : ℕ) → h.shown_height ≤ 2048 → shown_rows h p ≤ 2048
-unfolding shown_rows ydec
-few_rows h zero le = halved h.shown_height false le
-few_rows h (suc p) le = halved h.shown_height (h.sampling == 0) le
 
 few_samples : (h : Header) (p : ℕ) (samples : List ℕ) → h.shown_width ≤ 2048 → h.shown_height ≤ 2048 → admits_plane h p samples ≡ true →
     length samples ≤ 2 ^ 22
 unfolding admits_plane
 few_samples h p samples width height e =
     let (count, _) = and_parts (length samples == plane_len h p) (list_all (λ sample. nat_lt sample (2 ^ h.depth)) samples) e in
-    let most : shown_columns h p * shown_rows h p ≤ 2048 * 2048 = mul-le-mul (few_columns h p width) (few_rows h p height) in
+    let columns : shown_columns h p ≤ 2048 = omega (arith, columns_few h p, width) in
+    let rows : shown_rows h p ≤ 2048 = omega (arith, rows_few h p, height) in
+    let most : shown_columns h p * shown_rows h p ≤ 2048 * 2048 = mul-le-mul columns rows in
     omega (arith, most, eqb-true (length samples) (plane_len h p) count)
 
 -- three planes that are admitted have few samples each

@@ -6,6 +6,7 @@ use Rattle.std.proofs.lemmas.List.FromFn.{sum_by-map-range_with_len_more, length
 use Rattle.std.proofs.lemmas.List.Sums.{sum_by-append, sum_by-cons}
 use Rattle.av1_plan.specs.Geometry.{shown_columns}
 use Rattle.av1_plan.specs.declared.header.Header.{Header}
+use Rattle.av1_plan.proofs.Shown.{columns_few}
 use Rattle.av1_lists.specs.Lists.{by_index}
 use Rattle.av1_tile.specs.PlaneBlocks.{shown_of, component}
 use Rattle.av1_tile.specs.State.{Picture, state_header, shown, state_row}
@@ -31,11 +32,10 @@ rows_total-all num s p n e = ap (rows_total num s p) e ∙ sym (sum-flat_map (λ
 
 -- a row that was lent is no longer than the frame is wide
 pub row_within : {T : Type 0} (num : T → ℕ) (s : Picture T) (p y : ℕ) (h : Header) (row : List T) → h ≡ state_header s → map num row ≡ state_row num s p y →
-    length row ≤ h.shown_width + 1
-unfolding shown_columns
+    length row ≤ h.shown_width
 row_within num s p y h row same is =
     let width : length row ≡ shown_columns (state_header s) p =
     sym (length-map row num) ∙ ap length is ∙ length-map-range_with_len (λ x. shown num s (component p) x y) 0 (shown_columns (state_header s) p) in
-    let narrow : shown_columns (state_header s) p ≤ (state_header s).shown_width + 1 = omega arith in
+    let narrow = columns_few (state_header s) p in
     let wide : h.shown_width ≡ (state_header s).shown_width = ap (λ (g : Header). g.shown_width) same in
     omega (arith, width, narrow, wide)

@@ -54,6 +54,7 @@ pub fn write_frame<T: Pixel, W: Sink>(
 }
 
 // Appends the visible rows of plane `p` of a frame, or a prefix of their bytes.
+#[tactic(auto, using(av1_tile::proofs::Pictures::shows_part))]
 fn write_plane<T: Pixel, W: Sink>(
     header: &Header,
     plane: &Plane<T>,

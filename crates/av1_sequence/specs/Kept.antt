@@ -76,8 +76,8 @@ pub record IsKeptAt {T : Type 0} (num : T → ℕ) (h : Header) (fi : FrameInvar
 pub record AreFrames (h : Header) : Type 0 where
   pub width : IsSide h.width
   pub height : IsSide h.height
-  pub shown_width : IsShown h.version h.shown_width h.width
-  pub shown_height : IsShown h.version h.shown_height h.height
+  pub shown_width : IsShown 2 h.shown_width h.width
+  pub shown_height : IsShown 2 h.shown_height h.height
   pub depth : is_depth h.depth ≡ true
   pub sampling : h.sampling ≤ 2
 

@@ -147,6 +147,7 @@ fn places_of(places: &[Option<u8>; SLOTS], slots: &[u8; 7]) -> [u8; 7]
 }
 
 /// Makes what is shown of plane `p` of a frame its visible samples, and pads it with these.
+#[tactic(auto, using(crate::proofs::Shown::cut_whole))]
 fn pad_shown<T: Pixel>(header: &Header, plane: &mut Plane<T>, p: usize)
     requires frame { AreFrames header.now }
     requires stores { Stores T.num header.now p plane.old }

@@ -90,8 +90,8 @@ new_stores num zero h p cfg (Ok plane) read none width height across down is sam
     whole = whole;
     width = ap (λ (c : PlaneConfig). c.width) is ∙ width;
     height = ap (λ (c : PlaneConfig). c.height) is ∙ height;
-    shown_columns = subst (λ (n : ℕ). shown_columns h p ≤ n) (sym (ap (λ (c : PlaneConfig). c.width) is ∙ width)) (columns_shown h p read).1;
-    shown_rows = subst (λ (n : ℕ). shown_rows h p ≤ n) (sym (ap (λ (c : PlaneConfig). c.height) is ∙ height)) (rows_shown h p read).1;
+    shown_columns = subst (λ (n : ℕ). shown_columns h p ≤ n) (sym (ap (λ (c : PlaneConfig). c.width) is ∙ width)) (columns_shown h p read.width read.shown_width).1;
+    shown_rows = subst (λ (n : ℕ). shown_rows h p ≤ n) (sym (ap (λ (c : PlaneConfig). c.height) is ∙ height)) (rows_shown h p read.height read.shown_height).1;
     xdec = ap (λ (c : PlaneConfig). c.xdec) is ∙ across;
     ydec = ap (λ (c : PlaneConfig). c.ydec) is ∙ down;
   };
@@ -152,8 +152,8 @@ module _ (plan : PlanValue) (spelled : ∥ IsSpelled grammar plan ∥₁) (valid
       → q ≡ fold (fast_step num pixel plan) p (steps_by plan.header told plan.leaves) → ShowsPlan num plan q
   plan_shows num pixel law back p q told stores room after walked k x y hx hy =
       let read = kept_frame plan spelled in
-      let coded_x : x < plane_width plan.header (number k) = omega (arith, hx, (columns_shown plan.header (number k) read).1) in
-      let coded_y : y < plane_height plan.header (number k) = omega (arith, hy, (rows_shown plan.header (number k) read).1) in
+      let coded_x : x < plane_width plan.header (number k) = omega (arith, hx, (columns_shown plan.header (number k) read.width read.shown_width).1) in
+      let coded_y : y < plane_height plan.header (number k) = omega (arith, hy, (rows_shown plan.header (number k) read.height read.shown_height).1) in
       ∥∥₁_elim spelled (hlevel (ℕ_set))
       (λ s. sym
       (ap sample_of

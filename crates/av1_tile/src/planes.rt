@@ -103,6 +103,7 @@ impl<T: Pixel> Planes<T> {
     }
 
     /// Row `y` of what is shown of plane `p` (0 for Y, 1 for U and 2 for V) of a frame, from its first sample on.
+    #[tactic(auto, using(crate::proofs::Pictures::shows_part))]
     pub fn row(&self, header: &Header, p: usize, y: usize) -> &[T]
         requires frame { AreFrame header.now self.now }
         requires plane { p < 3 }

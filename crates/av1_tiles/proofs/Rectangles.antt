@@ -7,9 +7,9 @@ use Rattle.std.proofs.lemmas.List.Elements.{All-nil, All-append, All-take, All-d
 use Rattle.av1_lists.proofs.Ranges.{range-append}
 use Rattle.std.specs.Prelude.{◌==◌, nat_lt, Bool, true, false, if◌then◌else◌}
 use Rattle.av1_plan.specs.declared.header.Header.{Header}
-use Rattle.av1_plan.specs.Geometry.{xdec, ydec, plane_height, shown_columns, shown_rows}
+use Rattle.av1_plan.specs.Geometry.{xdec, ydec, shown_columns, shown_rows}
 use Rattle.av1_plan.specs.ReadPlans.{ArePlane, IsReadFrame}
-use Rattle.av1_plan.proofs.Shown.{rows_shown}
+use Rattle.av1_plan.proofs.Shown.{rows_few}
 use Rattle.av1_tiles.specs.declared.area.TileArea.{TileArea}
 use Rattle.av1_tiles.specs.Tiles.{IsTileArea, tile_header, corner_column, corner_row, rectangle, tile_plane}
 
@@ -145,18 +145,7 @@ pub few_by : (h tile : Header) (a : TileArea) (p y dec height : ℕ) → IsReadF
     height ≡ shown_rows tile p → y / 2 ^ dec + height ≤ 65536
 few_by h tile a p y dec height frame is tile_is y_is dec_is height_is =
     let within = rows_within h a p is in
-    let coded = (rows_shown h p frame).1 in
-    let most = coded_few h p in
-    rw (y_is, dec_is, height_is, tile_is) (omega (arith, within, coded, most, frame.height.most))
-  where
-    whole : (s d : ℕ) → d ≤ 1 → s / 2 ^ d ≤ s
-    whole s zero le = omega arith
-    whole s (suc zero) le = omega arith
-    whole s (suc (suc d)) le = absurd (omega (arith, le))
-
-    coded_few : (h : Header) (p : ℕ) → plane_height h p ≤ h.height
-    unfolding plane_height
-    coded_few h p = whole h.height (ydec h p) (ydec_small h p)
+    rw (y_is, dec_is, height_is, tile_is) (omega (arith, within, rows_few h p, frame.shown_height.within, frame.height.most))
 
 -- a side of a tile is even
 even_side : (w d : ℕ) → d ≤ 1 → w % 8 ≡ 0 → (w + d) / 2 ^ d ≡ w / 2 ^ d

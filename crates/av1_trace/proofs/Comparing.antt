@@ -9,8 +9,8 @@ use Rattle.av1_blocks.specs.Blocks.{block_width, block_height}
 use Rattle.av1_lists.proofs.Lists.{get_or-by_index, length-by_index}
 use Rattle.av1_plan.specs.declared.header.Header.{Header}
 use Rattle.av1_plan.specs.declared.geometry.PlaneArea.{PlaneArea}
-use Rattle.av1_plan.specs.Geometry.{covers_plane, plane_area, plane_width, shown_rows, shown_columns}
-use Rattle.av1_plan.proofs.Shown.{columns_shown}
+use Rattle.av1_plan.specs.Geometry.{covers_plane, plane_area, shown_rows, shown_columns}
+use Rattle.av1_plan.proofs.Shown.{columns_few}
 use Rattle.av1_plan.specs.ReadPlans.{IsReadFrame}
 use Rattle.av1_tile.specs.State.{plan_row}
 use Rattle.av1_plan.specs.declared.leaf.Leaf.{Leaf}
@@ -49,11 +49,9 @@ row_is_long num plan p y right row e h =
     omega (arith, h, long)
 
 pub few_columns : (h k : Header) (p right : ℕ) → k ≡ h → IsReadFrame k → right ≤ shown_columns h p → right ≤ 65536
-unfolding plane_width
 few_columns h k p right same read within =
     let frame : IsReadFrame h = subst IsReadFrame same read in
-    let coded : plane_width h p ≤ h.width = omega arith in
-    omega (arith, within, (columns_shown h p frame).1, coded, frame.width.most)
+    omega (arith, within, columns_few h p, frame.shown_width.within, frame.width.most)
 
 number_is : (plan : PlanValue) (bytes : List ℕ) (p y x depth : ℕ) (row numbers : List ℕ) → IsRow plan bytes p y depth row numbers →
     x < shown_columns plan.header p → get_or numbers x 0 ≡ defined plan p x y

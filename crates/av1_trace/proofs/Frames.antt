@@ -8,19 +8,15 @@ use Rattle.std.proofs.Math.Nat.{mul-le-mul, mul-le-mul_left}
 use Rattle.av1_trace.specs.Samples.{planes_len, sample_from, sample_len, samples_before}
 use Rattle.av1_plan.specs.ReadPlans.{IsReadFrame}
 use Rattle.av1_plan.specs.declared.header.Header.{Header}
-use Rattle.av1_plan.specs.Geometry.{xdec, ydec, plane_len, plane_height, plane_width, shown_rows, shown_columns}
-use Rattle.av1_plan.proofs.Shown.{columns_shown, rows_shown}
+use Rattle.av1_plan.specs.Geometry.{plane_len, shown_rows, shown_columns}
+use Rattle.av1_plan.proofs.Shown.{columns_few, rows_few}
 
 -- a plane has no more samples than the largest frame
 pub plane_is_small : (h : Header) (p : ℕ) → IsReadFrame h → plane_len h p ≤ 4194304
-unfolding plane_width plane_height
 plane_is_small h p read =
-    let columns : shown_columns h p ≤ 2048 = omega (arith, (columns_shown h p read).1, coded_few h.width (xdec h p), read.width.most) in
-    let rows : shown_rows h p ≤ 2048 = omega (arith, (rows_shown h p read).1, coded_few h.height (ydec h p), read.height.most) in
+    let columns : shown_columns h p ≤ 2048 = omega (arith, columns_few h p, read.shown_width.within, read.width.most) in
+    let rows : shown_rows h p ≤ 2048 = omega (arith, rows_few h p, read.shown_height.within, read.height.most) in
     mul-le-mul columns rows
-  where
-    coded_few : (n d : ℕ) → n / 2 ^ d ≤ n
-    coded_few n d = omega arith
 
 -- the samples of a row are among those of its plane
 pub in_plane : (h : Header) (p y : ℕ) → y < shown_rows h p → y * shown_columns h p + shown_columns h p ≤ plane_len h p

@@ -6,11 +6,11 @@ use Rattle.av1_references.proofs.frame.padded_plane.Goals as goal
 
 pub new-requires-clause-some_columns : goal.new-requires-clause-some_columns
 new-requires-clause-some_columns g c =
-    omega (arith, c.shown_columns-width.ensures.value, (columns_shown c.args.header.now c.args.p c.requires.frame).0)
+    omega (arith, c.shown_columns-width.ensures.value, (columns_shown c.args.header.now c.args.p c.requires.frame.width c.requires.frame.shown_width).0)
 
 pub new-requires-clause-some_rows : goal.new-requires-clause-some_rows
 new-requires-clause-some_rows g c =
-    omega (arith, c.shown_rows-height.ensures.value, (rows_shown c.args.header.now c.args.p c.requires.frame).0)
+    omega (arith, c.shown_rows-height.ensures.value, (rows_shown c.args.header.now c.args.p c.requires.frame.height c.requires.frame.shown_height).0)
 
 pub fill_plane-requires-clause-range : goal.fill_plane-requires-clause-range
 fill_plane-requires-clause-range g c =
