@@ -121,22 +121,28 @@ coded_back version shown coded side is = omega (arith, side.whole, is.within, is
 shown_side : (version shown coded : ℕ) → version ≤ 2 → IsSide coded → IsShown version shown coded → IsSide shown
 shown_side version shown coded le side is = subst IsSide (sym (is.whole le)) side
 
--- a header, of the numbers that its fields are
-abbrev remade : Header → Header
-remade h = record h {
-  width = coded_side h.shown_width;
-  height = coded_side h.shown_height;
-  filter = filter_of (filter_number h.filter);
-  edge_filter = choice h.edge_filter == 1;
+-- the frame that shows these sides
+abbrev framed : (version shown_width shown_height depth sampling : ℕ) → FilterMode → Bool → List ℕ → (mask : ℕ) → Header
+framed version shown_width shown_height depth sampling filter edge_filter xs mask = record {
+  version = version;
+  width = coded_side shown_width;
+  height = coded_side shown_height;
+  shown_width = shown_width;
+  shown_height = shown_height;
+  depth = depth;
+  sampling = sampling;
+  filter = filter;
+  edge_filter = edge_filter;
+  slots = xs;
+  mask = mask;
 }
 
-remade_is : (h : Header) → IsReadFrame h → remade h ≡ h
-remade_is h is =
-    ap (λ (w : ℕ). let g : Header = record (remade h) { width = w } in g) (coded_back h.version h.shown_width h.width is.width is.shown_width)
-    ∙ ap (λ (w : ℕ). let g : Header = record (remade h) { width = h.width; height = w } in g)
-    (coded_back h.version h.shown_height h.height is.height is.shown_height)
-    ∙ ap (λ (f : FilterMode). let g : Header = record (remade h) { width = h.width; height = h.height; filter = f } in g) (filter_back h.filter)
-    ∙ ap (λ (b : Bool). let g : Header = record h { edge_filter = b } in g) (choice_back h.edge_filter)
+framed_is : (h : Header) → IsReadFrame h →
+    framed h.version h.shown_width h.shown_height h.depth h.sampling h.filter h.edge_filter h.slots h.mask ≡ h
+framed_is h is =
+    ap (λ (w : ℕ). let g : Header = record h { width = w; height = coded_side h.shown_height } in g)
+    (coded_back h.version h.shown_width h.width is.width is.shown_width)
+    ∙ ap (λ (w : ℕ). let g : Header = record h { height = w } in g) (coded_back h.version h.shown_height h.height is.height is.shown_height)
 
 version_spelled : (n : ℕ) → 1 ≤ n → n ≤ 2 → IsSpelled version n
 version_spelled zero least most = absurd (omega (arith, least))
@@ -144,28 +150,39 @@ version_spelled (suc zero) least most = record { values = first_letters.field �
 version_spelled (suc (suc zero)) least most = record { values = second_letters.field ∷ []; spells = second_letters.spells }
 version_spelled (suc (suc (suc n))) least most = absurd (omega (arith, most))
 
-frame_spelled : (h : Header) → IsReadFrame h → IsSpelled (frame h.version) h
+frame_spelled : (version shown_width shown_height depth sampling : ℕ) (filter : FilterMode) (edge_filter : Bool) (xs : List ℕ) (mask : ℕ)
+    → IsReadFrame (framed version shown_width shown_height depth sampling filter edge_filter xs mask)
+    → IsSpelled (frame version) (framed version shown_width shown_height depth sampling filter edge_filter xs mask)
 unfolding frame
-frame_spelled h is =
-    let number = filter_number h.filter in
-    let end : IsSpelled (done (remade h)) h = subst (λ (g : Header). IsSpelled (done g) h) (sym (remade_is h is)) (done_spelled h) in
-    let s9 = asks_spelled (any one) _ h.mask h (record { fits = is.mask; admitted = refl }) end in
-    let s8 = bind_spelled slots _ h.slots h (seven_spelled h.slots is.slots.count is.slots.range) s9 in
-    let s7 = asks_spelled (byte_from 0 1) _ (choice h.edge_filter) h
-    (byte_admitted 0 1 (choice h.edge_filter) (lit< tt) (zero_le _) (choice_small h.edge_filter)) s8
+frame_spelled version shown_width shown_height depth sampling filter edge_filter xs mask is =
+    let h : Header = framed version shown_width shown_height depth sampling filter edge_filter xs mask in
+    let number = filter_number filter in
+    let end : IsSpelled (done (framed version shown_width shown_height depth sampling (filter_of number) (choice edge_filter == 1) xs mask)) h =
+    subst (λ (g : Header). IsSpelled (done g) h)
+    (ap (λ (f : FilterMode). framed version shown_width shown_height depth sampling f edge_filter xs mask) (sym (filter_back filter))
+    ∙ ap (λ (b : Bool). framed version shown_width shown_height depth sampling (filter_of number) b xs mask) (sym (choice_back edge_filter)))
+    (done_spelled h) in
+    let s9 = asks_spelled (any one) _ mask h (record { fits = is.mask; admitted = refl }) end in
+    let s8 = bind_spelled slots _ xs h (seven_spelled xs is.slots.count is.slots.range) s9 in
+    let s7 = asks_spelled (byte_from 0 1) _ (choice edge_filter) h (byte_admitted 0 1 (choice edge_filter) (lit< tt) (zero_le _) (choice_small edge_filter)) s8
     in
     let s6 = asks_spelled (byte_from 0 3) _ number h (byte_admitted 0 3 number (lit< tt) (zero_le number) (below_four number is.filter)) s7 in
-    let s5 = asks_spelled (byte_from 0 2) _ h.sampling h (byte_admitted 0 2 h.sampling (lit< tt) (zero_le _) is.sampling) s6 in
-    let s4 = asks_spelled (where_ one is_depth) _ h.depth h (depth_admitted h.depth is.depth) s5 in
-    let s3 = asks_spelled (where_ two is_side) _ h.shown_height h
-    (side_admitted h.shown_height (shown_side h.version h.shown_height h.height is.most_version is.height is.shown_height)) s4 in
-    asks_spelled (where_ two is_side) _ h.shown_width h
-    (side_admitted h.shown_width (shown_side h.version h.shown_width h.width is.most_version is.width is.shown_width)) s3
+    let s5 = asks_spelled (byte_from 0 2) _ sampling h (byte_admitted 0 2 sampling (lit< tt) (zero_le _) is.sampling) s6 in
+    let s4 = asks_spelled (where_ one is_depth) _ depth h (depth_admitted depth is.depth) s5 in
+    let s3 = asks_spelled (where_ two is_side) _ shown_height h
+    (side_admitted shown_height (shown_side version shown_height (coded_side shown_height) is.most_version is.height is.shown_height)) s4 in
+    asks_spelled (where_ two is_side) _ shown_width h
+    (side_admitted shown_width (shown_side version shown_width (coded_side shown_width) is.most_version is.width is.shown_width)) s3
 
 pub header_spelled : (h : Header) → IsReadFrame h → IsSpelled header h
 unfolding header
 header_spelled h is =
-    bind_spelled version frame h.version h (version_spelled h.version is.least_version is.most_version) (frame_spelled h is)
+    let g : Header = framed h.version h.shown_width h.shown_height h.depth h.sampling h.filter h.edge_filter h.slots h.mask in
+    let same : g ≡ h = framed_is h is in
+    let spelled = frame_spelled h.version h.shown_width h.shown_height h.depth h.sampling h.filter h.edge_filter h.slots h.mask (subst IsReadFrame (sym same) is)
+    in
+    bind_spelled version frame h.version h (version_spelled h.version is.least_version is.most_version)
+    (subst (λ (k : Header). IsSpelled (frame h.version) k) same spelled)
 
 -- ---- reference samples
 

@@ -6,9 +6,10 @@ use Rattle.av1_lists.proofs.Lists.{get_or-by_index}
 use Rattle.av1_frame.specs.declared.plane.Plane.{Plane}
 use Rattle.av1_frame.specs.Areas.{VisibleArea, in_visible}
 use Rattle.av1_frame.specs.Planes.{InPlane, sample_at, painted_plane}
-use Rattle.av1_frame.proofs.Planes.{sample_at_inside, painted_plane_whole}
+use Rattle.av1_frame.proofs.Planes.{sample_at_inside}
 use Rattle.av1_plan.specs.declared.header.Header.{Header}
 use Rattle.av1_tile.specs.Walk.{IsPlaneOf}
+use Rattle.av1_tile.proofs.WithinDepth.{painted_place}
 use Rattle.av1_tiles.specs.declared.area.TileArea.{TileArea}
 use Rattle.av1_tiles.specs.Bounds.{AreBounds}
 use Rattle.av1_tiles.specs.Joined.{placed}

@@ -84,16 +84,17 @@ shows_other num pixel back f read i j lt_i lt_j differ plan old new g are placed
     let plane = plane_of c old in
     let is = frame_plane h old are c in
     let area = area_is f read j lt_j in
-    let in_x : x < other.width / 2 ^ xdec h p = subst (λ (n : ℕ). x < n) (tile_width h other p) lx in
-    let in_y : y < other.height / 2 ^ ydec h p = subst (λ (n : ℕ). y < n) (tile_height h other p) ly in
+    let first = area_is f read i lt_i in
+    let in_x : x < other.width / 2 ^ xdec h p = subst (λ (n : ℕ). x < n) (tile_width h other p area.width.whole) lx in
+    let in_y : y < other.height / 2 ^ ydec h p = subst (λ (n : ℕ). y < n) (tile_height h other p area.height.whole) ly in
     let out : in_visible a column row ≡ false =
     outside a column row (elim (tiles_apart f read i j lt_i lt_j differ (xdec h p) (ydec h p) x y (xdec_small h p) (ydec_small h p) in_x in_y) [
-      | inl columns ↦ inl (apart_by (corner_column h one p) (one.width / 2 ^ xdec h p) column a.width (tile_width h one p) columns)
-      | inr rows ↦ inr (apart_by (corner_row h one p) (one.height / 2 ^ ydec h p) row a.height (tile_height h one p) rows)
+      | inl columns ↦ inl (apart_by (corner_column h one p) (one.width / 2 ^ xdec h p) column a.width (tile_width h one p first.width.whole) columns)
+      | inr rows ↦ inr (apart_by (corner_row h one p) (one.height / 2 ^ ydec h p) row a.height (tile_height h one p first.height.whole) rows)
     ]) in
     ap (λ (q : Plane _). sample_at num q column row) (placed c)
-    ∙ sample_at_outside num pixel back plane a (g c) column row is.whole (omega (arith, columns_within h other p area, lx, is.width, is.whole.visible_columns))
-    (omega (arith, rows_within h other p area, ly, is.height, is.whole.visible_rows)) out
+    ∙ sample_at_outside num pixel back plane a (g c) column row is.whole (omega (arith, columns_within h other p area, lx, is.shown_columns, is.whole.visible_columns))
+    (omega (arith, rows_within h other p area, ly, is.shown_rows, is.whole.visible_rows)) out
     ∙ before c x y lx ly
 
 -- what a frame shows once tile i was reconstructed into it: the tile's own plan, and what it showed of all others

@@ -21,6 +21,7 @@ use av1_recon::PlanRefusal;
 use std::alloc::{AllocError, Global};
 
 /// The rectangle between the bounds from a column and a row of tiles on.
+#[tactic(auto, using(av1_plan::proofs::Shown::all_shown))]
 fn area_between(
     header: &Header,
     columns: &[u16],
