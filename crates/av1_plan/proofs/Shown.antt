@@ -14,12 +14,14 @@ side_shown : (shown coded : ℕ) (halved : Bool) → 1 ≤ shown → shown ≤ c
 side_shown shown coded true some within whole = (omega (arith, some), omega (arith, within, whole))
 side_shown shown coded false some within whole = (omega (arith, some), omega (arith, within))
 
-pub columns_shown : (h : Header) (p : ℕ) {version : ℕ} → IsSide h.width → IsShown version h.shown_width h.width → (0 < shown_columns h p) × (shown_columns h p ≤ plane_width h p)
+pub columns_shown : (h : Header) (p : ℕ) {version : ℕ} → IsSide h.width → IsShown version h.shown_width h.width →
+    (0 < shown_columns h p) × (shown_columns h p ≤ plane_width h p)
 unfolding shown_columns plane_width xdec
 columns_shown h zero side is = side_shown h.shown_width h.width false is.some is.within side.whole
 columns_shown h (suc p) side is = side_shown h.shown_width h.width (nat_lt h.sampling 2) is.some is.within side.whole
 
-pub rows_shown : (h : Header) (p : ℕ) {version : ℕ} → IsSide h.height → IsShown version h.shown_height h.height → (0 < shown_rows h p) × (shown_rows h p ≤ plane_height h p)
+pub rows_shown : (h : Header) (p : ℕ) {version : ℕ} → IsSide h.height → IsShown version h.shown_height h.height →
+    (0 < shown_rows h p) × (shown_rows h p ≤ plane_height h p)
 unfolding shown_rows plane_height ydec
 rows_shown h zero side is = side_shown h.shown_height h.height false is.some is.within side.whole
 rows_shown h (suc p) side is = side_shown h.shown_height h.height (h.sampling == 0) is.some is.within side.whole

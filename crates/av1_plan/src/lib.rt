@@ -14,9 +14,9 @@
 //! - A `Plan` keeps as a fact that a complete proper list of fields spells it. Its leaves stand in coding order: they
 //!   are those of one tree of marks for each superblock of the frame (`specs/Tree.antt`, `specs/CodingOrder.antt`).
 //! - What holds of every plan that is read, its accessors say (`specs/ReadPlans.antt`): the ranges of the frame's
-//!   numbers, as many reference samples of a plane as are shown, each of the frame's depth, and of a leaf that it stands
-//!   on its grid, and has a chroma mode, a chroma type and triples of chroma where it carries chroma alone. A leaf one
-//!   of whose sides is four times the other ends in the frame.
+//!   numbers, as many reference samples of a plane as are shown, each of the frame's depth, and of a leaf that it
+//!   stands on its grid, and has a chroma mode, a chroma type and triples of chroma where it carries chroma alone. A
+//!   leaf one of whose sides is four times the other ends in the frame.
 //! - A header has the sides that are coded, which are multiples of 8, and those that are shown. Nodes, leaves and
 //!   transform blocks go by the former, reference samples by the latter (`specs/Geometry.antt`). In both versions the
 //!   two are the same.

@@ -63,8 +63,8 @@ compound_motion value p references mvs area r c =
 -- ---- the frame settings that hold them
 
 -- These samples, row by row, are those of a plane that stores what is shown of plane p of a frame, padded for blocks of
--- sides up to 64 in luma: their filters reach 7 samples past a side. Where the plane is halved, the sides of blocks are, and so are
--- its pads.
+-- sides up to 64 in luma: their filters reach 7 samples past a side. Where the plane is halved, the sides of blocks
+-- are, and so are its pads.
 pub record HoldsPlane {T : Type 0} (num : T → ℕ) (h : Header) (p : ℕ) (samples : List ℕ)
     (plane : Plane T) : Type 0 where
   pub padded : IsPadded num plane

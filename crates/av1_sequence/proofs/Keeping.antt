@@ -15,7 +15,8 @@ use Rattle.av1_lists.proofs.Lists.{by_index-same}
 use Rattle.av1_plan.specs.declared.header.Header.{Header}
 use Rattle.av1_references.specs.References.{HoldsPlane}
 use Rattle.av1_tile.specs.declared.planes.Planes.{Planes}
-use Rattle.av1_sequence.specs.Kept.{AreFrames, AreReady, IsKeptAt, KeepsFrames, coded_planes, shown_plane, plane_shown, planes_shown, shown_at, shown_in, slots_shown}
+use Rattle.av1_sequence.specs.Kept.{AreFrames, AreReady, IsKeptAt, KeepsFrames, coded_planes, shown_plane, plane_shown, planes_shown, shown_at, shown_in}
+use Rattle.av1_sequence.specs.Kept.{slots_shown}
 use Rattle.av1_sequence.specs.Slots.{Frame, has_bit, refreshed, slot_of}
 use Rattle.av1_sequence.proofs.Serving.{slot_shown}
 use Rattle.av1_sequence.proofs.Shown.{kept_holds, kept_shown, kept_stores}

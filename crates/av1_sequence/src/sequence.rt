@@ -223,8 +223,8 @@ impl<T: Pixel> Sequence<T> {
         }
     }
 
-    /// Row `y` of what is shown of plane `p` (0 for Y, 1 for U and 2 for V) of the frame that was accepted last. None where
-    /// no frame was accepted yet.
+    /// Row `y` of what is shown of plane `p` (0 for Y, 1 for U and 2 for V) of the frame that was accepted last. None
+    /// where no frame was accepted yet.
     pub fn last_row(&self, p: usize, y: usize) -> Option<&[T]>
         requires plane { p < 3 }
         requires in_plane { y < shown_rows self.now.frames p }

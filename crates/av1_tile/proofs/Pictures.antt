@@ -40,7 +40,8 @@ use Rattle.av1_tile.specs.Reference.{slow_walk}
 use Rattle.av1_tile.specs.Memory.{ShowsPlan}
 use Rattle.av1_tile.specs.State.{ShowsRows, edges_of, shown}
 use Rattle.av1_tile.specs.Steps.{steps}
-use Rattle.av1_tile.specs.Walk.{Told, Begins, IsPlaneOf, ShowsPart, Stores, StoresAll, HasRoom, HasRoomIn, SameLayout, edges_after, fast_step, plane_of, steps_by}
+use Rattle.av1_tile.specs.Walk.{Told, Begins, IsPlaneOf, ShowsPart, Stores, StoresAll, HasRoom, HasRoomIn, SameLayout, edges_after, fast_step, plane_of}
+use Rattle.av1_tile.specs.Walk.{steps_by}
 use Rattle.av1_tile.proofs.Agreement.{listed_same}
 use Rattle.av1_tile.proofs.LeafTurns.{plan_ready}
 use Rattle.av1_tile.proofs.Lifts.{number_component}
@@ -90,7 +91,8 @@ new_stores num zero h p cfg (Ok plane) read none width height across down is sam
     whole = whole;
     width = ap (λ (c : PlaneConfig). c.width) is ∙ width;
     height = ap (λ (c : PlaneConfig). c.height) is ∙ height;
-    shown_columns = subst (λ (n : ℕ). shown_columns h p ≤ n) (sym (ap (λ (c : PlaneConfig). c.width) is ∙ width)) (columns_shown h p read.width read.shown_width).1;
+    shown_columns =
+        subst (λ (n : ℕ). shown_columns h p ≤ n) (sym (ap (λ (c : PlaneConfig). c.width) is ∙ width)) (columns_shown h p read.width read.shown_width).1;
     shown_rows = subst (λ (n : ℕ). shown_rows h p ≤ n) (sym (ap (λ (c : PlaneConfig). c.height) is ∙ height)) (rows_shown h p read.height read.shown_height).1;
     xdec = ap (λ (c : PlaneConfig). c.xdec) is ∙ across;
     ydec = ap (λ (c : PlaneConfig). c.ydec) is ∙ down;

@@ -33,8 +33,8 @@ fn pad_of(pad: usize, decimation: usize) -> usize
     pad >> decimation
 }
 
-/// A plane of zeros with the sides of what is coded of plane `p` (0 for Y, 1 for U and 2 for V) of a frame, and on every side `pad`
-/// samples of luma besides: half as many samples in directions in which the plane is halved.
+/// A plane of zeros with the sides of what is coded of plane `p` (0 for Y, 1 for U and 2 for V) of a frame, and on
+/// every side `pad` samples of luma besides: half as many samples in directions in which the plane is halved.
 ///
 /// Storage is that of whole superblocks. An error is running out of memory.
 fn plane_of_frame<T: Pixel>(

@@ -30,7 +30,8 @@ use Rattle.av1_tiles.proofs.Refusals.{front_spelled, not_both, one_grid, one_rea
 -- ---- joined planes
 
 -- two frames that tiles come to agree at each sample
-agree : (f : FileValue) → IsReadFrame f.front.header → HasBounds f.front → (plans others : ℕ → PlanValue) → AreTiles f plans → AreTiles f others → (a b : Component → ℕ → ℕ → ℕ) →
+agree : (f : FileValue) → IsReadFrame f.front.header → HasBounds f.front → (plans others : ℕ → PlanValue) → AreTiles f plans → AreTiles f others →
+    (a b : Component → ℕ → ℕ → ℕ) →
     IsJoined f plans a → IsJoined f others b
     → (c : Component) (x y : ℕ) → x < shown_columns f.front.header (number c) → y < shown_rows f.front.header (number c) → a c x y ≡ b c x y
 unfolding plane_width plane_height

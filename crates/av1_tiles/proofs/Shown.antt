@@ -93,7 +93,8 @@ shows_other num pixel back f read i j lt_i lt_j differ plan old new g are placed
       | inr rows ↦ inr (apart_by (corner_row h one p) (one.height / 2 ^ ydec h p) row a.height (tile_height h one p first.height.whole) rows)
     ]) in
     ap (λ (q : Plane _). sample_at num q column row) (placed c)
-    ∙ sample_at_outside num pixel back plane a (g c) column row is.whole (omega (arith, columns_within h other p area, lx, is.shown_columns, is.whole.visible_columns))
+    ∙ sample_at_outside num pixel back plane a (g c) column row is.whole
+    (omega (arith, columns_within h other p area, lx, is.shown_columns, is.whole.visible_columns))
     (omega (arith, rows_within h other p area, ly, is.shown_rows, is.whole.visible_rows)) out
     ∙ before c x y lx ly
 

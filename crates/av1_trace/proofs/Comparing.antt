@@ -34,7 +34,8 @@ pub record IsRow (plan : PlanValue) (bytes : List ℕ) (p y depth : ℕ) (row nu
   pub numbers_are : numbers ≡ plan_row plan p y
 
 pub is_row : (plan : PlanValue) (bytes : List ℕ) (p y : ℕ) (h : Header) (row numbers : List ℕ) → h ≡ plan.header
-    → ((x : ℕ) → x < shown_columns h p → sample_from h.depth row x ≡ given h bytes p x y) → numbers ≡ plan_row plan p y → IsRow plan bytes p y h.depth row numbers
+    → ((x : ℕ) → x < shown_columns h p → sample_from h.depth row x ≡ given h bytes p x y) → numbers ≡ plan_row plan p y →
+    IsRow plan bytes p y h.depth row numbers
 is_row plan bytes p y h row numbers same f e = record {
   given_are = subst (λ (k : Header). (x : ℕ) → x < shown_columns k p → sample_from h.depth row x ≡ given k bytes p x y) same f;
   numbers_are = e;
@@ -160,7 +161,8 @@ first_is plan bytes n p a left right top bottom y other box over below is above 
     (other_at (given h bytes p x y) (defined plan p x y) ne)
     (λ z l m. agrees (given h bytes p z y) (defined plan p z y) (is.first z (omega (arith, l, box.left_is)) m))
     (λ z r l m t b. agrees (given h bytes p z r) (defined plan p z r)
-    (above z r (omega (arith, l, box.left_is)) (side_is a.x (block_width a.size) (shown_columns h p) right box.right_is z m l) (omega (arith, t, box.top_is)) b))
+    (above z r (omega (arith, l, box.left_is)) (side_is a.x (block_width a.size) (shown_columns h p) right box.right_is z m l)
+    (omega (arith, t, box.top_is)) b))
     in
     sym (ap (option_map (difference_at plan bytes n p)) found
     ∙ ap (λ (v : ℕ). let o : Option Difference = Some (record { leaf = n; plane = p; row = y; column = x; given = v; defined = defined plan p x y }) in o)

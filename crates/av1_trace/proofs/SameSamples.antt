@@ -269,8 +269,11 @@ same_exactly plan bytes valid len all =
     let right : Component → ℕ → ℕ → ℕ = λ k x y. sample_of (slow_walk value k x y) in (
       λ none. sym spelled ∙ visible_same h own right (λ k x y c r.
           agrees_at value bytes 0 value.leaves (number k) x y none (few_planes k) c r
-          (omega (arith, has_its_leaf plan valid (number k) x y (omega (arith, c, (columns_shown h (number k) read.width read.shown_width).1))
-          (omega (arith, r, (rows_shown h (number k) read.height read.shown_height).1))))
+          (omega (
+            arith,
+            has_its_leaf plan valid (number k) x y (omega (arith, c, (columns_shown h (number k) read.width read.shown_width).1))
+                (omega (arith, r, (rows_shown h (number k) read.height read.shown_height).1)),
+          ))
           ∙ ap (λ (j : Component). sample_of (slow_walk value j x y)) (own_number k)),
       λ same.
           let rows : (k : Component) → by_rows (shown_of h (number k)) (own k) ≡ by_rows (shown_of h (number k)) (right k) =

@@ -4,7 +4,10 @@ use Rattle.av1_trace.proofs.samples.given_row.Goals as goal
 
 pub overflow_mul-y : goal.overflow_mul-y
 overflow_mul-y c =
-    omega (arith, row_is_small c.args.header.now c.args.p c.args.y c.shown_columns-width.result c.requires.frame c.requires.row c.shown_columns-width.ensures.value)
+    omega (
+      arith,
+      row_is_small c.args.header.now c.args.p c.args.y c.shown_columns-width.result c.requires.frame c.requires.row c.shown_columns-width.ensures.value,
+    )
 
 pub overflow_add-samples_before : goal.overflow_add-samples_before
 overflow_add-samples_before c =
