@@ -114,12 +114,12 @@ choice_back true = refl
 choice_back false = refl
 
 -- a side that is coded is that of the one that is shown
-coded_back : (version shown coded : ℕ) → IsSide coded → IsShown version shown coded → coded_side shown ≡ coded
-coded_back version shown coded side is = omega (arith, side.whole, is.within, is.near)
+coded_back : (n shown coded : ℕ) → IsSide coded → IsShown n shown coded → coded_side shown ≡ coded
+coded_back n shown coded side is = omega (arith, side.whole, is.within, is.near)
 
 -- and in the first two versions that one is admitted
-shown_side : (version shown coded : ℕ) → version ≤ 2 → IsSide coded → IsShown version shown coded → IsSide shown
-shown_side version shown coded le side is = subst IsSide (sym (is.whole le)) side
+shown_side : (n shown coded : ℕ) → n ≤ 2 → IsSide coded → IsShown n shown coded → IsSide shown
+shown_side n shown coded le side is = subst IsSide (sym (is.whole le)) side
 
 -- the frame that shows these sides
 abbrev framed : (version shown_width shown_height depth sampling : ℕ) → FilterMode → Bool → List ℕ → (mask : ℕ) → Header
