@@ -88,6 +88,7 @@ impl Header {
     pub fn shown_columns(&self, p: usize) -> usize
         ensures value { result ≡ shown_columns self.now p }
         ensures small { result ≤ self.now.shown_width }
+        ensures few { result ≤ 65535 }
     {
         let decimation = self.xdec(p);
         (usize::from(self.shown_width) + decimation) >> decimation
@@ -98,6 +99,7 @@ impl Header {
     pub fn shown_rows(&self, p: usize) -> usize
         ensures value { result ≡ shown_rows self.now p }
         ensures small { result ≤ self.now.shown_height }
+        ensures few { result ≤ 65535 }
     {
         let decimation = self.ydec(p);
         (usize::from(self.shown_height) + decimation) >> decimation
