@@ -14,6 +14,6 @@ loop-y-preserved g c =
 
 pub returns : goal.returns
 returns g c =
-    let end : c.loop-y.y ≡ c.plane_height-y-end.result = omega (arith, c.loop-y.auto.y-end, c.loop-y-test.false) in
-    let height = height_is c.args.state.now c.args.p c.plane_height-y-end.result c.args.header c.plane_height-y-end.ensures.value c.requires.made in
+    let end : c.loop-y.y ≡ c.shown_rows-y-end.result = omega (arith, c.loop-y.auto.y-end, c.loop-y-test.false) in
+    let height = height_is c.args.state.now c.args.p c.shown_rows-y-end.result c.args.header c.shown_rows-y-end.ensures.value c.requires.made in
     c.loop-y.invariant.value ∙ rows_total-all g.T.Pixel.num c.args.state.now c.args.p c.loop-y.y (end ∙ height)
