@@ -25,7 +25,8 @@ fn copy_area<T: Pixel>(samples: &mut [T], width: usize, plane: &Plane<T>, area: 
     }
 }
 
-/// What was predicted of the samples that are shown of a plane, row by row. It may have no rows: then nothing is kept in it.
+/// What was predicted of the samples that are shown of a plane, row by row. It may have no rows: then nothing is kept
+/// in it.
 #[derive(Drop)]
 pub struct PredictedPlane<T> {
     width: usize,
