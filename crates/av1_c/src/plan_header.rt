@@ -40,6 +40,8 @@ impl PlanHeader {
             version: self.version,
             width: self.width,
             height: self.height,
+            shown_width: self.width,
+            shown_height: self.height,
             depth: self.depth,
             sampling: self.sampling,
             filter: filter_mode(self.filter),

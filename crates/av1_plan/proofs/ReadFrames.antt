@@ -1,14 +1,15 @@
 -- The frame of a plan that is spelled, and the pieces of which such a plan consists.
-use Rattle.std.proofs.Common.{◌≡◌, ℕ, ◌%◌, ◌<◌, ◌≤◌, ◌⊎◌, inl, inr, Bool, true, false, ◌||◌, List, [], ◌∷◌, subst, refl, arith, lit≤}
+use Rattle.std.proofs.Common.{◌≡◌, ℕ, ◌%◌, ◌<◌, ◌≤◌, ◌⊎◌, inl, inr, Bool, true, false, ◌||◌, List, [], ◌∷◌, subst, refl, sym, arith, lit≤}
 use Rattle.std.specs.Prelude.{codes, ◌==◌, nat_le, if◌then◌else◌}
 use Rattle.std.specs.Int.{w32, from_le_bytes, is_in_range}
 use Rattle.std.proofs.lemmas.Bool.{eqb-true, leb-true, and_parts, or_cases}
 use Rattle.std.proofs.lemmas.List.Elements.{All-nil, All-cons}
 use Rattle.av1_plan.specs.declared.header.Header.{Header}
 use Rattle.av1_plan.specs.Format.{IsAdmitted}
+use Rattle.av1_plan.specs.Geometry.{coded_side}
 use Rattle.av1_plan.specs.Grammar.{byte_from, version_of, version, is_side, is_depth, slots, frame, header, references, superblocks, plan, plan_behind}
 use Rattle.av1_plan.specs.Plan.{PlanValue}
-use Rattle.av1_plan.specs.ReadPlans.{IsSide, AreSlots, IsReadFrame}
+use Rattle.av1_plan.specs.ReadPlans.{IsSide, IsShown, AreSlots, IsReadFrame}
 use Rattle.av1_plan.specs.Spelling.{IsSpelled}
 use Rattle.av1_plan.proofs.Numbers.{filter_number_is}
 use Rattle.av1_plan.proofs.Pieces.{spelled_done, spelled_asks, spelled_bind}
@@ -18,6 +19,18 @@ side_is n e =
     let (whole, range) = and_parts (n % 8 == 0) (is_in_range 8 2048 n) e in
     let (least, most) = and_parts (nat_le 8 n) (nat_le n 2048) range in
     record { whole = eqb-true (n % 8) 0 whole; least = leb-true 8 n least; most = leb-true n 2048 most }
+
+-- what is coded where a side of the first two versions is shown
+pub coded_is : (n : ℕ) → IsSide n → IsSide (coded_side n)
+coded_is n s =
+    let e : coded_side n ≡ n = omega (arith, s.whole) in
+    subst IsSide (sym e) s
+
+pub shown_is : (version n : ℕ) → IsSide n → IsShown version n (coded_side n)
+shown_is version n s =
+    let e : coded_side n ≡ n = omega (arith, s.whole) in
+    subst (IsShown version n) (sym e)
+    (record { some = omega (arith, s.least); within = omega arith; near = omega arith; whole = λ le. refl })
 
 pub depth_is : (n : ℕ) → is_depth n ≡ true → (n ≡ 8) ⊎ (n ≡ 10) ⊎ (n ≡ 12)
 depth_is n e = elim (or_cases (n == 8 || n == 10) (n == 12) e) [
@@ -84,8 +97,10 @@ frame_is n h least_version most_version s1 =
     subst IsReadFrame (spelled_done _ h s9) (record {
       least_version = least_version;
       most_version = most_version;
-      width = side_is width width_in.admitted;
-      height = side_is height height_in.admitted;
+      width = coded_is width (side_is width width_in.admitted);
+      height = coded_is height (side_is height height_in.admitted);
+      shown_width = shown_is n width (side_is width width_in.admitted);
+      shown_height = shown_is n height (side_is height height_in.admitted);
       depth = depth_is depth depth_in.admitted;
       sampling = low;
       filter = rw (filter_number_is filter (omega (arith, known))) (omega (arith, known));

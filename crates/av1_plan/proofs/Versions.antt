@@ -14,7 +14,7 @@ use Rattle.av1_blocks.specs.Blocks.{block_width, block_height}
 use Rattle.av1_plan.specs.declared.header.Header.{Header}
 use Rattle.av1_plan.specs.CodingOrder.{IsTwoToOne}
 use Rattle.av1_plan.specs.Format.{Format, done, asks, ◌>>=◌, one, width, lone, ◌++>◌}
-use Rattle.av1_plan.specs.Geometry.{xdec, ydec, plane_width, plane_height, has_slot, is_inside, carries_chroma}
+use Rattle.av1_plan.specs.Geometry.{xdec, ydec, shown_columns, shown_rows, has_slot, is_inside, carries_chroma}
 use Rattle.av1_plan.specs.Grammar.{is_magic, version_of, version, slots, frame, header, reference, slot_planes, references, leaf, quarter_side, part_size}
 use Rattle.av1_plan.specs.Grammar.{leaf_part}
 use Rattle.av1_plan.specs.Grammar.{cut_by, admits_stripes, is_mark, mark, wide_stripes, tall_stripes, parts, block, superblock_row, superblocks, plan}
@@ -31,7 +31,7 @@ use Rattle.av1_plan.proofs.ReadLeaves.{leaf_place}
 -- ---- what doesn't look at the version
 
 references_same : (n : ℕ) (h : Header) → references h ≡ references (header_in n h)
-unfolding references slot_planes reference plane_width plane_height xdec ydec has_slot
+unfolding references slot_planes reference shown_columns shown_rows xdec ydec has_slot
 references_same n h = refl
 
 inside_same : (n : ℕ) (h : Header) (x y : ℕ) → is_inside h x y ≡ is_inside (header_in n h) x y

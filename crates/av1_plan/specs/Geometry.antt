@@ -24,17 +24,30 @@ unfoldable pub ydec : Header → ℕ → ℕ
 ydec h zero = 0
 ydec h (suc p) = if h.sampling == 0 then 1 else 0
 
--- the columns of the visible plane p, in samples
+-- the columns of plane p that are coded, in samples
 unfoldable pub plane_width : Header → ℕ → ℕ
 plane_width h p = h.width / 2 ^ xdec h p
 
--- the rows of the visible plane p, in samples
+-- the rows of plane p that are coded, in samples
 unfoldable pub plane_height : Header → ℕ → ℕ
 plane_height h p = h.height / 2 ^ ydec h p
 
--- how many samples plane p has
+-- a side that is coded, of one that is shown: frames are coded in whole squares of 8 by 8 (AV1 specification: compute
+-- image size function)
+abbrev pub coded_side : ℕ → ℕ
+coded_side n = (n + 7) / 8 * 8
+
+-- the columns of plane p that are shown, in samples: where it is halved, half of luma's, rounded up
+unfoldable pub shown_columns : Header → ℕ → ℕ
+shown_columns h p = (h.shown_width + xdec h p) / 2 ^ xdec h p
+
+-- the rows of plane p that are shown, in samples
+unfoldable pub shown_rows : Header → ℕ → ℕ
+shown_rows h p = (h.shown_height + ydec h p) / 2 ^ ydec h p
+
+-- how many samples of plane p are shown: so many a reference has, and the output
 abbrev pub plane_len : Header → ℕ → ℕ
-plane_len h p = plane_width h p * plane_height h p
+plane_len h p = shown_columns h p * shown_rows h p
 
 -- whether a slot carries reference planes: its bit of the mask is set
 unfoldable pub has_slot : Header → ℕ → Bool

@@ -30,7 +30,7 @@ use Rattle.av1_blocks.specs.declared.transform.TheConstants.TxType as tx_types
 use Rattle.av1_blocks.specs.Parts.{subsize}
 use Rattle.av1_plan.specs.Format.{Length, one, two, four, Kind, Format, done, ◌>>=◌, field, any, nothing, lone, ◌++>◌}
 use Rattle.av1_plan.specs.Format.{in_turn}
-use Rattle.av1_plan.specs.Geometry.{plane_len, has_slot, is_inside, carries_chroma}
+use Rattle.av1_plan.specs.Geometry.{coded_side, plane_len, has_slot, is_inside, carries_chroma}
 use Rattle.av1_plan.specs.Plan.{LeafValue, PlanValue}
 use Rattle.av1_plan.specs.declared.header.Header.{Header}
 use Rattle.av1_plan.specs.declared.leaf.Triple.{Triple}
@@ -65,7 +65,7 @@ version = do
   letters ← field (where_ four is_magic)
   done (version_of letters)
 
--- a side of a frame, in samples of luma
+-- a side of a frame that is shown, in samples of luma
 abbrev pub is_side : ℕ → Bool
 is_side v = v % 8 == 0 && is_in_range 8 2048 v
 
@@ -98,8 +98,10 @@ frame version = do
   mask ← field (any one)
   done (record {
     version = version;
-    width = width;
-    height = height;
+    width = coded_side width;
+    height = coded_side height;
+    shown_width = width;
+    shown_height = height;
     depth = depth;
     sampling = sampling;
     filter = slice_index_or filter_modes.ALL filter REGULAR;

@@ -3,6 +3,7 @@ use Rattle.std.proofs.Common.{◌≡◌, ℕ, ◌-◌, ◌*◌, ◌≤◌, lengt
 use Rattle.std.specs.Prelude.{vec_len}
 use Rattle.av1_plan.specs.Format.{four, Input, read}
 use Rattle.av1_plan.specs.Grammar.{where_, frame, references}
+use Rattle.av1_plan.specs.ReadPlans.{IsReadFrame}
 use Rattle.av1_plan.specs.Spelling.{IsSpelled}
 use Rattle.av1_plan.proofs.Fields.{AreBytes}
 use Rattle.av1_plan.proofs.Pieces.{spelled_done, spelled_asks, spelled_bind}
@@ -32,6 +33,9 @@ pieces v s =
     let whole : HasPieces (record { header = h; references = slots; columns = columns; rows = rows }) =
     record { header = h_spelled; references = slots_spelled; columns = columns_spelled; rows = rows_spelled } in
     subst HasPieces (spelled_done _ v s5) whole
+
+pub front_frame : (v : FrontValue) → IsSpelled front v → IsReadFrame v.header
+front_frame v s = frame_is 2 v.header (lit≤ tt) (lit≤ tt) (pieces v s).header
 
 -- the bounds of the columns and rows of tiles
 pub record HasBounds (v : FrontValue) : Type 0 where

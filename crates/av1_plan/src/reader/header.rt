@@ -1,6 +1,7 @@
 //! Reading what stands before the reference samples.
 
 use crate::error::PlanError;
+use crate::geometry::coded_side;
 use crate::header::Header;
 use crate::reader::Reader;
 use av1_blocks::FilterMode;
@@ -45,7 +46,7 @@ impl<'a> Reader<'a> {
         })
     }
 
-    /// A side of the frame.
+    /// A side of the frame that is shown.
     #[tactic(auto, using(crate::proofs::Narrow::narrow))]
     pub fn side(&mut self) -> Result<u16, PlanError>
         requires { Fits self.old }
@@ -119,8 +120,8 @@ impl<'a> Reader<'a> {
         ensures moves { Moves self.old self.new }
         ensures small { IfOk result (λ h. (h.width ≤ 2048) × (h.height ≤ 2048) × (h.depth ≤ 12)) }
     {
-        let width = self.side()?;
-        let height = self.side()?;
+        let shown_width = self.side()?;
+        let shown_height = self.side()?;
         let depth = self.depth()?;
         let sampling = self.byte(0, 2)?;
         let filter = self.byte(0, 3)?;
@@ -130,8 +131,10 @@ impl<'a> Reader<'a> {
         let mask = self.any_byte()?;
         Ok(Header {
             version,
-            width,
-            height,
+            width: coded_side(shown_width),
+            height: coded_side(shown_height),
+            shown_width,
+            shown_height,
             depth,
             sampling,
             filter,
