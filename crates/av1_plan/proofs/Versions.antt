@@ -1,5 +1,6 @@
 -- A plan of one version is a plan of another, wherever each mark and each side is one of both.
-use Rattle.std.proofs.Common.{◌≡◌, ℕ, zero, suc, ◌+◌, ◌*◌, ◌/◌, ◌%◌, ◌≤◌, ◌⊎◌, inl, inr, Bool, true, false, ◌&&◌, ◌||◌, List, [], ◌∷◌, ◌++◌, get_or, All, refl, sym, ap}
+use Rattle.std.proofs.Common.{◌≡◌, ℕ, zero, suc, ◌+◌, ◌*◌, ◌/◌, ◌%◌, ◌≤◌, ◌⊎◌, inl, inr, Bool, true, false, ◌&&◌, ◌||◌, List, [], ◌∷◌, ◌++◌, get_or, All}
+use Rattle.std.proofs.Common.{refl, sym, ap}
 use Rattle.std.proofs.Common.{subst, ◌∙◌, append_assoc, arith, lit<, lit≤, drop}
 use Rattle.std.specs.Prelude.{codes, ◌==◌, nat_le}
 use Rattle.std.specs.Int.{w32, from_le_bytes, to_le_bytes, is_in_range}
@@ -15,7 +16,8 @@ use Rattle.av1_plan.specs.declared.header.Header.{Header}
 use Rattle.av1_plan.specs.CodingOrder.{IsTwoToOne}
 use Rattle.av1_plan.specs.Format.{Format, done, asks, ◌>>=◌, one, two, width, lone, ◌++>◌}
 use Rattle.av1_plan.specs.Geometry.{xdec, ydec, shown_columns, shown_rows, has_slot, is_inside, carries_chroma}
-use Rattle.av1_plan.specs.Grammar.{is_magic, is_side, version_of, version, slots, frame, header, reference, slot_planes, references, leaf, quarter_side, part_size}
+use Rattle.av1_plan.specs.Grammar.{is_magic, is_side, version_of, version, slots, frame, header, reference, slot_planes, references, leaf, quarter_side}
+use Rattle.av1_plan.specs.Grammar.{part_size}
 use Rattle.av1_plan.specs.Grammar.{leaf_part}
 use Rattle.av1_plan.specs.Grammar.{cut_by, admits_stripes, is_mark, mark, wide_stripes, tall_stripes, parts, block, superblock_row, superblocks, plan}
 use Rattle.av1_plan.specs.Grammar.{plan_behind}
@@ -191,7 +193,8 @@ pub record AreLetters (n : ℕ) (letters : List ℕ) : Type 0 where
 magic_is : (number : ℕ) → is_magic number ≡ true → (number ≡ from_le_bytes w32 (codes "RPL1")) ⊎ (number ≡ from_le_bytes w32 (codes "RPL2")) ⊎
     (number ≡ from_le_bytes w32 (codes "RPL3"))
 magic_is number magic =
-    elim (or_cases (number == from_le_bytes w32 (codes "RPL1") || number == from_le_bytes w32 (codes "RPL2")) (number == from_le_bytes w32 (codes "RPL3")) magic) [
+    elim (or_cases (number == from_le_bytes w32 (codes "RPL1") || number == from_le_bytes w32 (codes "RPL2"))
+          (number == from_le_bytes w32 (codes "RPL3")) magic) [
       | inl early ↦ (elim (or_cases (number == from_le_bytes w32 (codes "RPL1")) (number == from_le_bytes w32 (codes "RPL2")) early) [
         | inl f ↦ inl (eqb-true number (from_le_bytes w32 (codes "RPL1")) f)
         | inr f ↦ inr (inl (eqb-true number (from_le_bytes w32 (codes "RPL2")) f))

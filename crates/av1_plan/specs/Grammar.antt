@@ -68,7 +68,8 @@ version = do
   letters ← field (where_ four is_magic)
   done (version_of letters)
 
--- a side of a frame that is shown, in samples of luma: up to the second version a multiple of 8, in the third any number
+-- a side of a frame that is shown, in samples of luma: up to the second version a multiple of 8, in the third any
+-- number
 abbrev pub is_side : (version : ℕ) → ℕ → Bool
 is_side version v = (version == 3 || v % 8 == 0) && is_in_range 1 2048 v
 

@@ -18,8 +18,8 @@
 //!   stands on its grid, and has a chroma mode, a chroma type and triples of chroma where it carries chroma alone. A
 //!   leaf one of whose sides is four times the other ends in the frame.
 //! - A header has the sides that are coded, which are multiples of 8, and those that are shown. Nodes, leaves and
-//!   transform blocks go by the former, reference samples by the latter (`specs/Geometry.antt`). Up to the second version
-//!   the two are the same.
+//!   transform blocks go by the former, reference samples by the latter (`specs/Geometry.antt`). Up to the second
+//!   version the two are the same.
 //! - The grammar has three versions, told by the letters at the front. The second adds two marks, which cut a node into
 //!   four leaves that are a quarter as high or as wide, the third sides of any number; each is else the same as the one
 //!   before (`specs/Versions.antt`).
