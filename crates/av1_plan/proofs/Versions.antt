@@ -173,7 +173,7 @@ frame_seen m n (v ∷ w ∷ vs) h sides s =
       ap (λ (us : List ℕ). to_le_bytes (width two) v ++ (to_le_bytes (width two) w ++ us)) same,
     )
 
-frame_version : (m : ℕ) (vs : List ℕ) (h : Header) → Spells (frame m) vs h → h.version ≡ m
+pub frame_version : (m : ℕ) (vs : List ℕ) (h : Header) → Spells (frame m) vs h → h.version ≡ m
 unfolding frame
 frame_version m [] h s = absurd s
 frame_version m (v ∷ []) h s = absurd s.1
@@ -190,7 +190,7 @@ pub record AreLetters (n : ℕ) (letters : List ℕ) : Type 0 where
   only : (number : ℕ) (rest more : List ℕ) → is_magic number ≡ true → letters ++ rest ≡ to_le_bytes w32 number ++ more → (version_of number ≡ n) × (rest ≡ more)
 
 -- the three letters
-magic_is : (number : ℕ) → is_magic number ≡ true → (number ≡ from_le_bytes w32 (codes "RPL1")) ⊎ (number ≡ from_le_bytes w32 (codes "RPL2")) ⊎
+pub magic_is : (number : ℕ) → is_magic number ≡ true → (number ≡ from_le_bytes w32 (codes "RPL1")) ⊎ (number ≡ from_le_bytes w32 (codes "RPL2")) ⊎
     (number ≡ from_le_bytes w32 (codes "RPL3"))
 magic_is number magic =
     elim (or_cases (number == from_le_bytes w32 (codes "RPL1") || number == from_le_bytes w32 (codes "RPL2"))
