@@ -57,8 +57,16 @@ module _ {T : Type 0} (num : T → ℕ) (h : Header) (planes : Planes T) (frames
       u = kept_stores num h 1 planes.u frames ready.stores.u;
       v = kept_stores num h 2 planes.v frames ready.stores.v;
     };
-    room = record { y = ready.room.y; u = ready.room.u; v = ready.room.v };
-    pads = record { y = ready.pads.y; u = ready.pads.u; v = ready.pads.v };
+    room = record {
+      y = record { columns = ready.room.y.columns; rows = ready.room.y.rows };
+      u = record { columns = ready.room.u.columns; rows = ready.room.u.rows };
+      v = record { columns = ready.room.v.columns; rows = ready.room.v.rows };
+    };
+    pads = record {
+      y = record { columns = ready.pads.y.columns; rows = ready.pads.y.rows };
+      u = record { columns = ready.pads.u.columns; rows = ready.pads.u.rows };
+      v = record { columns = ready.pads.v.columns; rows = ready.pads.v.rows };
+    };
   }
 
   each_holds : (p : ℕ) → p < 3 → HoldsPlane num h p (plane_shown num h p (plane_of kept_slot p)) (plane_of kept_slot p)

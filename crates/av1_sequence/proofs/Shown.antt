@@ -78,6 +78,11 @@ sides_whole width height plane whole some_columns some_rows columns rows = recor
   ydec = whole.ydec;
 }
 
+-- whatever the numbers of its sides are called
+pub sides_as : {T : Type 0} (plane : Plane T) (w t width height : ℕ) → w ≡ width → t ≡ height → IsWhole (with_sides width height plane) →
+    IsWhole (with_sides w t plane)
+sides_as plane w t width height across down whole = rw (across, down) whole
+
 -- what is shown of a plane of a frame is one
 pub cut_whole : {T : Type 0} (num : T → ℕ) (h : Header) (p : ℕ) (plane : Plane T) → AreFrames h → Stores num h p plane → IsWhole (shown_plane h p plane)
 cut_whole num h p plane frames stores =

@@ -12,9 +12,9 @@ ghost use Rattle.av1_plan.specs.Plan.{PlanValue};
 ghost use Rattle.av1_references.specs.References.{ServesPlan};
 ghost use Rattle.av1_plan.specs.Lengths.{slot_bytes};
 ghost use Rattle.av1_sequence.specs.Frames.{IsHead, frame_header, frame_references};
-ghost use Rattle.av1_sequence.specs.Kept.{AreFrames, AreReady, IsKeptAt, KeepsFrames, coded_planes, plane_shown, planes_shown, shown_at, shown_plane};
-ghost use Rattle.av1_sequence.specs.Kept.{slots_shown};
-ghost use Rattle.av1_frame.specs.Planes.{padded};
+ghost use Rattle.av1_sequence.specs.Kept.{AreFrames, AreReady, IsKeptAt, KeepsFrames, coded_plane, coded_planes, plane_shown, planes_shown, shown_at};
+ghost use Rattle.av1_sequence.specs.Kept.{shown_plane, slots_shown};
+ghost use Rattle.av1_frame.specs.Planes.{IsWhole, padded};
 ghost use Rattle.av1_tile.specs.Walk.{Stores};
 ghost use Rattle.av1_sequence.specs.Output.{IsWritable};
 ghost use Rattle.av1_sequence.specs.Slots.{Frame, bits_of, count_of, has_bit, is_named, is_read, refreshed, row_in};
@@ -147,7 +147,6 @@ fn places_of(places: &[Option<u8>; SLOTS], slots: &[u8; 7]) -> [u8; 7]
 }
 
 /// Makes what is shown of plane `p` of a frame its visible samples, and pads it with these.
-#[tactic(auto, using(crate::proofs::Shown::cut_whole))]
 fn pad_shown<T: Pixel>(header: &Header, plane: &mut Plane<T>, p: usize)
     requires frame { AreFrames header.now }
     requires stores { Stores T.num header.now p plane.old }
@@ -155,6 +154,14 @@ fn pad_shown<T: Pixel>(header: &Header, plane: &mut Plane<T>, p: usize)
 {
     plane.set_sides(header.shown_columns(p), header.shown_rows(p));
     plane.pad();
+}
+
+/// Makes all that is coded of plane `p` of a frame visible again.
+fn open_plane<T: Pixel>(header: &Header, plane: &mut Plane<T>, p: usize)
+    requires { IsWhole (coded_plane header.now p plane.old) }
+    ensures { plane.new ≡ coded_plane header.now p plane.old }
+{
+    plane.set_sides(header.plane_width(p), header.plane_height(p));
 }
 
 /// The planes of a frame, where there are some, for a later one: what is coded of each is visible again.
@@ -167,9 +174,9 @@ fn as_planes<T: Pixel>(
 {
     match planes {
         Some((mut y, mut u, mut v)) => {
-            y.set_sides(header.plane_width(0), header.plane_height(0));
-            u.set_sides(header.plane_width(1), header.plane_height(1));
-            v.set_sides(header.plane_width(2), header.plane_height(2));
+            open_plane(header, &mut y, 0);
+            open_plane(header, &mut u, 1);
+            open_plane(header, &mut v, 2);
             Some(Planes { y, u, v })
         }
         None => None,
