@@ -59,7 +59,7 @@ impl<'a> Reader<'a> {
         ensures told { IfErr result IsAtByte }
         ensures moves { Moves self.old self.new }
         ensures small { IfOk result (λ x. x ≤ 2048) }
-        ensures side { version ≤ 2 → IfOk result IsSide }
+        ensures side { IfOk result (λ x. version ≤ 2 → IsSide x) }
     {
         let at = self.at;
         let value = self.any_u16()?;
