@@ -85,6 +85,9 @@ choice_back v le = elim (v == 1) as (λ b. (v == 1) ≡ b → v ≡ (if b then 1
     below_one : (v : ℕ) → v ≤ 1 → (v == 1) ≡ false → v ≡ 0
     below_one v le e = let other = eqb-false v 1 e in omega (arith, le, other)
 
+below_five : (v : ℕ) → v ≤ 3 → v < 5
+below_five v le = omega (arith, le)
+
 pub header_told : Tells grammar.header header_text
 unfolding grammar.header grammar.frame header_text
 header_told = record {
@@ -99,7 +102,7 @@ header_told = record {
       let slots = apart grammar.slots _ h edge.values edge.spells in
       let mask = asked _ _ h slots.behind slots.behind_spells in
       let end = ended _ h mask.values mask.spells in
-      let small : filter.number < 5 = omega (arith, (range_is 0 3 filter.number filter.admitted).1) in
+      let small : filter.number < 5 = below_five filter.number (range_is 0 3 filter.number filter.admitted).1 in
       let t0 = letters n.between in
       let t1 = t0 ++ pair width.number in
       let t2 = t1 ++ pair height.number in

@@ -162,7 +162,7 @@ stood_coded {T} num h fi places keeps place was was_is =
     (go (slice_index_or fi.slots place None) refl)
   where
     go : (o : Option (Slot T)) → slice_index_or fi.slots place None ≡ o
-        → IfSome (option_map (λ (t : Slot T). (t.y, t.u, t.v)) o) (λ p. AreReady num h (coded_planes h p.0 p.1 p.2))
+        → IfSome {T = Plane T × Plane T × Plane T} (option_map (λ (t : Slot T). (t.y, t.u, t.v)) o) (λ p. AreReady num h (coded_planes h p.0 p.1 p.2))
     go None at = tt
     go (Some t) at = keeps.again place t at
 

@@ -1,5 +1,5 @@
 -- What planes in memory show, in a frame's own header as in that of its sequence.
-use Rattle.std.proofs.Common.{ℕ, zero, suc, ◌<◌, ◌≡◌, ◌∙◌, ◌^◌, true, List, Option, Some, None, refl, sym, subst, arith, is_some, All}
+use Rattle.std.proofs.Common.{ℕ, zero, suc, ◌<◌, ◌≤◌, ◌≡◌, ◌∙◌, ◌^◌, true, List, Option, Some, None, refl, sym, subst, arith, is_some, All}
 use Rattle.std.proofs.Common.{◌+◌, ◌*◌, ◌/◌, ◌%◌, length, get_or, inl, inr}
 use Rattle.std.specs.Option.{option_map}
 use Rattle.std.proofs.Math.Nat.{le_of_eq, mul_comm}

@@ -1,5 +1,5 @@
 -- What a state shows once its plan has been walked.
-use Rattle.std.proofs.Common.{ℕ, ◌<◌, ◌*◌, ◌^◌, ◌≡◌, true, false, List, length, get_or, map, ap, refl, arith, ◌∙◌, sym, subst, None, All, Result, Ok, Err}
+use Rattle.std.proofs.Common.{ℕ, ◌<◌, ◌≤◌, ◌*◌, ◌^◌, ◌≡◌, true, false, List, length, get_or, map, ap, refl, arith, ◌∙◌, sym, subst, None, All, Result, Ok, Err}
 use Rattle.std.proofs.Common.{IfOk, replicate}
 use Rattle.std.proofs.lemmas.List.Elements.{All-replicate}
 use Rattle.std.proofs.lemmas.Nat.{pow_pos}
