@@ -1,8 +1,8 @@
 -- A plan composed of pieces is spelled: a frame in its ranges, slots with planes of the frame's depth, and leaves that are spelled.
-use Rattle.std.proofs.Common.{◌≡◌, ℕ, zero, suc, ◌+◌, ◌<◌, ◌≤◌, ◌^◌, ◌⊎◌, inl, inr, Bool, true, false, List, [], ◌∷◌, ◌++◌, length, get_or, All, Option, Some}
-use Rattle.std.proofs.Common.{None, refl, sym, ap, subst, ◌∙◌, append_assoc, arith, slice_index_or, lit<}
+use Rattle.std.proofs.Common.{◌≡◌, ℕ, zero, suc, ◌+◌, ◌%◌, ◌<◌, ◌≤◌, ◌^◌, ◌⊎◌, inl, inr, Bool, true, false, ◌||◌, List, [], ◌∷◌, ◌++◌, length, get_or, All}
+use Rattle.std.proofs.Common.{Option, Some, None, refl, sym, ap, subst, ◌∙◌, append_assoc, arith, slice_index_or, lit<}
 use Rattle.std.specs.Prelude.{◌==◌, is_some, if◌then◌else◌}
-use Rattle.std.proofs.lemmas.Bool.{cases_lt, lt-ltb, le-leb}
+use Rattle.std.proofs.lemmas.Bool.{cases_lt, lt-ltb, le-leb, or_left, or_right}
 use Rattle.std.proofs.lemmas.List.{get_or-map, get_or_default, get_or_past, length-map}
 use Rattle.av1_blocks.specs.declared.mc.FilterMode.{FilterMode}
 use Rattle.av1_blocks.specs.declared.mc.FilterMode.TheVariants.{REGULAR}
@@ -20,7 +20,7 @@ use Rattle.av1_plan.specs.Spelling.{IsSpelled, text}
 use Rattle.av1_plan.proofs.Carried.{joined}
 use Rattle.av1_plan.proofs.Numbers.{filter_of}
 use Rattle.av1_plan.proofs.ReadPlans.{depth_holds}
-use Rattle.av1_plan.proofs.Versions.{first_letters, second_letters}
+use Rattle.av1_plan.proofs.Versions.{first_letters, second_letters, third_letters}
 
 -- ---- formats
 
@@ -55,8 +55,24 @@ turns_spelled f i (x ∷ xs) each =
 filter_back : (f : FilterMode) → filter_of (filter_number f) ≡ f
 filter_back f = elim f as (λ g. filter_of (filter_number g) ≡ g) [ REGULAR ↦ refl | _ ↦ refl ]
 
-side_admitted : (n : ℕ) → IsSide n → IsAdmitted (where_ two is_side) n
-side_admitted n s = record { fits = omega (arith, s.most); admitted = rw (s.whole, le-leb 8 n s.least, le-leb n 2048 s.most) refl }
+-- a side that is shown of one that is coded is admitted
+shaped : (version shown coded : ℕ) → version ≤ 3 → IsSide coded → IsShown version shown coded → (version == 3 || shown % 8 == 0) ≡ true
+shaped version shown coded most side is = elim (cases_lt version 3) [
+  | inl lt ↦
+      let whole : shown % 8 ≡ 0 = omega (arith, is.whole (omega (arith, lt)), side.whole) in
+      or_right (version == 3) (shown % 8 == 0) (rw whole refl)
+  | inr le ↦
+      let third : version ≡ 3 = omega (arith, most, le) in
+      or_left (version == 3) (shown % 8 == 0) (rw third refl)
+]
+
+side_admitted : (version shown coded : ℕ) → version ≤ 3 → IsSide coded → IsShown version shown coded → IsAdmitted (where_ two (is_side version)) shown
+side_admitted version shown coded most side is =
+    let few : shown ≤ 2048 = omega (arith, is.within, side.most) in
+    record {
+      fits = omega (arith, few);
+      admitted = rw (shaped version shown coded most side is, le-leb 1 shown is.some, le-leb shown 2048 few) refl;
+    }
 
 pub byte_admitted : (first last v : ℕ) → last < 256 → first ≤ v → v ≤ last → IsAdmitted (byte_from first last) v
 byte_admitted first last v small least most = record { fits = omega (arith, small, most); admitted = rw (le-leb first v least, le-leb v last most) refl }
@@ -117,10 +133,6 @@ choice_back false = refl
 coded_back : (n shown coded : ℕ) → IsSide coded → IsShown n shown coded → coded_side shown ≡ coded
 coded_back n shown coded side is = omega (arith, side.whole, is.within, is.near)
 
--- and in the first two versions that one is admitted
-shown_side : (n shown coded : ℕ) → n ≤ 2 → IsSide coded → IsShown n shown coded → IsSide shown
-shown_side n shown coded le side is = subst IsSide (sym (is.whole le)) side
-
 -- the frame that shows these sides
 abbrev framed : (version shown_width shown_height depth sampling : ℕ) → FilterMode → Bool → List ℕ → (mask : ℕ) → Header
 framed version shown_width shown_height depth sampling filter edge_filter xs mask = record {
@@ -144,11 +156,12 @@ framed_is h is =
     (coded_back h.version h.shown_width h.width is.width is.shown_width)
     ∙ ap (λ (w : ℕ). let g : Header = record h { height = w } in g) (coded_back h.version h.shown_height h.height is.height is.shown_height)
 
-version_spelled : (n : ℕ) → 1 ≤ n → n ≤ 2 → IsSpelled version n
+version_spelled : (n : ℕ) → 1 ≤ n → n ≤ 3 → IsSpelled version n
 version_spelled zero least most = absurd (omega (arith, least))
 version_spelled (suc zero) least most = record { values = first_letters.field ∷ []; spells = first_letters.spells }
 version_spelled (suc (suc zero)) least most = record { values = second_letters.field ∷ []; spells = second_letters.spells }
-version_spelled (suc (suc (suc n))) least most = absurd (omega (arith, most))
+version_spelled (suc (suc (suc zero))) least most = record { values = third_letters.field ∷ []; spells = third_letters.spells }
+version_spelled (suc (suc (suc (suc n)))) least most = absurd (omega (arith, most))
 
 frame_spelled : (version shown_width shown_height depth sampling : ℕ) (filter : FilterMode) (edge_filter : Bool) (xs : List ℕ) (mask : ℕ)
     → IsReadFrame (framed version shown_width shown_height depth sampling filter edge_filter xs mask)
@@ -169,10 +182,10 @@ frame_spelled version shown_width shown_height depth sampling filter edge_filter
     let s6 = asks_spelled (byte_from 0 3) _ number h (byte_admitted 0 3 number (lit< tt) (zero_le number) (below_four number is.filter)) s7 in
     let s5 = asks_spelled (byte_from 0 2) _ sampling h (byte_admitted 0 2 sampling (lit< tt) (zero_le _) is.sampling) s6 in
     let s4 = asks_spelled (where_ one is_depth) _ depth h (depth_admitted depth is.depth) s5 in
-    let s3 = asks_spelled (where_ two is_side) _ shown_height h
-    (side_admitted shown_height (shown_side version shown_height (coded_side shown_height) is.most_version is.height is.shown_height)) s4 in
-    asks_spelled (where_ two is_side) _ shown_width h
-    (side_admitted shown_width (shown_side version shown_width (coded_side shown_width) is.most_version is.width is.shown_width)) s3
+    let s3 = asks_spelled (where_ two (is_side version)) _ shown_height h
+    (side_admitted version shown_height (coded_side shown_height) is.most_version is.height is.shown_height) s4 in
+    asks_spelled (where_ two (is_side version)) _ shown_width h
+    (side_admitted version shown_width (coded_side shown_width) is.most_version is.width is.shown_width) s3
 
 pub header_spelled : (h : Header) → IsReadFrame h → IsSpelled header h
 unfolding header

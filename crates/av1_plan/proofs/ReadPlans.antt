@@ -96,7 +96,7 @@ depth_holds n (inr (inr e)) = rw e refl
 pub kept_frame : (p : PlanValue) → ∥ IsSpelled plan p ∥₁ → IsReadFrame p.header
 kept_frame p spelled = record {
   least_version = ∥∥₁_elim spelled (orders 1 p.header.version) (λ s. (spelled_frame p s).least_version);
-  most_version = ∥∥₁_elim spelled (orders p.header.version 2) (λ s. (spelled_frame p s).most_version);
+  most_version = ∥∥₁_elim spelled (orders p.header.version 3) (λ s. (spelled_frame p s).most_version);
   width = ∥∥₁_elim spelled (sides p.header.width) (λ s. (spelled_frame p s).width);
   height = ∥∥₁_elim spelled (sides p.header.height) (λ s. (spelled_frame p s).height);
   shown_width = ∥∥₁_elim spelled (shown_sides p.header.version p.header.shown_width p.header.width) (λ s. (spelled_frame p s).shown_width);

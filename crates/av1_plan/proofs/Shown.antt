@@ -41,9 +41,9 @@ unfolding shown_rows ydec
 rows_few h zero = side_few h.shown_height false
 rows_few h (suc p) = side_few h.shown_height (h.sampling == 0)
 
--- all that is coded is shown in the two versions
-pub all_shown : (h : Header) → IsReadFrame h → (h.shown_width ≡ h.width) × (h.shown_height ≡ h.height)
-all_shown h is = (is.shown_width.whole is.most_version, is.shown_height.whole is.most_version)
+-- all that is coded is shown in the first two versions
+pub all_shown : (h : Header) → IsReadFrame h → h.version ≤ 2 → (h.shown_width ≡ h.width) × (h.shown_height ≡ h.height)
+all_shown h is early = (is.shown_width.whole early, is.shown_height.whole early)
 
 -- where they are the same, as many columns and rows of each plane are shown as are coded
 whole_side : (shown coded : ℕ) (halved : Bool) → shown ≡ coded → coded % 8 ≡ 0 →

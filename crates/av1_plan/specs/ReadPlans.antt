@@ -29,7 +29,7 @@ pub record IsSide (n : ℕ) : Type 0 where
   pub least : 8 ≤ n
   pub most : n ≤ 2048
 
--- a side that is shown, of one that is coded: the two versions show all that they code
+-- a side that is shown, of one that is coded: the first two versions show all that they code
 pub record IsShown (version shown coded : ℕ) : Type 0 where
   pub some : 1 ≤ shown
   pub within : shown ≤ coded
@@ -41,11 +41,11 @@ pub record AreSlots (slots : List ℕ) : Type 0 where
   pub count : length slots ≡ 7
   pub range : All (λ slot. slot < 8) slots
 
--- the version is 1 or 2, sampling 0, 1 or 2, and the filter one of the first four (the fifth, switchable, belongs to
+-- the version is 1, 2 or 3, sampling 0, 1 or 2, and the filter one of the first four (the fifth, switchable, belongs to
 -- bitstreams)
 pub record IsReadFrame (h : Header) : Type 0 where
   pub least_version : 1 ≤ h.version
-  pub most_version : h.version ≤ 2
+  pub most_version : h.version ≤ 3
   pub width : IsSide h.width
   pub height : IsSide h.height
   pub shown_width : IsShown h.version h.shown_width h.width

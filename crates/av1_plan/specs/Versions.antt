@@ -1,5 +1,5 @@
--- What the two versions of the plan grammar have in common.
-use Rattle.std.specs.Prelude.{◌≡◌, ℕ, ◌≤◌, codes, List, ◌++◌}
+-- What the versions of the plan grammar have in common.
+use Rattle.std.specs.Prelude.{◌≡◌, ℕ, ◌%◌, ◌≤◌, codes, List, ◌++◌}
 use Rattle.std.specs.List.{All}
 use Rattle.av1_plan.specs.declared.header.Header.{Header}
 use Rattle.av1_plan.specs.CodingOrder.{IsTwoToOne}
@@ -41,7 +41,20 @@ FirstHasRest =
     (rest : List ℕ) (p : PlanValue) → AreText plan (codes "RPL2" ++ rest) p → All IsTwoToOne p.leaves
     → (p.header.version ≡ 2) × AreText plan (codes "RPL1" ++ rest) (plan_in 1 p)
 
--- A plan of either version shows all that it codes: in each plane as many columns and rows.
+-- The same of the second version and the third.
+abbrev pub ThirdKeepsSecond : Type 0
+ThirdKeepsSecond =
+    (rest : List ℕ) (p : PlanValue) → AreText plan (codes "RPL2" ++ rest) p
+    → (p.header.version ≡ 2) × AreText plan (codes "RPL3" ++ rest) (plan_in 3 p)
+
+-- Back again, where both sides that are shown are multiples of 8.
+abbrev pub SecondHasRest : Type 0
+SecondHasRest =
+    (rest : List ℕ) (p : PlanValue) → AreText plan (codes "RPL3" ++ rest) p
+    → p.header.shown_width % 8 ≡ 0 → p.header.shown_height % 8 ≡ 0
+    → (p.header.version ≡ 3) × AreText plan (codes "RPL2" ++ rest) (plan_in 2 p)
+
+-- A plan of the first two versions shows all that it codes: in each plane as many columns and rows.
 abbrev pub ShowsAll : Header → Type 0
 ShowsAll h = (p : ℕ) → (shown_columns h p ≡ plane_width h p) × (shown_rows h p ≡ plane_height h p)
 

@@ -6,7 +6,7 @@ use av1_blocks::FilterMode;
 #[derive(Copy, Clone, Debug, PartialEq, Eq)]
 pub struct Header {
     /// The version of the grammar: 1, or 2, in which a node may be cut into four leaves that are a quarter as wide or
-    /// as high.
+    /// as high, or 3, in which the frame has any sides besides.
     pub version: u8,
     /// Columns of luma samples that are coded: the least multiple of 8 that holds those that are shown, from 8 to 2048.
     pub width: u16,

@@ -18,10 +18,11 @@
 //!   stands on its grid, and has a chroma mode, a chroma type and triples of chroma where it carries chroma alone. A
 //!   leaf one of whose sides is four times the other ends in the frame.
 //! - A header has the sides that are coded, which are multiples of 8, and those that are shown. Nodes, leaves and
-//!   transform blocks go by the former, reference samples by the latter (`specs/Geometry.antt`). In both versions the
-//!   two are the same.
-//! - The grammar has two versions, told by the letters at the front. The second adds two marks, which cut a node into
-//!   four leaves that are a quarter as high or as wide, and is else the same (`specs/Versions.antt`).
+//!   transform blocks go by the former, reference samples by the latter (`specs/Geometry.antt`). Up to the second
+//!   version the two are the same.
+//! - The grammar has three versions, told by the letters at the front. The second adds two marks, which cut a node into
+//!   four leaves that are a quarter as high or as wide, the third sides of any number; each is else the same as the one
+//!   before (`specs/Versions.antt`).
 //! - `check_plan` accepts exactly the plans of which no leaf is faulty, and else names the first faulty leaf and the
 //!   first of its reasons (`specs/Validity.antt`): sizes, transforms, modes, vectors, references, and coefficients that
 //!   rise strictly by block and place.
@@ -49,7 +50,8 @@ pub use geometry::{PlaneArea, TransformBlock, carries_chroma, coded_side, plane_
 pub use header::Header;
 pub use laws::{
     earlier_versions_show_what_is_coded, fronts_have_these_lengths, pieces_are_a_plan, texts_are_of_one_plan,
-    the_first_version_has_the_rest, the_second_version_keeps_the_first,
+    the_first_version_has_the_rest, the_second_version_has_the_rest, the_second_version_keeps_the_first,
+    the_third_version_keeps_the_second,
 };
 pub use leaf::{ChromaMode, Leaf, LeafKind, Triple};
 pub use leaves::Leaves;

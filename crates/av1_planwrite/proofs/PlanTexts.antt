@@ -17,6 +17,7 @@ use Rattle.av1_plan.specs.Spelling.{text, AreText}
 use Rattle.av1_plan.proofs.Carried.{AreApart, apart}
 use Rattle.av1_plan.proofs.Numbers.{filter_of, filter_number_is}
 use Rattle.av1_plan.proofs.ReadFrames.{range_is}
+use Rattle.av1_plan.proofs.Versions.{magic_is}
 use Rattle.av1_planwrite.specs.Text.{byte, pair, quad, letters, header_text, sample_text, plane_text, slot_text, references_text, superblocks_written}
 use Rattle.av1_planwrite.specs.Text.{front_text, plan_text}
 use Rattle.av1_planwrite.proofs.Told.{ended, IsAsked, asked, Tells, turns_tell, two_parts, last_part}
@@ -40,9 +41,10 @@ grown front e f = e ∙ ap (λ (xs : List ℕ). front ++ xs) f ∙ append-nil fr
 -- ---- the header
 
 letters_are : (v : ℕ) → is_magic v ≡ true → quad v ≡ letters (version_of v)
-letters_are v e = elim (or_cases (v == from_le_bytes w32 (codes "RPL1")) (v == from_le_bytes w32 (codes "RPL2")) e) [
-  | inl first ↦ subst (λ (n : ℕ). quad n ≡ letters (version_of n)) (sym (eqb-true v (from_le_bytes w32 (codes "RPL1")) first)) refl
-  | inr second ↦ subst (λ (n : ℕ). quad n ≡ letters (version_of n)) (sym (eqb-true v (from_le_bytes w32 (codes "RPL2")) second)) refl
+letters_are v e = elim (magic_is v e) [
+  | inl first ↦ subst (λ (n : ℕ). quad n ≡ letters (version_of n)) (sym first) refl
+  | inr (inl second) ↦ subst (λ (n : ℕ). quad n ≡ letters (version_of n)) (sym second) refl
+  | inr (inr third) ↦ subst (λ (n : ℕ). quad n ≡ letters (version_of n)) (sym third) refl
 ]
 
 version_told : Tells grammar.version letters

@@ -43,7 +43,9 @@ quad v = to_le_bytes w32 v
 
 -- the letters of a version
 abbrev pub letters : ℕ → List ℕ
-letters version = if version == 2 then codes "RPL2" else codes "RPL1"
+letters version =
+    if version == 3 then codes "RPL3" else
+    if version == 2 then codes "RPL2" else codes "RPL1"
 
 -- the frame, and what holds for all leaves
 unfoldable pub header_text : Header → List ℕ

@@ -15,10 +15,10 @@ use av1_plan::{ChromaMode, Header, LeafKind};
 // ---- the header
 
 /// Whether a frame may have a side of so many luma samples.
-fn is_side(side: u16) -> bool
-    ensures { result ≡ is_side side }
+fn is_side(version: u8, side: u16) -> bool
+    ensures { result ≡ is_side version side }
 {
-    side % 8 == 0 && 8 <= side && side <= 2048
+    (version == 3 || side % 8 == 0) && 1 <= side && side <= 2048
 }
 
 /// Whether this is the side that is coded where that one is shown.
@@ -60,9 +60,9 @@ pub fn admits_header(header: &Header) -> bool
         ..
     } = *header;
     1 <= header.version
-        && header.version <= 2
-        && is_side(header.shown_width)
-        && is_side(header.shown_height)
+        && header.version <= 3
+        && is_side(header.version, header.shown_width)
+        && is_side(header.version, header.shown_height)
         && is_coded(header.width, header.shown_width)
         && is_coded(header.height, header.shown_height)
         && is_depth(header.depth)

@@ -12,7 +12,11 @@ use av1_plan::Header;
 fn letters(version: u8) -> [u8; 4]
     ensures { result ≡ letters version }
 {
-    if version == 2 { *b"RPL2" } else { *b"RPL1" }
+    match version {
+        3 => *b"RPL3",
+        2 => *b"RPL2",
+        _ => *b"RPL1",
+    }
 }
 
 /// The fields of a header.

@@ -57,8 +57,9 @@ area_is f read i lt =
     let column = column_in f read i lt in
     let row = row_in f read i lt in
     record {
-      columns = omega (arith, read.columns.rising k column, read.columns.within (k + 1) column, (all_shown f.header read.frame).0);
-      rows = omega (arith, read.rows.rising r row, read.rows.within (r + 1) row, (all_shown f.header read.frame).1);
+      columns =
+          omega (arith, read.columns.rising k column, read.columns.within (k + 1) column, (all_shown f.header read.frame (omega (arith, read.version))).0);
+      rows = omega (arith, read.rows.rising r row, read.rows.within (r + 1) row, (all_shown f.header read.frame (omega (arith, read.version))).1);
       width = side_between f.header.width f.columns.items read.frame.width read.columns k column;
       height = side_between f.header.height f.rows.items read.frame.height read.rows r row;
     }

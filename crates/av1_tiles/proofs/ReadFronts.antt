@@ -10,6 +10,7 @@ use Rattle.av1_plan.proofs.Pieces.{spelled_done, spelled_asks, spelled_bind}
 use Rattle.av1_plan.proofs.ReadFrames.{frame_is}
 use Rattle.av1_plan.proofs.ReadReferences.{stored_are}
 use Rattle.av1_plan.proofs.Spelled.{read_spells}
+use Rattle.av1_plan.proofs.Versions.{frame_version}
 use Rattle.av1_tiles.specs.declared.file.Front.{Front}
 use Rattle.av1_tiles.specs.Bounds.{AreBounds, IsReadFront}
 use Rattle.av1_tiles.specs.File.{front_value}
@@ -58,6 +59,7 @@ front_is f eight s =
     let bounds = front_bounds (front_value f) s in
     record {
       frame = is;
+      version = frame_version 2 f.header p.header.values p.header.spells;
       eight = eight;
       slots = stored_are f.header f.references.items eight p.references;
       columns = bounds.columns;

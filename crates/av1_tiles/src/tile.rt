@@ -30,6 +30,7 @@ fn area_between(
     row: usize,
 ) -> TileArea
     requires frame { IsReadFrame header.now }
+    requires early { header.now.version ≤ 2 }
     requires columns { AreBounds header.now.width columns.now }
     requires rows { AreBounds header.now.height rows.now }
     requires column { column + 1 < length columns.now }
