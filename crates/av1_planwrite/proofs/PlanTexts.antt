@@ -1,10 +1,10 @@
 -- The bytes of a plan are its text.
 use Rattle.std.proofs.Common.{◌≡◌, ℕ, ◌<◌, ◌≤◌, ◌^◌, Bool, true, false, if◌then◌else◌, inl, inr, List, [], ◌∷◌, ◌++◌, Option, Some, None, refl, sym, ap, subst}
-use Rattle.std.proofs.Common.{◌∙◌, append_assoc, arith, w32}
-use Rattle.std.specs.Prelude.{◌==◌, codes, nat_lt}
+use Rattle.std.proofs.Common.{◌∙◌, append_assoc, arith}
+use Rattle.std.specs.Prelude.{◌==◌, nat_lt}
 use Rattle.std.specs.List.{flat_map}
-use Rattle.std.specs.Int.{from_le_bytes, to_le_bytes}
-use Rattle.std.proofs.lemmas.Bool.{eqb-true, eqb-false, or_cases}
+use Rattle.std.specs.Int.{to_le_bytes}
+use Rattle.std.proofs.lemmas.Bool.{eqb-true, eqb-false}
 use Rattle.std.proofs.lemmas.List.{append-nil}
 use Rattle.av1_blocks.specs.Filters.{filter_number}
 use Rattle.av1_plan.specs.declared.header.Header.{Header}
