@@ -143,12 +143,18 @@ spelled_twice (done z) (v ∷ vs) x y s t = absurd s
 spelled_twice (asks k next) [] x y s t = absurd s
 spelled_twice (asks k next) (v ∷ vs) x y s t = spelled_twice (next v) vs x y s.1 t.1
 
+-- what stands behind a field of this value
+abbrev next_of : Format Header → ℕ → Format Header
+next_of (done x) v = done x
+next_of (asks k next) v = next v
+
 -- the version and the sides that a frame shows are those of its fields
 frame_fields : (m v w : ℕ) (vs : List ℕ) (h : Header) → Spells (frame m) (v ∷ w ∷ vs) h → (h.version ≡ m) × (h.shown_width ≡ v) × (h.shown_height ≡ w)
 unfolding frame slots
 frame_fields m v w vs h s =
     let view : Header → Header = λ g. record g { version = m; shown_width = v; shown_height = w } in
-    let same = spelled_twice _ vs h (view h) s.1.1 (seen view _ vs h s.1.1).0 in
+    let rest = next_of (next_of (frame m) v) w in
+    let same = spelled_twice rest vs h (view h) s.1.1 (seen view rest vs h s.1.1).0 in
     (ap (λ (g : Header). g.version) same, ap (λ (g : Header). g.shown_width) same, ap (λ (g : Header). g.shown_height) same)
 
 -- the sides that a header of one version shows are admitted in another, too
@@ -165,7 +171,7 @@ frame_seen m n (v ∷ w ∷ vs) h sides s =
     let (_, is_width, is_height) = frame_fields m v w vs h s in
     let wide : is_side m v ≡ true → is_side n v ≡ true = subst (λ (u : ℕ). is_side m u ≡ true → is_side n u ≡ true) is_width sides.width in
     let high : is_side m w ≡ true → is_side n w ≡ true = subst (λ (u : ℕ). is_side m u ≡ true → is_side n u ≡ true) is_height sides.height in
-    let (spells, same) = seen (header_in n) _ vs h s.1.1 in (
+    let (spells, same) = seen (header_in n) (next_of (next_of (frame m) v) w) vs h s.1.1 in (
       (
         record { fits = s.0.fits; admitted = wide s.0.admitted },
         (record { fits = s.1.0.fits; admitted = high s.1.0.admitted }, spells),
@@ -355,16 +361,16 @@ second_keeps_first rest p t =
 high_mark : (n : ℕ) (h : Header) (level x y v : ℕ) → 2 ≤ n → 8 ≤ v → v ≤ 9 → admits_stripes h level x y ≡ true →
     is_mark (header_in n h) level x y v ≡ true
 unfolding is_mark admits_stripes
-high_mark n h level x y v two least most e =
+high_mark n h level x y v late least most e =
     let is = striped_is h level x y e in
     or_right (nat_le v 3) _
-    (rw (le-leb 8 v least, le-leb v 9 most, le-leb 2 n two, le-leb 2 level is.level_2, le-leb _ _ is.right, le-leb _ _ is.below) refl)
+    (rw (le-leb 8 v least, le-leb v 9 most, le-leb 2 n late, le-leb 2 level is.level_2, le-leb _ _ is.right, le-leb _ _ is.below) refl)
 
 -- from the second version on the marks are the same
 marks_kept : (n : ℕ) → 2 ≤ n → (h : Header) → Permits (λ ls. Unit {0}) n h
-marks_kept n two h k x y v ws ls le within e s u = elim (mark_cases h (suc k) x y v e) [
+marks_kept n late h k x y v ws ls le within e s u = elim (mark_cases h (suc k) x y v e) [
   | inl low ↦ low_mark (header_in n h) (suc k) x y v low
-  | inr high ↦ high_mark n h (suc k) x y v two high.0 high.1 high.2
+  | inr high ↦ high_mark n h (suc k) x y v late high.0 high.1 high.2
 ]
 
 any_side : (v : ℕ) → is_side 2 v ≡ true → is_side 3 v ≡ true
@@ -418,8 +424,8 @@ first_is_two_to_one h size x y f g k ls within s all =
 no_wide : (h : Header) (k side x y : ℕ) (ls : List LeafValue) → suc k ≤ 4 → 2 ≤ suc k → is_inside h x y ≡ true →
     IsSpelled (wide_stripes h (part_size (suc k) PARTITION_HORZ_4) side x y) ls → All IsTwoToOne ls → ⊥
 unfolding wide_stripes
-no_wide h zero side x y ls le two within s all = absurd (omega (arith, two))
-no_wide h (suc k) side x y ls le two within s all =
+no_wide h zero side x y ls le divides within s all = absurd (omega (arith, divides))
+no_wide h (suc k) side x y ls le divides within s all =
     let cells = wide_stripe_cells k le in
     let not = first_is_two_to_one h _ x y _ _ _ ls within s all in
     absurd (omega (arith, not.0, cells.width, cells.height, pow_pos k))
@@ -427,8 +433,8 @@ no_wide h (suc k) side x y ls le two within s all =
 no_tall : (h : Header) (k side x y : ℕ) (ls : List LeafValue) → suc k ≤ 4 → 2 ≤ suc k → is_inside h x y ≡ true →
     IsSpelled (tall_stripes h (part_size (suc k) PARTITION_VERT_4) side x y) ls → All IsTwoToOne ls → ⊥
 unfolding tall_stripes
-no_tall h zero side x y ls le two within s all = absurd (omega (arith, two))
-no_tall h (suc k) side x y ls le two within s all =
+no_tall h zero side x y ls le divides within s all = absurd (omega (arith, divides))
+no_tall h (suc k) side x y ls le divides within s all =
     let cells = tall_stripe_cells k le in
     let not = first_is_two_to_one h _ x y _ _ _ ls within s all in
     absurd (omega (arith, not.1, cells.width, cells.height, pow_pos k))
@@ -436,9 +442,9 @@ no_tall h (suc k) side x y ls le two within s all =
 no_stripes : (h : Header) (k x y v : ℕ) (ls : List LeafValue) → suc k ≤ 4 → 2 ≤ suc k → is_inside h x y ≡ true → 8 ≤ v → v ≤ 9 →
     IsSpelled (parts h (suc k) (block h k) x y (cut_by v)) ls → All IsTwoToOne ls → ⊥
 unfolding parts cut_by
-no_stripes h k x y v ls le two within least most s all = elim (eight_or_nine v least most) [
-  | inl is ↦ no_wide h k (quarter_side (suc k)) x y ls le two within (subst (λ (v : ℕ). IsSpelled (parts h (suc k) (block h k) x y (cut_by v)) ls) is s) all
-  | inr is ↦ no_tall h k (quarter_side (suc k)) x y ls le two within (subst (λ (v : ℕ). IsSpelled (parts h (suc k) (block h k) x y (cut_by v)) ls) is s) all
+no_stripes h k x y v ls le divides within least most s all = elim (eight_or_nine v least most) [
+  | inl is ↦ no_wide h k (quarter_side (suc k)) x y ls le divides within (subst (λ (v : ℕ). IsSpelled (parts h (suc k) (block h k) x y (cut_by v)) ls) is s) all
+  | inr is ↦ no_tall h k (quarter_side (suc k)) x y ls le divides within (subst (λ (v : ℕ). IsSpelled (parts h (suc k) (block h k) x y (cut_by v)) ls) is s) all
 ]
   where
     eight_or_nine : (v : ℕ) → 8 ≤ v → v ≤ 9 → (v ≡ 8) ⊎ (v ≡ 9)
