@@ -108,15 +108,15 @@ unfoldable pub block_at : PlaneArea → ℕ → TransformBlock
 block_at a n =
     record { x = a.x + n % blocks_across a * tx_width a.tx_size; y = a.y + n / blocks_across a * tx_height a.tx_size }
 
--- whether there is a block n, and it begins in the visible plane p
+-- whether there is a block n, and it begins in the coded plane p
 unfoldable pub has_block : Header → ℕ → PlaneArea → ℕ → Bool
 has_block h p a n = nat_lt n (block_count a) && nat_lt (block_at a n).x (plane_width h p)
     && nat_lt (block_at a n).y (plane_height h p)
 
--- block n, where there is one that begins in the visible plane p
+-- block n, where there is one that begins in the coded plane p
 unfoldable pub transform_block : Header → ℕ → PlaneArea → ℕ → Option TransformBlock
 transform_block h p a n = if has_block h p a n then Some (block_at a n) else None
 
--- the blocks of a rectangle: those that begin outside the visible plane keep their number and are left out
+-- the blocks of a rectangle: those that begin outside the coded plane keep their number and are left out
 unfoldable pub transform_blocks : Header → ℕ → PlaneArea → List TransformBlock
 transform_blocks h p a = filter_map (transform_block h p a) (range_with_len 0 (block_count a))

@@ -226,7 +226,7 @@ impl PlaneArea {
         self.size.width() / self.tx_size.width()
     }
 
-    /// How many transform blocks the rectangle has, those outside the visible plane counted too.
+    /// How many transform blocks the rectangle has, those outside the coded plane counted too.
     #[inline(always)]
     #[tactic(auto, unfolding(crate::specs::Geometry::block_count))]
     pub fn block_count(&self) -> usize
@@ -249,7 +249,7 @@ impl PlaneArea {
         }
     }
 
-    /// Transform block `n`, where there is one that begins in the visible plane `p`.
+    /// Transform block `n`, where there is one that begins in the coded plane `p`.
     #[tactic(auto, unfolding(crate::specs::Geometry::transform_block, crate::specs::Geometry::has_block))]
     pub fn transform_block(&self, header: &Header, p: usize, n: usize) -> Option<TransformBlock>
         ensures { result ≡ transform_block header.now p self.now n }
