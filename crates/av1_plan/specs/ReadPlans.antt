@@ -142,7 +142,7 @@ pub record AreThree (carried : Bool) (lists : List (List Triple)) : Type 0 where
   pub v_silent : carried ≡ false → v ≡ []
 
 -- A leaf stands on its grid, and has what belongs to chroma exactly where it carries chroma. A side of it is more than
--- twice the other only in the second version, and then it ends in the frame.
+-- twice the other from the second version on alone, and then it ends in what is coded.
 pub record IsReadLeaf (h : Header) (l : LeafValue) : Type 0 where
   pub grid : IsOnGrid h l
   pub shape : h.version ≡ 1 → IsTwoToOne l
