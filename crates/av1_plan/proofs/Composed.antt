@@ -193,7 +193,7 @@ header_spelled h is =
     let g : Header = framed h.version h.shown_width h.shown_height h.depth h.sampling h.filter h.edge_filter h.slots h.mask in
     let same : g ≡ h = framed_is h is in
     let spelled =
-        frame_spelled h.version h.shown_width h.shown_height h.depth h.sampling h.filter h.edge_filter h.slots h.mask (subst IsReadFrame (sym same) is)
+    frame_spelled h.version h.shown_width h.shown_height h.depth h.sampling h.filter h.edge_filter h.slots h.mask (subst IsReadFrame (sym same) is)
     in
     bind_spelled version frame h.version h (version_spelled h.version is.least_version is.most_version)
     (subst (λ (k : Header). IsSpelled (frame h.version) k) same spelled)

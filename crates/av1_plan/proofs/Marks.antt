@@ -51,7 +51,7 @@ pub striped_is : (h : Header) (level x y : ℕ) → admits_stripes h level x y �
 unfolding admits_stripes
 striped_is h level x y e =
     let (front, below) =
-        and_parts (nat_le 2 h.version && nat_le 2 level && nat_le (x + 2 * half_side level) h.width) (nat_le (y + 2 * half_side level) h.height) e
+    and_parts (nat_le 2 h.version && nat_le 2 level && nat_le (x + 2 * half_side level) h.width) (nat_le (y + 2 * half_side level) h.height) e
     in
     let (first, right) = and_parts (nat_le 2 h.version && nat_le 2 level) (nat_le (x + 2 * half_side level) h.width) front in
     let (version, two) = and_parts (nat_le 2 h.version) (nat_le 2 level) first in

@@ -200,7 +200,7 @@ pub magic_is : (number : ℕ) → is_magic number ≡ true → (number ≡ from_
     (number ≡ from_le_bytes w32 (codes "RPL3"))
 magic_is number magic =
     elim (or_cases (number == from_le_bytes w32 (codes "RPL1") || number == from_le_bytes w32 (codes "RPL2"))
-          (number == from_le_bytes w32 (codes "RPL3")) magic) [
+    (number == from_le_bytes w32 (codes "RPL3")) magic) [
       | inl early ↦ (elim (or_cases (number == from_le_bytes w32 (codes "RPL1")) (number == from_le_bytes w32 (codes "RPL2")) early) [
         | inl f ↦ inl (eqb-true number (from_le_bytes w32 (codes "RPL1")) f)
         | inr f ↦ inr (inl (eqb-true number (from_le_bytes w32 (codes "RPL2")) f))

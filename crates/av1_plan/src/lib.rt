@@ -49,9 +49,9 @@ pub use error::{Invalid, InvalidKind, PlanError};
 pub use geometry::{PlaneArea, TransformBlock, carries_chroma, coded_side, plane_tx_size};
 pub use header::Header;
 pub use laws::{
-    earlier_versions_show_what_is_coded, fronts_have_these_lengths, pieces_are_a_plan, texts_are_of_one_plan,
-    the_first_version_has_the_rest, the_second_version_has_the_rest, the_second_version_keeps_the_first,
-    the_third_version_keeps_the_second,
+    earlier_versions_show_what_is_coded, fronts_have_these_lengths, pieces_are_a_plan,
+    texts_are_of_one_plan, the_first_version_has_the_rest, the_second_version_has_the_rest,
+    the_second_version_keeps_the_first, the_third_version_keeps_the_second,
 };
 pub use leaf::{ChromaMode, Leaf, LeafKind, Triple};
 pub use leaves::Leaves;
