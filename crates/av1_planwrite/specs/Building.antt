@@ -102,7 +102,7 @@ unfoldable pub admits_header : Header → Bool
 admits_header h =
     is_in_range 1 3 h.version && is_side h.version h.shown_width && is_side h.version h.shown_height
     && h.width == coded_side h.shown_width && h.height == coded_side h.shown_height && is_depth h.depth
-        && nat_le h.sampling 2
+    && nat_le h.sampling 2
     && nat_le (filter_number h.filter) 3
     && list_all (λ slot. nat_le slot 7) h.slots
 
