@@ -155,6 +155,9 @@ fn push_group(group: &[u8], bytes: &mut Vec<u8>) -> Result<(), OutOfMemory>
 {
     let bits = bits_of(group);
     bytes.push(bits)?;
+    if bits == 0 {
+        return Ok(());
+    }
     let word = joined(bits, group).to_le_bytes();
     bytes.extend_from_slice(&word[..usize::from(bits)])?;
     Ok(())
