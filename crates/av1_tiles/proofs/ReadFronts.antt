@@ -59,7 +59,7 @@ front_is f eight s =
     let bounds = front_bounds (front_value f) s in
     record {
       frame = is;
-      version = frame_version 2 f.header p.header.values p.header.spells;
+      version = frame_version 2 p.header.values f.header p.header.spells;
       eight = eight;
       slots = stored_are f.header f.references.items eight p.references;
       columns = bounds.columns;
