@@ -48,6 +48,15 @@ fn eight_of(row: [u8; 9]) -> [u8; 72] {
     plane
 }
 
+/// A plan whose leaf reads past the last column.
+fn moved_plan() -> [u8; LEN] {
+    let mut plan = [128; LEN];
+    plan[..20].copy_from_slice(&NINE);
+    plan[20..92].copy_from_slice(&eight_of([0, 10, 20, 30, 40, 50, 60, 70, 80]));
+    plan[236..].copy_from_slice(&MOVED);
+    plan
+}
+
 #[test]
 fn one_sample_is_shown_of_each_plane(rt: HostRuntime) -> Result<(), Fail> {
     let planes = planes_of(rt.alloc(), &ONE)?;
@@ -57,13 +66,9 @@ fn one_sample_is_shown_of_each_plane(rt: HostRuntime) -> Result<(), Fail> {
 
 #[test]
 fn motion_past_a_side_reads_the_last_sample_that_is_shown(rt: HostRuntime) -> Result<(), Fail> {
-    let mut plan = [128; LEN];
-    plan[..20].copy_from_slice(&NINE);
-    plan[20..92].copy_from_slice(&eight_of([0, 10, 20, 30, 40, 50, 60, 70, 80]));
-    plan[236..].copy_from_slice(&MOVED);
     let mut wanted = [128; PLANES];
     wanted[..72].copy_from_slice(&eight_of([40, 50, 60, 70, 80, 80, 80, 80, 80]));
-    let planes = planes_of(rt.alloc(), &plan)?;
+    let planes = planes_of(rt.alloc(), &moved_plan())?;
     assert_eq!(rt; planes.as_slice(), wanted.as_slice());
     Ok(())
 }
