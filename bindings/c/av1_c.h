@@ -826,9 +826,9 @@ static inline uint32_t av1_predict_in_tile_16(const av1_region_16 *tile, uint16_
 
 /* The frame that a plan is for, and what holds for all its leaves. */
 typedef struct {
-    uint16_t width;      /* columns of luma samples, a multiple of 8 from 8 to 2048 */
-    uint16_t height;     /* rows of luma samples, the same */
-    uint8_t version;     /* 1, or 2, in which a node may be cut into four leaves that are a quarter as wide or as high */
+    uint16_t width;      /* columns of luma samples that are shown, from 1 to 2048: up to version 2 a multiple of 8 */
+    uint16_t height;     /* rows of luma samples that are shown, the same */
+    uint8_t version;     /* 1, or 2, in which a node may be cut into four leaves that are a quarter as wide or as high, or 3: any sides besides */
     uint8_t depth;       /* bits of a sample: 8, 10 or 12 */
     uint8_t sampling;    /* 0 for 4:2:0, 1 for 4:2:2, 2 for 4:4:4 */
     uint8_t filter;      /* the interpolation filter: 0 to 3 */

@@ -7,11 +7,12 @@ use std::fmt;
 #[repr(C)]
 #[derive(Clone, Copy, Debug, Default, PartialEq, Eq)]
 pub struct Header {
-    /// Columns of luma samples, a multiple of 8 from 8 to 2048.
+    /// Columns of luma samples that are shown, from 1 to 2048: up to version 2 a multiple of 8.
     pub width: u16,
-    /// Rows of luma samples, a multiple of 8 from 8 to 2048.
+    /// Rows of luma samples that are shown, from 1 to 2048: up to version 2 a multiple of 8.
     pub height: u16,
-    /// 1, or 2, in which a node may be cut into four leaves that are a quarter as wide or as high.
+    /// 1, or 2, in which a node may be cut into four leaves that are a quarter as wide or as high, or 3, in which the
+    /// frame has any sides besides.
     pub version: u8,
     /// Bits of a sample: 8, 10 or 12.
     pub depth: u8,

@@ -7,13 +7,13 @@ use Rattle.std.proofs.lemmas.List.{length-take}
 use Rattle.std.proofs.Math.Nat.{mul_comm, mul-add}
 use Rattle.av1_lists.specs.Lists.{by_index}
 use Rattle.av1_lists.proofs.Lists.{length-by_index}
-use Rattle.av1_plan.specs.Geometry.{plane_height, plane_len, plane_width}
+use Rattle.av1_plan.specs.Geometry.{shown_rows, plane_len, shown_columns}
 use Rattle.av1_plan.specs.Plan.{PlanValue}
 use Rattle.av1_plan.specs.declared.header.Header.{Header}
 use Rattle.av1_tile.specs.Canvas.{Component, U, V, Y}
 use Rattle.av1_tile.specs.Edge.{sample_of}
 use Rattle.av1_tile.specs.Output.{by_rows, plane_bytes, planes_of, sample_bytes, visible}
-use Rattle.av1_tile.specs.PlaneBlocks.{extent_of}
+use Rattle.av1_tile.specs.PlaneBlocks.{shown_of}
 use Rattle.av1_tile.specs.Reference.{slow_walk}
 use Rattle.av1_trace.specs.Samples.{planes_len, sample_len, samples_before}
 
@@ -30,14 +30,14 @@ sample_is : (depth v : ℕ) → length (sample_bytes depth v) ≡ sample_len dep
 unfolding sample_len
 sample_is depth v = by_width (depth == 8) v
 
-plane_is : (h : Header) (p : ℕ) (f : ℕ → ℕ → ℕ) → length (plane_bytes (extent_of h p) f) ≡ sample_len h.depth * plane_len h p
+plane_is : (h : Header) (p : ℕ) (f : ℕ → ℕ → ℕ) → length (plane_bytes (shown_of h p) f) ≡ sample_len h.depth * plane_len h p
 plane_is h p f =
-    let width = plane_width h p in
-    let height = plane_height h p in
-    let rows : length (by_rows (extent_of h p) f) ≡ height * width =
+    let width = shown_columns h p in
+    let height = shown_rows h p in
+    let rows : length (by_rows (shown_of h p) f) ≡ height * width =
     all_of (λ y. by_index width (λ x. f x y)) width (λ y. length-by_index width (λ x. f x y)) (by_index height (λ y. y))
     ∙ ap (λ (n : ℕ). n * width) (length-by_index height (λ y. y)) in
-    all_of (sample_bytes h.depth) (sample_len h.depth) (sample_is h.depth) (by_rows (extent_of h p) f)
+    all_of (sample_bytes h.depth) (sample_len h.depth) (sample_is h.depth) (by_rows (shown_of h p) f)
     ∙ ap (λ (n : ℕ). n * sample_len h.depth) (rows ∙ mul_comm height width)
     ∙ mul_comm (width * height) (sample_len h.depth)
 
@@ -50,9 +50,9 @@ three s a b c =
 pub length-visible : (h : Header) (f : Component → ℕ → ℕ → ℕ) → length (visible h f) ≡ planes_len h
 unfolding visible planes_len samples_before
 length-visible h f =
-    let y = plane_bytes (extent_of h 0) (f Y) in
-    let u = plane_bytes (extent_of h 1) (f U) in
-    let v = plane_bytes (extent_of h 2) (f V) in
+    let y = plane_bytes (shown_of h 0) (f Y) in
+    let u = plane_bytes (shown_of h 1) (f U) in
+    let v = plane_bytes (shown_of h 2) (f V) in
     let parts : length (y ++ u ++ v) ≡ sample_len h.depth * plane_len h 0 + sample_len h.depth * plane_len h 1 + sample_len h.depth * plane_len h 2 =
     omega (arith, length-append (y ++ u) v, length-append y u, plane_is h 0 (f Y), plane_is h 1 (f U), plane_is h 2 (f V)) in
     parts ∙ three (sample_len h.depth) (plane_len h 0) (plane_len h 1) (plane_len h 2)

@@ -1,21 +1,21 @@
 //! The header of a plan, by numbers.
 
 ghost use Rattle.std.specs.Prelude.{◌≡◌};
-ghost use Rattle.av1_c.specs.Builders.{header_of};
+ghost use Rattle.av1_c.specs.Builders.{coded_of, header_of};
 
 use av1_calls::filter_mode;
-use av1_plan::Header;
+use av1_plan::{Header, coded_side};
 
 /// The frame that a plan is for, and what holds for all its leaves: the numbers of the fields that a plan begins with.
 #[repr(C)]
 #[derive(Clone, Copy)]
 pub struct PlanHeader {
-    /// Columns of luma samples, a multiple of 8 from 8 to 2048.
+    /// Columns of luma samples that are shown, from 1 to 2048: up to the second version a multiple of 8.
     pub width: u16,
-    /// Rows of luma samples, a multiple of 8 from 8 to 2048.
+    /// Rows of luma samples that are shown, from 1 to 2048: up to the second version a multiple of 8.
     pub height: u16,
     /// The version of the grammar: 1, or 2, in which a node may be cut into four leaves that are a quarter as wide or
-    /// as high.
+    /// as high, or 3, in which the frame has any sides besides.
     pub version: u8,
     /// Bits of a sample: 8, 10 or 12.
     pub depth: u8,
@@ -31,6 +31,17 @@ pub struct PlanHeader {
     pub slots: [u8; 7],
 }
 
+/// The side that is coded of one that is shown. One past the most that is admitted stays as it is.
+fn coded_of(shown: u16) -> u16
+    ensures { result ≡ coded_of shown }
+{
+    if shown <= 2048 {
+        coded_side(shown)
+    } else {
+        shown
+    }
+}
+
 impl PlanHeader {
     /// The header of these numbers.
     pub fn header(&self) -> Header
@@ -38,8 +49,10 @@ impl PlanHeader {
     {
         Header {
             version: self.version,
-            width: self.width,
-            height: self.height,
+            width: coded_of(self.width),
+            height: coded_of(self.height),
+            shown_width: self.width,
+            shown_height: self.height,
             depth: self.depth,
             sampling: self.sampling,
             filter: filter_mode(self.filter),

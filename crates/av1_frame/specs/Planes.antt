@@ -64,6 +64,10 @@ InPlane a p = AreaFits (stored_area p.plane_cfg a) p.plane_cfg (length p.samples
 abbrev pub painted_plane : {T : Type 0} → Plane T → VisibleArea → (ℕ → ℕ → T → T) → Plane T
 painted_plane p a f = record p { samples = paint p.plane_cfg.stride (stored_area p.plane_cfg a) f p.samples }
 
+-- p with so many visible columns and rows
+abbrev pub with_sides : {T : Type 0} → (width height : ℕ) → Plane T → Plane T
+with_sides width height p = record p { plane_cfg = record p.plane_cfg { width = width; height = height } }
+
 -- the nearest of the `count` numbers from `first` on
 abbrev pub nearest : ℕ → ℕ → ℕ → ℕ
 nearest first count i = max first (min i (first + count - 1))

@@ -4,7 +4,7 @@ ghost use Rattle.std.specs.Prelude.{◌≡◌, ◌+◌, ◌-◌, ◌*◌, ◌/�
 ghost use Rattle.std.specs.Borrow.{sem};
 ghost use Rattle.av1_frame.specs.Samples.{part, with_part};
 ghost use Rattle.av1_frame.specs.Areas.{area_from, from_origin, stored_area, all_visible, IsStored};
-ghost use Rattle.av1_frame.specs.Planes.{place_at, InPlane, LendsPlanePart, IsWhole, new_config, bare_config, plain_config};
+ghost use Rattle.av1_frame.specs.Planes.{place_at, InPlane, LendsPlanePart, IsWhole, with_sides, new_config, bare_config, plain_config};
 ghost use Rattle.av1_frame.specs.Regions.{InStorage, IsReadable};
 
 use crate::pixel::Pixel;
@@ -168,6 +168,15 @@ impl<T: Pixel> Plane<T> {
         ensures { result ≡ self.now.plane_cfg }
     {
         self.plane_cfg
+    }
+
+    /// Makes so many columns and rows visible, from the first visible sample on. The samples stay.
+    pub fn set_sides(&mut self, width: usize, height: usize)
+        requires { IsWhole (with_sides width height self.old) }
+        ensures { self.new ≡ with_sides width height self.old }
+    {
+        self.plane_cfg.width = width;
+        self.plane_cfg.height = height;
     }
 
     /// All that is stored.

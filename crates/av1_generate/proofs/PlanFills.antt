@@ -34,15 +34,15 @@ slots_fill =
     (asked {n = 5} k _ 0 zero_is (asked {n = 4} k _ 0 zero_is (asked {n = 3} k _ 0 zero_is (asked {n = 2} k _ 0 zero_is (asked {n = 1} k _ 0 zero_is
     (asked {n = 0} k _ 0 zero_is (fills_done zeros refl)))))))
 
-side_is : IsAdmitted (where_ two is_side) 512
+side_is : IsAdmitted (where_ two (is_side 1)) 512
 side_is = record { fits = lit< tt; admitted = refl }
 
 header_fills : (number : ℕ) → Fills (header number) grammar.header 20 (λ h. h ≡ frame number)
 unfolding header grammar.header grammar.version grammar.frame frame
 header_fills number =
     asked {n = 16} (where_ four is_magic) _ (from_le_bytes w32 (codes "RPL1")) (record { fits = lit< tt; admitted = refl })
-    (asked {n = 14} (where_ two is_side) _ 512 side_is
-    (asked {n = 12} (where_ two is_side) _ 512 side_is
+    (asked {n = 14} (where_ two (is_side 1)) _ 512 side_is
+    (asked {n = 12} (where_ two (is_side 1)) _ 512 side_is
     (asked {n = 11} (where_ one is_depth) _ 10 (record { fits = lit< tt; admitted = refl })
     (asked {n = 10} (byte_from 0 2) _ 0 (byte_is 0 2 0 (lit< tt) (lit≤ tt) (lit≤ tt))
     (asked {n = 9} (byte_from 0 3) _ (number % 4) (byte_is 0 3 (number % 4) (lit< tt) (omega arith) (omega arith))

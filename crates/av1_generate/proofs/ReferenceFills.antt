@@ -2,7 +2,7 @@
 use Rattle.std.proofs.Common.{◌≡◌, ℕ, zero, suc, ◌+◌, ◌*◌, List, [], ◌∷◌, ◌++◌, Option, Some, None, refl, arith, zero-add, zero-mul, ◌%◌}
 use Rattle.std.proofs.lemmas.Bool.{lt-ltb}
 use Rattle.av1_plan.specs.Format.{two, Format, done, ◌>>=◌, field, lone, ◌++>◌, in_turn}
-use Rattle.av1_plan.specs.Geometry.{xdec, ydec, plane_width, plane_height, has_slot}
+use Rattle.av1_plan.specs.Geometry.{xdec, ydec, shown_columns, shown_rows, has_slot}
 use Rattle.av1_plan.specs.Grammar as grammar
 use Rattle.av1_generate.specs.Draft.{Draft, nothing, writes, ◌>>◌, each}
 use Rattle.av1_generate.specs.Generator.{frame, sample, row, plane, reference}
@@ -51,15 +51,15 @@ rows_fill number p columns y (suc rows) i =
     (λ j. rows_fill number p columns (y + 1) rows j) i))
 
 plane_0 : (number : ℕ) → Fills (plane (frame number) number 0) (grammar.plane 10 (512 * 512)) (512 * (2 * 512)) Any
-unfolding plane row grammar.plane plane_width plane_height xdec ydec frame
+unfolding plane row grammar.plane shown_columns shown_rows xdec ydec frame
 plane_0 number = rows_fill number 0 512 0 512 0
 
 plane_1 : (number : ℕ) → Fills (plane (frame number) number 1) (grammar.plane 10 (256 * 256)) (256 * (2 * 256)) Any
-unfolding plane row grammar.plane plane_width plane_height xdec ydec frame
+unfolding plane row grammar.plane shown_columns shown_rows xdec ydec frame
 plane_1 number = rows_fill number 1 256 0 256 0
 
 plane_2 : (number : ℕ) → Fills (plane (frame number) number 2) (grammar.plane 10 (256 * 256)) (256 * (2 * 256)) Any
-unfolding plane row grammar.plane plane_width plane_height xdec ydec frame
+unfolding plane row grammar.plane shown_columns shown_rows xdec ydec frame
 plane_2 number = rows_fill number 2 256 0 256 0
 
 -- whatever planes they are
@@ -67,7 +67,7 @@ abbrev AnyPlanes : List (List ℕ) → Type 0
 AnyPlanes planes = Unit {0}
 
 reference_fills : (number : ℕ) → Fills (reference (frame number) number) (grammar.reference (frame number)) 786432 AnyPlanes
-unfolding reference grammar.reference plane_width plane_height xdec ydec frame
+unfolding reference grammar.reference shown_columns shown_rows xdec ydec frame
 reference_fills number =
     follows (λ y. grammar.plane 10 (256 * 256) >>= λ u. grammar.plane 10 (256 * 256) >>= λ v. done (y ∷ u ∷ v ∷ [])) (plane_0 number) (λ y p.
     follows (λ u. grammar.plane 10 (256 * 256) >>= λ v. done (y ∷ u ∷ v ∷ [])) (plane_1 number) (λ u q.

@@ -14,7 +14,7 @@ use Rattle.av1_blocks.specs.Chroma.{largest_chroma_tx_size}
 use Rattle.av1_blocks.specs.Transforms.{tx_number, tx_sqr_up, block_tx_size}
 use Rattle.av1_plan.specs.declared.header.Header.{Header}
 use Rattle.av1_plan.specs.Format.{Length, one, two, four, limit}
-use Rattle.av1_plan.specs.Geometry.{carries_chroma, plane_width, plane_height}
+use Rattle.av1_plan.specs.Geometry.{carries_chroma, shown_columns, shown_rows}
 use Rattle.av1_plan.specs.Grammar.{half_side, whole_size, part_size}
 use Rattle.av1_plan.specs.Validity.{is_inter_size}
 use Rattle.av1_generate.specs.Draft.{Draft, writes, draws, ◌>>◌, only_if, each, written}
@@ -34,6 +34,8 @@ frame number = record {
   version = 1;
   width = 512;
   height = 512;
+  shown_width = 512;
+  shown_height = 512;
   depth = 10;
   sampling = 0;
   filter = slice_index_or filter_modes.ALL (number % 4) REGULAR;
@@ -58,11 +60,11 @@ sample number p x y = (7 * x + 13 * y + 101 * p + number % 1024) % 1024
 
 -- row y of plane p of slot 0
 unfoldable pub row : Header → ℕ → ℕ → ℕ → Draft
-row h number p y = each (λ x. writes two (sample number p x y)) 0 (plane_width h p)
+row h number p y = each (λ x. writes two (sample number p x y)) 0 (shown_columns h p)
 
 -- plane p of slot 0, row by row
 unfoldable pub plane : Header → ℕ → ℕ → Draft
-plane h number p = each (row h number p) 0 (plane_height h p)
+plane h number p = each (row h number p) 0 (shown_rows h p)
 
 -- the planes of slot 0
 unfoldable pub reference : Header → ℕ → Draft

@@ -19,6 +19,8 @@ fn frame(number: u32) -> Header
         version: 1,
         width: 512,
         height: 512,
+        shown_width: 512,
+        shown_height: 512,
         depth: 10,
         sampling: 0,
         filter: FilterMode::ALL[(number % 4) as usize],
@@ -75,11 +77,11 @@ impl Maker {
     #[tactic(auto, using(crate::proofs::Turns::turns), unfolding(crate::specs::Generator::row))]
     fn row(&mut self, frame: &Header, number: u32, p: usize, y: u32) -> Result<(), OutOfMemory>
         requires plane { p ≤ 2 }
-        requires width { frame.now.width ≤ 2048 }
+        requires width { frame.now.shown_width ≤ 2048 }
         requires row { y ≤ 2048 }
         ensures { OnOk result (work self.new ≡ run (row frame.now number p y) (work self.old)) }
     {
-        for x in 0..frame.plane_width(p) as u32 {
+        for x in 0..frame.shown_columns(p) as u32 {
             self.u16_field(sample(number, p as u32, x, y))?;
         }
         Ok(())
@@ -89,11 +91,11 @@ impl Maker {
     #[tactic(auto, using(crate::proofs::Turns::turns), unfolding(crate::specs::Generator::plane))]
     fn plane(&mut self, frame: &Header, number: u32, p: usize) -> Result<(), OutOfMemory>
         requires plane { p ≤ 2 }
-        requires width { frame.now.width ≤ 2048 }
-        requires height { frame.now.height ≤ 2048 }
+        requires width { frame.now.shown_width ≤ 2048 }
+        requires height { frame.now.shown_height ≤ 2048 }
         ensures { OnOk result (work self.new ≡ run (plane frame.now number p) (work self.old)) }
     {
-        for y in 0..frame.plane_height(p) as u32 {
+        for y in 0..frame.shown_rows(p) as u32 {
             self.row(frame, number, p, y)?;
         }
         Ok(())
@@ -102,8 +104,8 @@ impl Maker {
     /// Writes the planes of slot 0.
     #[tactic(auto, unfolding(crate::specs::Generator::reference))]
     fn reference(&mut self, frame: &Header, number: u32) -> Result<(), OutOfMemory>
-        requires width { frame.now.width ≤ 2048 }
-        requires height { frame.now.height ≤ 2048 }
+        requires width { frame.now.shown_width ≤ 2048 }
+        requires height { frame.now.shown_height ≤ 2048 }
         ensures { OnOk result (work self.new ≡ run (reference frame.now number) (work self.old)) }
     {
         self.plane(frame, number, 0)?;

@@ -1,8 +1,8 @@
 -- A plan composed of pieces is spelled: a frame in its ranges, slots with planes of the frame's depth, and leaves that are spelled.
-use Rattle.std.proofs.Common.{◌≡◌, ℕ, zero, suc, ◌+◌, ◌<◌, ◌≤◌, ◌^◌, ◌⊎◌, inl, inr, Bool, true, false, List, [], ◌∷◌, ◌++◌, length, get_or, All, Option, Some}
-use Rattle.std.proofs.Common.{None, refl, sym, ap, subst, ◌∙◌, append_assoc, arith, slice_index_or, lit<}
+use Rattle.std.proofs.Common.{◌≡◌, ℕ, zero, suc, ◌+◌, ◌%◌, ◌<◌, ◌≤◌, ◌^◌, ◌⊎◌, inl, inr, Bool, true, false, ◌||◌, List, [], ◌∷◌, ◌++◌, length, get_or, All}
+use Rattle.std.proofs.Common.{Option, Some, None, refl, sym, ap, subst, ◌∙◌, append_assoc, arith, slice_index_or, lit<}
 use Rattle.std.specs.Prelude.{◌==◌, is_some, if◌then◌else◌}
-use Rattle.std.proofs.lemmas.Bool.{cases_lt, lt-ltb, le-leb}
+use Rattle.std.proofs.lemmas.Bool.{cases_lt, lt-ltb, le-leb, or_left, or_right}
 use Rattle.std.proofs.lemmas.List.{get_or-map, get_or_default, get_or_past, length-map}
 use Rattle.av1_blocks.specs.declared.mc.FilterMode.{FilterMode}
 use Rattle.av1_blocks.specs.declared.mc.FilterMode.TheVariants.{REGULAR}
@@ -10,17 +10,17 @@ use Rattle.av1_blocks.specs.Filters.{filter_number}
 use Rattle.av1_plan.specs.declared.header.Header.{Header}
 use Rattle.av1_plan.specs.declared.planes.SlotPlanes.{SlotPlanes}
 use Rattle.av1_plan.specs.Format.{one, two, any, Kind, Format, done, asks, ◌>>=◌, IsAdmitted, field, lone, ◌++>◌, in_turn}
-use Rattle.av1_plan.specs.Geometry.{plane_len, has_slot}
+use Rattle.av1_plan.specs.Geometry.{coded_side, plane_len, has_slot}
 use Rattle.av1_plan.specs.Grammar.{where_, byte_from, is_side, is_depth, version, slots, frame, header, sample, plane, reference, slot_planes, references, plan}
 use Rattle.av1_plan.specs.Grammar.{plan_behind, superblocks}
 use Rattle.av1_plan.specs.Plan.{PlanValue, slot_value, slot_values, ArePresent}
-use Rattle.av1_plan.specs.ReadPlans.{IsSide, IsReadFrame, ArePlane, IsStoredSlot, AreStoredSlots}
+use Rattle.av1_plan.specs.ReadPlans.{IsSide, IsShown, IsReadFrame, ArePlane, IsStoredSlot, AreStoredSlots}
 use Rattle.av1_plan.specs.Pieces.{PiecesArePlan}
 use Rattle.av1_plan.specs.Spelling.{IsSpelled, text}
 use Rattle.av1_plan.proofs.Carried.{joined}
 use Rattle.av1_plan.proofs.Numbers.{filter_of}
 use Rattle.av1_plan.proofs.ReadPlans.{depth_holds}
-use Rattle.av1_plan.proofs.Versions.{first_letters, second_letters}
+use Rattle.av1_plan.proofs.Versions.{first_letters, second_letters, third_letters}
 
 -- ---- formats
 
@@ -55,8 +55,24 @@ turns_spelled f i (x ∷ xs) each =
 filter_back : (f : FilterMode) → filter_of (filter_number f) ≡ f
 filter_back f = elim f as (λ g. filter_of (filter_number g) ≡ g) [ REGULAR ↦ refl | _ ↦ refl ]
 
-side_admitted : (n : ℕ) → IsSide n → IsAdmitted (where_ two is_side) n
-side_admitted n s = record { fits = omega (arith, s.most); admitted = rw (s.whole, le-leb 8 n s.least, le-leb n 2048 s.most) refl }
+-- a side that is shown of one that is coded is admitted
+shaped : (version shown coded : ℕ) → version ≤ 3 → IsSide coded → IsShown version shown coded → (version == 3 || shown % 8 == 0) ≡ true
+shaped version shown coded most side is = elim (cases_lt version 3) [
+  | inl lt ↦
+      let whole : shown % 8 ≡ 0 = omega (arith, is.whole (omega (arith, lt)), side.whole) in
+      or_right (version == 3) (shown % 8 == 0) (rw whole refl)
+  | inr le ↦
+      let third : version ≡ 3 = omega (arith, most, le) in
+      or_left (version == 3) (shown % 8 == 0) (rw third refl)
+]
+
+side_admitted : (version shown coded : ℕ) → version ≤ 3 → IsSide coded → IsShown version shown coded → IsAdmitted (where_ two (is_side version)) shown
+side_admitted version shown coded most side is =
+    let few : shown ≤ 2048 = omega (arith, is.within, side.most) in
+    record {
+      fits = omega (arith, few);
+      admitted = rw (shaped version shown coded most side is, le-leb 1 shown is.some, le-leb shown 2048 few) refl;
+    }
 
 pub byte_admitted : (first last v : ℕ) → last < 256 → first ≤ v → v ≤ last → IsAdmitted (byte_from first last) v
 byte_admitted first last v small least most = record { fits = omega (arith, small, most); admitted = rw (le-leb first v least, le-leb v last most) refl }
@@ -109,66 +125,56 @@ choice_small : (b : Bool) → choice b ≤ 1
 choice_small true = omega arith
 choice_small false = omega arith
 
-abbrev Same : Header → Header → Type 0
-Same g h = g ≡ h
+choice_back : (b : Bool) → (choice b == 1) ≡ b
+choice_back true = refl
+choice_back false = refl
 
-version_spelled : (n : ℕ) → 1 ≤ n → n ≤ 2 → IsSpelled version n
+-- a side that is coded is that of the one that is shown
+coded_back : (n shown coded : ℕ) → IsSide coded → IsShown n shown coded → coded_side shown ≡ coded
+coded_back n shown coded side is = omega (arith, side.whole, is.within, is.near)
+
+-- the frame that shows these sides
+abbrev framed : (version shown_width shown_height depth sampling : ℕ) → FilterMode → Bool → List ℕ → (mask : ℕ) → Header
+framed version shown_width shown_height depth sampling filter edge_filter xs mask = record {
+  version = version;
+  width = coded_side shown_width;
+  height = coded_side shown_height;
+  shown_width = shown_width;
+  shown_height = shown_height;
+  depth = depth;
+  sampling = sampling;
+  filter = filter;
+  edge_filter = edge_filter;
+  slots = xs;
+  mask = mask;
+}
+
+framed_is : (h : Header) → IsReadFrame h →
+    framed h.version h.shown_width h.shown_height h.depth h.sampling h.filter h.edge_filter h.slots h.mask ≡ h
+framed_is h is =
+    ap (λ (w : ℕ). let g : Header = record h { width = w; height = coded_side h.shown_height } in g)
+    (coded_back h.version h.shown_width h.width is.width is.shown_width)
+    ∙ ap (λ (w : ℕ). let g : Header = record h { height = w } in g) (coded_back h.version h.shown_height h.height is.height is.shown_height)
+
+version_spelled : (n : ℕ) → 1 ≤ n → n ≤ 3 → IsSpelled version n
 version_spelled zero least most = absurd (omega (arith, least))
 version_spelled (suc zero) least most = record { values = first_letters.field ∷ []; spells = first_letters.spells }
 version_spelled (suc (suc zero)) least most = record { values = second_letters.field ∷ []; spells = second_letters.spells }
-version_spelled (suc (suc (suc n))) least most = absurd (omega (arith, most))
+version_spelled (suc (suc (suc zero))) least most = record { values = third_letters.field ∷ []; spells = third_letters.spells }
+version_spelled (suc (suc (suc (suc n)))) least most = absurd (omega (arith, most))
 
-frame_spelled : (version width height depth sampling : ℕ) (filter : FilterMode) (edge_filter : Bool) (xs : List ℕ) (mask : ℕ)
-    → IsReadFrame (record {
-      version = version;
-      width = width;
-      height = height;
-      depth = depth;
-      sampling = sampling;
-      filter = filter;
-      edge_filter = edge_filter;
-      slots = xs;
-      mask = mask;
-    })
-    → IsSpelled (frame version)
-    (record {
-      version = version;
-      width = width;
-      height = height;
-      depth = depth;
-      sampling = sampling;
-      filter = filter;
-      edge_filter = edge_filter;
-      slots = xs;
-      mask = mask;
-    })
+frame_spelled : (version shown_width shown_height depth sampling : ℕ) (filter : FilterMode) (edge_filter : Bool) (xs : List ℕ) (mask : ℕ)
+    → IsReadFrame (framed version shown_width shown_height depth sampling filter edge_filter xs mask)
+    → IsSpelled (frame version) (framed version shown_width shown_height depth sampling filter edge_filter xs mask)
 unfolding frame
-frame_spelled version width height depth sampling filter edge_filter xs mask is =
-    let h : Header = record {
-      version = version;
-      width = width;
-      height = height;
-      depth = depth;
-      sampling = sampling;
-      filter = filter;
-      edge_filter = edge_filter;
-      slots = xs;
-      mask = mask;
-    } in
+frame_spelled version shown_width shown_height depth sampling filter edge_filter xs mask is =
+    let h : Header = framed version shown_width shown_height depth sampling filter edge_filter xs mask in
     let number = filter_number filter in
-    let end : IsSpelled
-    (done (record {
-      version = version;
-      width = width;
-      height = height;
-      depth = depth;
-      sampling = sampling;
-      filter = filter_of number;
-      edge_filter = choice edge_filter == 1;
-      slots = xs;
-      mask = mask;
-    })) h =
-    subst (λ (g : Header). IsSpelled (done g) h) (made filter edge_filter) (done_spelled h) in
+    let end : IsSpelled (done (framed version shown_width shown_height depth sampling (filter_of number) (choice edge_filter == 1) xs mask)) h =
+    subst (λ (g : Header). IsSpelled (done g) h)
+    (ap (λ (f : FilterMode). framed version shown_width shown_height depth sampling f edge_filter xs mask) (sym (filter_back filter))
+    ∙ ap (λ (b : Bool). framed version shown_width shown_height depth sampling (filter_of number) b xs mask) (sym (choice_back edge_filter)))
+    (done_spelled h) in
     let s9 = asks_spelled (any one) _ mask h (record { fits = is.mask; admitted = refl }) end in
     let s8 = bind_spelled slots _ xs h (seven_spelled xs is.slots.count is.slots.range) s9 in
     let s7 = asks_spelled (byte_from 0 1) _ (choice edge_filter) h (byte_admitted 0 1 (choice edge_filter) (lit< tt) (zero_le _) (choice_small edge_filter)) s8
@@ -176,62 +182,21 @@ frame_spelled version width height depth sampling filter edge_filter xs mask is 
     let s6 = asks_spelled (byte_from 0 3) _ number h (byte_admitted 0 3 number (lit< tt) (zero_le number) (below_four number is.filter)) s7 in
     let s5 = asks_spelled (byte_from 0 2) _ sampling h (byte_admitted 0 2 sampling (lit< tt) (zero_le _) is.sampling) s6 in
     let s4 = asks_spelled (where_ one is_depth) _ depth h (depth_admitted depth is.depth) s5 in
-    let s3 = asks_spelled (where_ two is_side) _ height h (side_admitted height is.height) s4 in
-    asks_spelled (where_ two is_side) _ width h (side_admitted width is.width) s3
-  where
-    made : (f : FilterMode) (b : Bool)
-        → Same (record {
-          version = version;
-          width = width;
-          height = height;
-          depth = depth;
-          sampling = sampling;
-          filter = f;
-          edge_filter = b;
-          slots = xs;
-          mask = mask;
-        })
-        (record {
-          version = version;
-          width = width;
-          height = height;
-          depth = depth;
-          sampling = sampling;
-          filter = filter_of (filter_number f);
-          edge_filter = choice b == 1;
-          slots = xs;
-          mask = mask;
-        })
-    made f true =
-        ap (λ (g : FilterMode). let h : Header = record {
-          version = version;
-          width = width;
-          height = height;
-          depth = depth;
-          sampling = sampling;
-          filter = g;
-          edge_filter = true;
-          slots = xs;
-          mask = mask;
-        } in h) (sym (filter_back f))
-    made f false =
-        ap (λ (g : FilterMode). let h : Header = record {
-          version = version;
-          width = width;
-          height = height;
-          depth = depth;
-          sampling = sampling;
-          filter = g;
-          edge_filter = false;
-          slots = xs;
-          mask = mask;
-        } in h) (sym (filter_back f))
+    let s3 = asks_spelled (where_ two (is_side version)) _ shown_height h
+    (side_admitted version shown_height (coded_side shown_height) is.most_version is.height is.shown_height) s4 in
+    asks_spelled (where_ two (is_side version)) _ shown_width h
+    (side_admitted version shown_width (coded_side shown_width) is.most_version is.width is.shown_width) s3
 
 pub header_spelled : (h : Header) → IsReadFrame h → IsSpelled header h
 unfolding header
 header_spelled h is =
+    let g : Header = framed h.version h.shown_width h.shown_height h.depth h.sampling h.filter h.edge_filter h.slots h.mask in
+    let same : g ≡ h = framed_is h is in
+    let spelled =
+    frame_spelled h.version h.shown_width h.shown_height h.depth h.sampling h.filter h.edge_filter h.slots h.mask (subst IsReadFrame (sym same) is)
+    in
     bind_spelled version frame h.version h (version_spelled h.version is.least_version is.most_version)
-    (frame_spelled h.version h.width h.height h.depth h.sampling h.filter h.edge_filter h.slots h.mask is)
+    (subst (λ (k : Header). IsSpelled (frame h.version) k) same spelled)
 
 -- ---- reference samples
 

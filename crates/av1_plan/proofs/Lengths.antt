@@ -65,8 +65,8 @@ header_length : HasLength header 20
 unfolding header version frame slots
 header_length =
     asks_length (where_ four is_magic) _ 16 (λ letters.
-    asks_length (where_ two is_side) _ 14 (λ width.
-    asks_length (where_ two is_side) _ 12 (λ height.
+    asks_length (where_ two (is_side _)) _ 14 (λ width.
+    asks_length (where_ two (is_side _)) _ 12 (λ height.
     asks_length (where_ one is_depth) _ 11 (λ depth.
     asks_length (byte_from 0 2) _ 10 (λ sampling.
     asks_length (byte_from 0 3) _ 9 (λ filter.

@@ -28,3 +28,4 @@ pub mod Behind
 pub mod Continued
 pub mod Lengths
 pub mod Widened
+pub mod Shown

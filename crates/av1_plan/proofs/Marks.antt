@@ -1,7 +1,7 @@
 -- Which marks cut a node into four leaves one of whose sides is a quarter of its own, and where.
 use Rattle.std.proofs.Common.{◌≡◌, ℕ, zero, suc, ◌+◌, ◌*◌, ◌^◌, ◌≤◌, Bool, true, false, subst, ◌&&◌, arith}
-use Rattle.std.specs.Prelude.{◌==◌, nat_le}
-use Rattle.std.proofs.lemmas.Bool.{and_parts, eqb-true, leb-true}
+use Rattle.std.specs.Prelude.{nat_le}
+use Rattle.std.proofs.lemmas.Bool.{and_parts, leb-true}
 use Rattle.std.proofs.Math.Nat.{pow-succ'}
 use Rattle.av1_blocks.specs.declared.partition.PartitionType.{PartitionType}
 use Rattle.av1_blocks.specs.declared.partition.PartitionType.TheVariants.{PARTITION_HORZ_4, PARTITION_VERT_4}
@@ -40,9 +40,9 @@ spelled_mark h level x y cut s =
     let (number, is, t) = spelled_asks _ _ cut s in
     subst (IsCut h level x y) (spelled_done _ cut t) (cut_is h level x y number is.admitted)
 
--- where a node is cut so: in the second version, from level 2 on, and in the frame whole
+-- where a node is cut so: from the second version on, from level 2 on, and in what is coded whole
 pub record IsStriped (h : Header) (level x y : ℕ) : Type 0 where
-  pub version : h.version ≡ 2
+  pub version : 2 ≤ h.version
   pub level_2 : 2 ≤ level
   pub right : x + 2 * half_side level ≤ h.width
   pub below : y + 2 * half_side level ≤ h.height
@@ -50,11 +50,12 @@ pub record IsStriped (h : Header) (level x y : ℕ) : Type 0 where
 pub striped_is : (h : Header) (level x y : ℕ) → admits_stripes h level x y ≡ true → IsStriped h level x y
 unfolding admits_stripes
 striped_is h level x y e =
-    let (front, below) = and_parts (h.version == 2 && nat_le 2 level && nat_le (x + 2 * half_side level) h.width) (nat_le (y + 2 * half_side level) h.height) e
+    let (front, below) =
+    and_parts (nat_le 2 h.version && nat_le 2 level && nat_le (x + 2 * half_side level) h.width) (nat_le (y + 2 * half_side level) h.height) e
     in
-    let (first, right) = and_parts (h.version == 2 && nat_le 2 level) (nat_le (x + 2 * half_side level) h.width) front in
-    let (version, two) = and_parts (h.version == 2) (nat_le 2 level) first in
-    record { version = eqb-true h.version 2 version; level_2 = leb-true 2 level two; right = leb-true _ _ right; below = leb-true _ _ below }
+    let (first, right) = and_parts (nat_le 2 h.version && nat_le 2 level) (nat_le (x + 2 * half_side level) h.width) front in
+    let (version, two) = and_parts (nat_le 2 h.version) (nat_le 2 level) first in
+    record { version = leb-true 2 h.version version; level_2 = leb-true 2 level two; right = leb-true _ _ right; below = leb-true _ _ below }
 
 -- the places behind one quarter of a node, two and three
 pub behind_quarter : (k c : ℕ) → 4 * c + quarter_side (suc (suc k)) ≡ 4 * (c + 2 ^ k)

@@ -104,9 +104,9 @@ pub record AreNear (columns rows : ℕ) : Type 0 where
   pub not_wide : columns ≤ 2 * rows
   pub not_high : rows ≤ 2 * columns
 
--- in the second version a part of so many columns and rows of cells that ends in the frame
+-- from the second version on a part of so many columns and rows of cells that ends in the frame
 pub record IsStripe (h : Header) (columns rows x y : ℕ) : Type 0 where
-  pub version : h.version ≡ 2
+  pub version : 2 ≤ h.version
   pub right : 4 * x + 4 * columns ≤ h.width
   pub below : 4 * y + 4 * rows ≤ h.height
 

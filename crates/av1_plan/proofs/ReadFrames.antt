@@ -1,23 +1,43 @@
 -- The frame of a plan that is spelled, and the pieces of which such a plan consists.
-use Rattle.std.proofs.Common.{◌≡◌, ℕ, ◌%◌, ◌<◌, ◌≤◌, ◌⊎◌, inl, inr, Bool, true, false, ◌||◌, List, [], ◌∷◌, subst, refl, arith, lit≤}
+use Rattle.std.proofs.Common.{◌≡◌, ℕ, ◌%◌, ◌<◌, ◌≤◌, ◌⊎◌, inl, inr, Bool, true, false, ◌||◌, List, [], ◌∷◌, subst, refl, sym, arith, lit≤}
 use Rattle.std.specs.Prelude.{codes, ◌==◌, nat_le, if◌then◌else◌}
 use Rattle.std.specs.Int.{w32, from_le_bytes, is_in_range}
 use Rattle.std.proofs.lemmas.Bool.{eqb-true, leb-true, and_parts, or_cases}
 use Rattle.std.proofs.lemmas.List.Elements.{All-nil, All-cons}
 use Rattle.av1_plan.specs.declared.header.Header.{Header}
 use Rattle.av1_plan.specs.Format.{IsAdmitted}
+use Rattle.av1_plan.specs.Geometry.{coded_side}
 use Rattle.av1_plan.specs.Grammar.{byte_from, version_of, version, is_side, is_depth, slots, frame, header, references, superblocks, plan, plan_behind}
 use Rattle.av1_plan.specs.Plan.{PlanValue}
-use Rattle.av1_plan.specs.ReadPlans.{IsSide, AreSlots, IsReadFrame}
+use Rattle.av1_plan.specs.ReadPlans.{IsSide, IsShown, AreSlots, IsReadFrame}
 use Rattle.av1_plan.specs.Spelling.{IsSpelled}
 use Rattle.av1_plan.proofs.Numbers.{filter_number_is}
 use Rattle.av1_plan.proofs.Pieces.{spelled_done, spelled_asks, spelled_bind}
 
-pub side_is : (n : ℕ) → is_side n ≡ true → IsSide n
-side_is n e =
-    let (whole, range) = and_parts (n % 8 == 0) (is_in_range 8 2048 n) e in
-    let (least, most) = and_parts (nat_le 8 n) (nat_le n 2048) range in
-    record { whole = eqb-true (n % 8) 0 whole; least = leb-true 8 n least; most = leb-true n 2048 most }
+-- what is coded where a side is shown
+pub coded_is : (version n : ℕ) → is_side version n ≡ true → IsSide (coded_side n)
+coded_is version n e =
+    let (_, range) = and_parts (version == 3 || n % 8 == 0) (is_in_range 1 2048 n) e in
+    let (least, most) = and_parts (nat_le 1 n) (nat_le n 2048) range in
+    record { whole = omega arith; least = omega (arith, leb-true 1 n least); most = omega (arith, leb-true n 2048 most) }
+
+pub shown_is : (version n : ℕ) → is_side version n ≡ true → IsShown version n (coded_side n)
+shown_is version n e =
+    let (shape, range) = and_parts (version == 3 || n % 8 == 0) (is_in_range 1 2048 n) e in
+    let (least, _) = and_parts (nat_le 1 n) (nat_le n 2048) range in
+    record {
+      some = leb-true 1 n least;
+      within = omega arith;
+      near = omega arith;
+      whole = λ le. elim (or_cases (version == 3) (n % 8 == 0) shape) [
+        | inl third ↦ absurd (omega (arith, le, eqb-true version 3 third))
+        | inr whole ↦ omega (arith, eqb-true (n % 8) 0 whole)
+      ];
+    }
+
+-- a side of the first two versions is shown as it is coded
+pub side_is : (version n : ℕ) → version ≤ 2 → is_side version n ≡ true → IsSide n
+side_is version n early e = subst IsSide (sym ((shown_is version n e).whole early)) (coded_is version n e)
 
 pub depth_is : (n : ℕ) → is_depth n ≡ true → (n ≡ 8) ⊎ (n ≡ 10) ⊎ (n ≡ 12)
 depth_is n e = elim (or_cases (n == 8 || n == 10) (n == 12) e) [
@@ -55,20 +75,21 @@ slots_are xs s =
     subst AreSlots (spelled_done _ xs s7)
     (seven_slots a b c d e f g (slot_is a a_in) (slot_is b b_in) (slot_is c c_in) (slot_is d d_in) (slot_is e e_in) (slot_is f f_in) (slot_is g g_in))
 
-named_version : (letters : ℕ) → (1 ≤ version_of letters) × (version_of letters ≤ 2)
-named_version letters = one_or_two (letters == from_le_bytes w32 (codes "RPL2"))
+named_version : (letters : ℕ) → (1 ≤ version_of letters) × (version_of letters ≤ 3)
+named_version letters = one_of_three (letters == from_le_bytes w32 (codes "RPL3")) (letters == from_le_bytes w32 (codes "RPL2"))
   where
-    one_or_two : (b : Bool) → (1 ≤ (if b then 2 else 1)) × ((if b then 2 else 1) ≤ 2)
-    one_or_two true = (lit≤ tt, lit≤ tt)
-    one_or_two false = (lit≤ tt, lit≤ tt)
+    one_of_three : (b c : Bool) → (1 ≤ (if b then 3 else if c then 2 else 1)) × ((if b then 3 else if c then 2 else 1) ≤ 3)
+    one_of_three true c = (lit≤ tt, lit≤ tt)
+    one_of_three false true = (lit≤ tt, lit≤ tt)
+    one_of_three false false = (lit≤ tt, lit≤ tt)
 
-version_is : (n : ℕ) → IsSpelled version n → (1 ≤ n) × (n ≤ 2)
+version_is : (n : ℕ) → IsSpelled version n → (1 ≤ n) × (n ≤ 3)
 unfolding version
 version_is n s =
     let (letters, _, t) = spelled_asks _ _ n s in
-    subst (λ (m : ℕ). (1 ≤ m) × (m ≤ 2)) (spelled_done _ n t) (named_version letters)
+    subst (λ (m : ℕ). (1 ≤ m) × (m ≤ 3)) (spelled_done _ n t) (named_version letters)
 
-pub frame_is : (n : ℕ) (h : Header) → 1 ≤ n → n ≤ 2 → IsSpelled (frame n) h → IsReadFrame h
+pub frame_is : (n : ℕ) (h : Header) → 1 ≤ n → n ≤ 3 → IsSpelled (frame n) h → IsReadFrame h
 unfolding frame
 frame_is n h least_version most_version s1 =
     let (width, width_in, s2) = spelled_asks _ _ h s1 in
@@ -84,8 +105,10 @@ frame_is n h least_version most_version s1 =
     subst IsReadFrame (spelled_done _ h s9) (record {
       least_version = least_version;
       most_version = most_version;
-      width = side_is width width_in.admitted;
-      height = side_is height height_in.admitted;
+      width = coded_is n width width_in.admitted;
+      height = coded_is n height height_in.admitted;
+      shown_width = shown_is n width width_in.admitted;
+      shown_height = shown_is n height height_in.admitted;
       depth = depth_is depth depth_in.admitted;
       sampling = low;
       filter = rw (filter_number_is filter (omega (arith, known))) (omega (arith, known));

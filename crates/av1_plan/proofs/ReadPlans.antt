@@ -21,7 +21,7 @@ use Rattle.av1_plan.specs.Values.{plan_value}
 use Rattle.av1_plan.specs.CodingOrder.{IsOnGrid, IsQuarterInside, IsTwoToOne}
 use Rattle.av1_plan.specs.Grammar.{is_depth, plan}
 use Rattle.av1_plan.specs.Plan.{LeafValue, PlanValue, slot_value, slot_values, planes_value, carried_plane}
-use Rattle.av1_plan.specs.ReadPlans.{IsSide, AreSlots, IsReadFrame, ArePlane, IsReadReference, IsReadChroma, IsReadKind, AreThree, IsReadLeaf}
+use Rattle.av1_plan.specs.ReadPlans.{IsSide, IsShown, AreSlots, IsReadFrame, ArePlane, IsReadReference, IsReadChroma, IsReadKind, AreThree, IsReadLeaf}
 use Rattle.av1_plan.specs.Spelling.{IsSpelled}
 use Rattle.av1_plan.proofs.NodeLeaves.{all_leaves}
 use Rattle.av1_plan.proofs.ReadFrames.{depth_is, header_is, plan_pieces}
@@ -59,6 +59,9 @@ quarters h l = hlevel (le_prop)
 sides : (n : ℕ) → IsProp (IsSide n)
 sides n = hlevel (ℕ_set, le_prop)
 
+shown_sides : (n shown coded : ℕ) → IsProp (IsShown n shown coded)
+shown_sides n shown coded = hlevel (ℕ_set, le_prop)
+
 slots : (xs : List ℕ) → IsProp (AreSlots xs)
 slots xs = hlevel (ℕ_set, le_prop)
 
@@ -93,9 +96,11 @@ depth_holds n (inr (inr e)) = rw e refl
 pub kept_frame : (p : PlanValue) → ∥ IsSpelled plan p ∥₁ → IsReadFrame p.header
 kept_frame p spelled = record {
   least_version = ∥∥₁_elim spelled (orders 1 p.header.version) (λ s. (spelled_frame p s).least_version);
-  most_version = ∥∥₁_elim spelled (orders p.header.version 2) (λ s. (spelled_frame p s).most_version);
+  most_version = ∥∥₁_elim spelled (orders p.header.version 3) (λ s. (spelled_frame p s).most_version);
   width = ∥∥₁_elim spelled (sides p.header.width) (λ s. (spelled_frame p s).width);
   height = ∥∥₁_elim spelled (sides p.header.height) (λ s. (spelled_frame p s).height);
+  shown_width = ∥∥₁_elim spelled (shown_sides p.header.version p.header.shown_width p.header.width) (λ s. (spelled_frame p s).shown_width);
+  shown_height = ∥∥₁_elim spelled (shown_sides p.header.version p.header.shown_height p.header.height) (λ s. (spelled_frame p s).shown_height);
   depth = depth_is p.header.depth (∥∥₁_elim spelled (tests (is_depth p.header.depth) true) (λ s. depth_holds p.header.depth (spelled_frame p s).depth));
   sampling = ∥∥₁_elim spelled (orders p.header.sampling 2) (λ s. (spelled_frame p s).sampling);
   filter = ∥∥₁_elim spelled le_prop (λ s. (spelled_frame p s).filter);

@@ -105,7 +105,7 @@ fitting_transforms h l valid =
 
 -- ---- triples
 
--- the triple names a block that begins in the visible plane p, one of its coefficients, and a number of depth + 8 bits
+-- the triple names a block that begins in the coded plane p, one of its coefficients, and a number of depth + 8 bits
 pub record IsFittingTriple (h : Header) (p : ℕ) (a : PlaneArea) (t : Triple) : Type 0 where
   pub block : has_block h p a t.block ≡ true
   pub place : t.place < coded_area a.tx_size

@@ -1,9 +1,10 @@
--- A plan of one version is a plan of the other, wherever each mark is one of both.
-use Rattle.std.proofs.Common.{◌≡◌, ℕ, zero, suc, ◌+◌, ◌*◌, ◌/◌, ◌≤◌, ◌⊎◌, inl, inr, Bool, true, false, ◌&&◌, List, [], ◌∷◌, ◌++◌, get_or, All, refl, sym, ap}
+-- A plan of one version is a plan of another, wherever each mark and each side is one of both.
+use Rattle.std.proofs.Common.{◌≡◌, ℕ, zero, suc, ◌+◌, ◌*◌, ◌/◌, ◌%◌, ◌≤◌, ◌⊎◌, inl, inr, Bool, true, false, ◌&&◌, ◌||◌, List, [], ◌∷◌, ◌++◌, get_or, All}
+use Rattle.std.proofs.Common.{refl, sym, ap}
 use Rattle.std.proofs.Common.{subst, ◌∙◌, append_assoc, arith, lit<, lit≤, drop}
 use Rattle.std.specs.Prelude.{codes, ◌==◌, nat_le}
 use Rattle.std.specs.Int.{w32, from_le_bytes, to_le_bytes, is_in_range}
-use Rattle.std.proofs.lemmas.Bool.{and_parts, or_cases, eqb-true, leb-true, le-leb, cases_lt}
+use Rattle.std.proofs.lemmas.Bool.{and_parts, or_cases, or_right, eqb-true, leb-true, le-leb, cases_lt}
 use Rattle.std.proofs.lemmas.Nat.{pow_pos}
 use Rattle.std.proofs.lemmas.List.{append-nil}
 use Rattle.std.proofs.lemmas.List.Elements.{All-head}
@@ -13,15 +14,16 @@ use Rattle.av1_blocks.specs.declared.partition.PartitionType.TheVariants.{PARTIT
 use Rattle.av1_blocks.specs.Blocks.{block_width, block_height}
 use Rattle.av1_plan.specs.declared.header.Header.{Header}
 use Rattle.av1_plan.specs.CodingOrder.{IsTwoToOne}
-use Rattle.av1_plan.specs.Format.{Format, done, asks, ◌>>=◌, one, width, lone, ◌++>◌}
-use Rattle.av1_plan.specs.Geometry.{xdec, ydec, plane_width, plane_height, has_slot, is_inside, carries_chroma}
-use Rattle.av1_plan.specs.Grammar.{is_magic, version_of, version, slots, frame, header, reference, slot_planes, references, leaf, quarter_side, part_size}
+use Rattle.av1_plan.specs.Format.{Format, done, asks, ◌>>=◌, one, two, width, lone, ◌++>◌}
+use Rattle.av1_plan.specs.Geometry.{xdec, ydec, shown_columns, shown_rows, has_slot, is_inside, carries_chroma}
+use Rattle.av1_plan.specs.Grammar.{is_magic, is_side, version_of, version, slots, frame, header, reference, slot_planes, references, leaf, quarter_side}
+use Rattle.av1_plan.specs.Grammar.{part_size}
 use Rattle.av1_plan.specs.Grammar.{leaf_part}
 use Rattle.av1_plan.specs.Grammar.{cut_by, admits_stripes, is_mark, mark, wide_stripes, tall_stripes, parts, block, superblock_row, superblocks, plan}
 use Rattle.av1_plan.specs.Grammar.{plan_behind}
 use Rattle.av1_plan.specs.Plan.{LeafValue, PlanValue}
 use Rattle.av1_plan.specs.Spelling.{Spells, IsSpelled, text, AreText}
-use Rattle.av1_plan.specs.Versions.{header_in, plan_in, SecondKeepsFirst, FirstHasRest}
+use Rattle.av1_plan.specs.Versions.{header_in, plan_in, SecondKeepsFirst, FirstHasRest, ThirdKeepsSecond, SecondHasRest}
 use Rattle.av1_plan.proofs.Carried.{TakesOver, apart, joined, takes_over_same, takes_over_both, TakesOverList, list_both, list_turns, list_where}
 use Rattle.av1_plan.proofs.Marks.{striped_is}
 use Rattle.av1_plan.proofs.Pieces.{all_apart, spelled_lone, spelled_four, spelled_where}
@@ -31,7 +33,7 @@ use Rattle.av1_plan.proofs.ReadLeaves.{leaf_place}
 -- ---- what doesn't look at the version
 
 references_same : (n : ℕ) (h : Header) → references h ≡ references (header_in n h)
-unfolding references slot_planes reference plane_width plane_height xdec ydec has_slot
+unfolding references slot_planes reference shown_columns shown_rows xdec ydec has_slot
 references_same n h = refl
 
 inside_same : (n : ℕ) (h : Header) (x y : ℕ) → is_inside h x y ≡ is_inside (header_in n h) x y
@@ -49,7 +51,7 @@ Rest h = references h >>= λ references. superblocks h >>= λ leaves. done (reco
 
 -- ---- nodes
 
--- in the other version a node has the same marks, where P holds of what its parts spell
+-- in another version a node has the same marks, where P holds of what its parts spell
 abbrev Permits : (List LeafValue → Type 0) → ℕ → Header → Type 0
 Permits P n h =
     (k x y v : ℕ) (ws : List ℕ) (ls : List LeafValue) → suc k ≤ 4 → is_inside h x y ≡ true → is_mark h (suc k) x y v ≡ true
@@ -135,22 +137,53 @@ seen view (asks k next) (v ∷ vs) x s =
     let (spells, same) = seen view (next v) vs x s.1 in
     ((s.0, spells), ap (λ (us : List ℕ). to_le_bytes (width k.size) v ++ us) same)
 
-frame_in : (m n : ℕ) → (frame m >>= λ h. done (header_in n h)) ≡ frame n
-unfolding frame slots
-frame_in m n = refl
-
-frame_seen : (m n : ℕ) (vs : List ℕ) (h : Header) → Spells (frame m) vs h → Spells (frame n) vs (header_in n h) × (text (frame n) vs ≡ text (frame m) vs)
-frame_seen m n vs h s = subst (λ (f : Format Header). Spells f vs (header_in n h) × (text f vs ≡ text (frame m) vs)) (frame_in m n)
-    (seen (header_in n) (frame m) vs h s)
-
 spelled_twice : (f : Format Header) (vs : List ℕ) (x y : Header) → Spells f vs x → Spells f vs y → x ≡ y
 spelled_twice (done z) [] x y s t = sym s ∙ t
 spelled_twice (done z) (v ∷ vs) x y s t = absurd s
 spelled_twice (asks k next) [] x y s t = absurd s
 spelled_twice (asks k next) (v ∷ vs) x y s t = spelled_twice (next v) vs x y s.1 t.1
 
-frame_version : (m : ℕ) (vs : List ℕ) (h : Header) → Spells (frame m) vs h → h.version ≡ m
-frame_version m vs h s = ap (λ (g : Header). g.version) (spelled_twice (frame m) vs h (header_in m h) s (frame_seen m m vs h s).0)
+-- what stands behind a field of this value
+abbrev next_of : Format Header → ℕ → Format Header
+next_of (done x) v = done x
+next_of (asks k next) v = next v
+
+-- the version and the sides that a frame shows are those of its fields
+frame_fields : (m v w : ℕ) (vs : List ℕ) (h : Header) → Spells (frame m) (v ∷ w ∷ vs) h → (h.version ≡ m) × (h.shown_width ≡ v) × (h.shown_height ≡ w)
+unfolding frame slots
+frame_fields m v w vs h s =
+    let view : Header → Header = λ g. record g { version = m; shown_width = v; shown_height = w } in
+    let rest = next_of (next_of (frame m) v) w in
+    let same = spelled_twice rest vs h (view h) s.1.1 (seen view rest vs h s.1.1).0 in
+    (ap (λ (g : Header). g.version) same, ap (λ (g : Header). g.shown_width) same, ap (λ (g : Header). g.shown_height) same)
+
+-- the sides that a header of one version shows are admitted in another, too
+pub record KeepsSides (m n : ℕ) (h : Header) : Type 0 where
+  pub width : is_side m h.shown_width ≡ true → is_side n h.shown_width ≡ true
+  pub height : is_side m h.shown_height ≡ true → is_side n h.shown_height ≡ true
+
+frame_seen : (m n : ℕ) (vs : List ℕ) (h : Header) → KeepsSides m n h → Spells (frame m) vs h
+    → Spells (frame n) vs (header_in n h) × (text (frame n) vs ≡ text (frame m) vs)
+unfolding frame slots
+frame_seen m n [] h sides s = absurd s
+frame_seen m n (v ∷ []) h sides s = absurd s.1
+frame_seen m n (v ∷ w ∷ vs) h sides s =
+    let (_, is_width, is_height) = frame_fields m v w vs h s in
+    let wide : is_side m v ≡ true → is_side n v ≡ true = subst (λ (u : ℕ). is_side m u ≡ true → is_side n u ≡ true) is_width sides.width in
+    let high : is_side m w ≡ true → is_side n w ≡ true = subst (λ (u : ℕ). is_side m u ≡ true → is_side n u ≡ true) is_height sides.height in
+    let (spells, same) = seen (header_in n) (next_of (next_of (frame m) v) w) vs h s.1.1 in (
+      (
+        record { fits = s.0.fits; admitted = wide s.0.admitted },
+        (record { fits = s.1.0.fits; admitted = high s.1.0.admitted }, spells),
+      ),
+      ap (λ (us : List ℕ). to_le_bytes (width two) v ++ (to_le_bytes (width two) w ++ us)) same,
+    )
+
+pub frame_version : (m : ℕ) (vs : List ℕ) (h : Header) → Spells (frame m) vs h → h.version ≡ m
+unfolding frame
+frame_version m [] h s = absurd s
+frame_version m (v ∷ []) h s = absurd s.1
+frame_version m (v ∷ w ∷ vs) h s = (frame_fields m v w vs h s).0
 
 -- ---- the letters at the front
 
@@ -162,28 +195,53 @@ pub record AreLetters (n : ℕ) (letters : List ℕ) : Type 0 where
   -- bytes that begin so begin with a field of this version
   only : (number : ℕ) (rest more : List ℕ) → is_magic number ≡ true → letters ++ rest ≡ to_le_bytes w32 number ++ more → (version_of number ≡ n) × (rest ≡ more)
 
+-- the three letters
+pub magic_is : (number : ℕ) → is_magic number ≡ true → (number ≡ from_le_bytes w32 (codes "RPL1")) ⊎ (number ≡ from_le_bytes w32 (codes "RPL2")) ⊎
+    (number ≡ from_le_bytes w32 (codes "RPL3"))
+magic_is number magic =
+    elim (or_cases (number == from_le_bytes w32 (codes "RPL1") || number == from_le_bytes w32 (codes "RPL2"))
+    (number == from_le_bytes w32 (codes "RPL3")) magic) [
+      | inl early ↦ (elim (or_cases (number == from_le_bytes w32 (codes "RPL1")) (number == from_le_bytes w32 (codes "RPL2")) early) [
+        | inl f ↦ inl (eqb-true number (from_le_bytes w32 (codes "RPL1")) f)
+        | inr f ↦ inr (inl (eqb-true number (from_le_bytes w32 (codes "RPL2")) f))
+      ])
+      | inr f ↦ inr (inr (eqb-true number (from_le_bytes w32 (codes "RPL3")) f))
+    ]
+
 first_only : (number : ℕ) (rest more : List ℕ) → is_magic number ≡ true → codes "RPL1" ++ rest ≡ to_le_bytes w32 number ++ more →
     (version_of number ≡ 1) × (rest ≡ more)
-first_only number rest more magic e = elim (or_cases (number == from_le_bytes w32 (codes "RPL1")) (number == from_le_bytes w32 (codes "RPL2")) magic) [
-  | inl f ↦
-      let is = eqb-true number (from_le_bytes w32 (codes "RPL1")) f in
-      (ap version_of is, ap (drop 4) (e ∙ ap (λ (m : ℕ). to_le_bytes w32 m ++ more) is))
-  | inr f ↦
-      let is = eqb-true number (from_le_bytes w32 (codes "RPL2")) f in
+first_only number rest more magic e = elim (magic_is number magic) [
+  | inl is ↦ (ap version_of is, ap (drop 4) (e ∙ ap (λ (m : ℕ). to_le_bytes w32 m ++ more) is))
+  | inr (inl is) ↦
       let clash : 49 ≡ 50 = ap (λ (xs : List ℕ). get_or xs 3 0) (e ∙ ap (λ (m : ℕ). to_le_bytes w32 m ++ more) is) in
+      absurd (omega (arith, clash))
+  | inr (inr is) ↦
+      let clash : 49 ≡ 51 = ap (λ (xs : List ℕ). get_or xs 3 0) (e ∙ ap (λ (m : ℕ). to_le_bytes w32 m ++ more) is) in
       absurd (omega (arith, clash))
 ]
 
 second_only : (number : ℕ) (rest more : List ℕ) → is_magic number ≡ true → codes "RPL2" ++ rest ≡ to_le_bytes w32 number ++ more →
     (version_of number ≡ 2) × (rest ≡ more)
-second_only number rest more magic e = elim (or_cases (number == from_le_bytes w32 (codes "RPL1")) (number == from_le_bytes w32 (codes "RPL2")) magic) [
-  | inl f ↦
-      let is = eqb-true number (from_le_bytes w32 (codes "RPL1")) f in
+second_only number rest more magic e = elim (magic_is number magic) [
+  | inl is ↦
       let clash : 50 ≡ 49 = ap (λ (xs : List ℕ). get_or xs 3 0) (e ∙ ap (λ (m : ℕ). to_le_bytes w32 m ++ more) is) in
       absurd (omega (arith, clash))
-  | inr f ↦
-      let is = eqb-true number (from_le_bytes w32 (codes "RPL2")) f in
-      (ap version_of is, ap (drop 4) (e ∙ ap (λ (m : ℕ). to_le_bytes w32 m ++ more) is))
+  | inr (inl is) ↦ (ap version_of is, ap (drop 4) (e ∙ ap (λ (m : ℕ). to_le_bytes w32 m ++ more) is))
+  | inr (inr is) ↦
+      let clash : 50 ≡ 51 = ap (λ (xs : List ℕ). get_or xs 3 0) (e ∙ ap (λ (m : ℕ). to_le_bytes w32 m ++ more) is) in
+      absurd (omega (arith, clash))
+]
+
+third_only : (number : ℕ) (rest more : List ℕ) → is_magic number ≡ true → codes "RPL3" ++ rest ≡ to_le_bytes w32 number ++ more →
+    (version_of number ≡ 3) × (rest ≡ more)
+third_only number rest more magic e = elim (magic_is number magic) [
+  | inl is ↦
+      let clash : 51 ≡ 49 = ap (λ (xs : List ℕ). get_or xs 3 0) (e ∙ ap (λ (m : ℕ). to_le_bytes w32 m ++ more) is) in
+      absurd (omega (arith, clash))
+  | inr (inl is) ↦
+      let clash : 51 ≡ 50 = ap (λ (xs : List ℕ). get_or xs 3 0) (e ∙ ap (λ (m : ℕ). to_le_bytes w32 m ++ more) is) in
+      absurd (omega (arith, clash))
+  | inr (inr is) ↦ (ap version_of is, ap (drop 4) (e ∙ ap (λ (m : ℕ). to_le_bytes w32 m ++ more) is))
 ]
 
 pub first_letters : AreLetters 1 (codes "RPL1")
@@ -202,6 +260,15 @@ second_letters = record {
   spells = (record { fits = lit< tt; admitted = refl }, refl);
   bytes = refl;
   only = second_only;
+}
+
+pub third_letters : AreLetters 3 (codes "RPL3")
+unfolding version
+third_letters = record {
+  field = from_le_bytes w32 (codes "RPL3");
+  spells = (record { fits = lit< tt; admitted = refl }, refl);
+  bytes = refl;
+  only = third_only;
 }
 
 -- a version that is spelled is that of one field
@@ -232,9 +299,10 @@ bytes_are new rest fb rb nb nfb nrb front all a b c d e f = rw (f, e, b, c, d, a
 module _ (P : List LeafValue → Type 0) (split : (xs ys : List LeafValue) → P (xs ++ ys) → P xs × P ys) (m n : ℕ) (old new : List ℕ) (old_is : AreLetters m old)
     (new_is : AreLetters n new)
     (permits : (h : Header) → h.version ≡ m → Permits P n h) where
-  text_in : (rest : List ℕ) (p : PlanValue) → AreText plan (old ++ rest) p → P p.leaves → (p.header.version ≡ m) × AreText plan (new ++ rest) (plan_in n p)
+  text_in : (rest : List ℕ) (p : PlanValue) → AreText plan (old ++ rest) p → KeepsSides m n p.header → P p.leaves →
+      (p.header.version ≡ m) × AreText plan (new ++ rest) (plan_in n p)
   unfolding plan plan_behind header
-  text_in rest p (vs, s, e) holds =
+  text_in rest p (vs, s, e) keeps holds =
       let top = apart header Rest p vs s in
       let h = top.between in
       let head = apart version frame h top.front top.front_spells in
@@ -246,7 +314,8 @@ module _ (P : List LeafValue → Type 0) (split : (xs ys : List LeafValue) → P
       let (is_m, rest_is) = old_is.only number rest (fb ++ rb) magic bytes in
       let same : head.between ≡ m = sym names ∙ is_m in
       let framed : Spells (frame m) head.behind h = subst (λ (k : ℕ). Spells (frame k) head.behind h) same head.behind_spells in
-      let (new_frame, frame_bytes) = frame_seen m n head.behind h framed in
+      let sides : KeepsSides m n h = subst (KeepsSides m n) (rest_header h top.behind p top.behind_spells) keeps in
+      let (new_frame, frame_bytes) = frame_seen m n head.behind h sides framed in
       let is_version = frame_version m head.behind h framed in
       let (new_rest, rest_bytes) = (rest_taken P split n h (permits h is_version)).carried top.behind p top.behind_spells holds in
       let (head_spells, head_bytes) = joined version frame n (header_in n h) (new_is.field ∷ []) head.behind new_is.spells new_frame in
@@ -284,7 +353,42 @@ second_keeps_first rest p t =
     (λ h first k x y v ws ls le within e s u. elim (mark_cases h (suc k) x y v e) [
       | inl low ↦ low_mark (header_in 2 h) (suc k) x y v low
       | inr high ↦ absurd (omega (arith, first, (striped_is h (suc k) x y high.2).version))
-    ]) rest p t tt
+    ]) rest p t (record { width = λ a. a; height = λ a. a }) tt
+
+-- ---- what the third version keeps of the second
+
+-- a node that is cut into stripes is so in each version that has them
+high_mark : (n : ℕ) (h : Header) (level x y v : ℕ) → 2 ≤ n → 8 ≤ v → v ≤ 9 → admits_stripes h level x y ≡ true →
+    is_mark (header_in n h) level x y v ≡ true
+unfolding is_mark admits_stripes
+high_mark n h level x y v late least most e =
+    let is = striped_is h level x y e in
+    or_right (nat_le v 3) _
+    (rw (le-leb 8 v least, le-leb v 9 most, le-leb 2 n late, le-leb 2 level is.level_2, le-leb _ _ is.right, le-leb _ _ is.below) refl)
+
+-- from the second version on the marks are the same
+marks_kept : (n : ℕ) → 2 ≤ n → (h : Header) → Permits (λ ls. Unit {0}) n h
+marks_kept n late h k x y v ws ls le within e s u = elim (mark_cases h (suc k) x y v e) [
+  | inl low ↦ low_mark (header_in n h) (suc k) x y v low
+  | inr high ↦ high_mark n h (suc k) x y v late high.0 high.1 high.2
+]
+
+any_side : (v : ℕ) → is_side 2 v ≡ true → is_side 3 v ≡ true
+any_side v e = (and_parts (v % 8 == 0) (is_in_range 1 2048 v) e).1
+
+whole_side : (v : ℕ) → v % 8 ≡ 0 → is_side 3 v ≡ true → is_side 2 v ≡ true
+whole_side v whole e = rw whole e
+
+pub third_keeps_second : ThirdKeepsSecond
+third_keeps_second rest p t =
+    text_in (λ ls. Unit {0}) (λ xs ys u. (tt, tt)) 2 3 (codes "RPL2") (codes "RPL3") second_letters third_letters
+    (λ h second. marks_kept 3 (lit≤ tt) h) rest p t (record { width = any_side p.header.shown_width; height = any_side p.header.shown_height }) tt
+
+pub second_has_rest : SecondHasRest
+second_has_rest rest p t wide high =
+    text_in (λ ls. Unit {0}) (λ xs ys u. (tt, tt)) 3 2 (codes "RPL3") (codes "RPL2") third_letters second_letters
+    (λ h third. marks_kept 2 (lit≤ tt) h) rest p t
+    (record { width = whole_side p.header.shown_width wide; height = whole_side p.header.shown_height high }) tt
 
 -- ---- no stripes where no side is more than twice the other
 
@@ -320,8 +424,8 @@ first_is_two_to_one h size x y f g k ls within s all =
 no_wide : (h : Header) (k side x y : ℕ) (ls : List LeafValue) → suc k ≤ 4 → 2 ≤ suc k → is_inside h x y ≡ true →
     IsSpelled (wide_stripes h (part_size (suc k) PARTITION_HORZ_4) side x y) ls → All IsTwoToOne ls → ⊥
 unfolding wide_stripes
-no_wide h zero side x y ls le two within s all = absurd (omega (arith, two))
-no_wide h (suc k) side x y ls le two within s all =
+no_wide h zero side x y ls le divides within s all = absurd (omega (arith, divides))
+no_wide h (suc k) side x y ls le divides within s all =
     let cells = wide_stripe_cells k le in
     let not = first_is_two_to_one h _ x y _ _ _ ls within s all in
     absurd (omega (arith, not.0, cells.width, cells.height, pow_pos k))
@@ -329,8 +433,8 @@ no_wide h (suc k) side x y ls le two within s all =
 no_tall : (h : Header) (k side x y : ℕ) (ls : List LeafValue) → suc k ≤ 4 → 2 ≤ suc k → is_inside h x y ≡ true →
     IsSpelled (tall_stripes h (part_size (suc k) PARTITION_VERT_4) side x y) ls → All IsTwoToOne ls → ⊥
 unfolding tall_stripes
-no_tall h zero side x y ls le two within s all = absurd (omega (arith, two))
-no_tall h (suc k) side x y ls le two within s all =
+no_tall h zero side x y ls le divides within s all = absurd (omega (arith, divides))
+no_tall h (suc k) side x y ls le divides within s all =
     let cells = tall_stripe_cells k le in
     let not = first_is_two_to_one h _ x y _ _ _ ls within s all in
     absurd (omega (arith, not.1, cells.width, cells.height, pow_pos k))
@@ -338,9 +442,9 @@ no_tall h (suc k) side x y ls le two within s all =
 no_stripes : (h : Header) (k x y v : ℕ) (ls : List LeafValue) → suc k ≤ 4 → 2 ≤ suc k → is_inside h x y ≡ true → 8 ≤ v → v ≤ 9 →
     IsSpelled (parts h (suc k) (block h k) x y (cut_by v)) ls → All IsTwoToOne ls → ⊥
 unfolding parts cut_by
-no_stripes h k x y v ls le two within least most s all = elim (eight_or_nine v least most) [
-  | inl is ↦ no_wide h k (quarter_side (suc k)) x y ls le two within (subst (λ (v : ℕ). IsSpelled (parts h (suc k) (block h k) x y (cut_by v)) ls) is s) all
-  | inr is ↦ no_tall h k (quarter_side (suc k)) x y ls le two within (subst (λ (v : ℕ). IsSpelled (parts h (suc k) (block h k) x y (cut_by v)) ls) is s) all
+no_stripes h k x y v ls le divides within least most s all = elim (eight_or_nine v least most) [
+  | inl is ↦ no_wide h k (quarter_side (suc k)) x y ls le divides within (subst (λ (v : ℕ). IsSpelled (parts h (suc k) (block h k) x y (cut_by v)) ls) is s) all
+  | inr is ↦ no_tall h k (quarter_side (suc k)) x y ls le divides within (subst (λ (v : ℕ). IsSpelled (parts h (suc k) (block h k) x y (cut_by v)) ls) is s) all
 ]
   where
     eight_or_nine : (v : ℕ) → 8 ≤ v → v ≤ 9 → (v ≡ 8) ⊎ (v ≡ 9)
@@ -352,4 +456,4 @@ first_has_rest rest p t all =
     (λ h second k x y v ws ls le within e s near. elim (mark_cases h (suc k) x y v e) [
       | inl low ↦ low_mark (header_in 1 h) (suc k) x y v low
       | inr high ↦ absurd (no_stripes h k x y v ls le (striped_is h (suc k) x y high.2).level_2 within high.0 high.1 (record { values = ws; spells = s }) near)
-    ]) rest p t all
+    ]) rest p t (record { width = λ a. a; height = λ a. a }) all

@@ -24,17 +24,30 @@ unfoldable pub ydec : Header → ℕ → ℕ
 ydec h zero = 0
 ydec h (suc p) = if h.sampling == 0 then 1 else 0
 
--- the columns of the visible plane p, in samples
+-- the columns of plane p that are coded, in samples
 unfoldable pub plane_width : Header → ℕ → ℕ
 plane_width h p = h.width / 2 ^ xdec h p
 
--- the rows of the visible plane p, in samples
+-- the rows of plane p that are coded, in samples
 unfoldable pub plane_height : Header → ℕ → ℕ
 plane_height h p = h.height / 2 ^ ydec h p
 
--- how many samples plane p has
+-- a side that is coded, of one that is shown: frames are coded in whole squares of 8 by 8 (AV1 specification: compute
+-- image size function)
+abbrev pub coded_side : ℕ → ℕ
+coded_side n = (n + 7) / 8 * 8
+
+-- the columns of plane p that are shown, in samples: where it is halved, half of luma's, rounded up
+unfoldable pub shown_columns : Header → ℕ → ℕ
+shown_columns h p = (h.shown_width + xdec h p) / 2 ^ xdec h p
+
+-- the rows of plane p that are shown, in samples
+unfoldable pub shown_rows : Header → ℕ → ℕ
+shown_rows h p = (h.shown_height + ydec h p) / 2 ^ ydec h p
+
+-- how many samples of plane p are shown: so many a reference has, and the output
 abbrev pub plane_len : Header → ℕ → ℕ
-plane_len h p = plane_width h p * plane_height h p
+plane_len h p = shown_columns h p * shown_rows h p
 
 -- whether a slot carries reference planes: its bit of the mask is set
 unfoldable pub has_slot : Header → ℕ → Bool
@@ -95,15 +108,15 @@ unfoldable pub block_at : PlaneArea → ℕ → TransformBlock
 block_at a n =
     record { x = a.x + n % blocks_across a * tx_width a.tx_size; y = a.y + n / blocks_across a * tx_height a.tx_size }
 
--- whether there is a block n, and it begins in the visible plane p
+-- whether there is a block n, and it begins in the coded plane p
 unfoldable pub has_block : Header → ℕ → PlaneArea → ℕ → Bool
 has_block h p a n = nat_lt n (block_count a) && nat_lt (block_at a n).x (plane_width h p)
     && nat_lt (block_at a n).y (plane_height h p)
 
--- block n, where there is one that begins in the visible plane p
+-- block n, where there is one that begins in the coded plane p
 unfoldable pub transform_block : Header → ℕ → PlaneArea → ℕ → Option TransformBlock
 transform_block h p a n = if has_block h p a n then Some (block_at a n) else None
 
--- the blocks of a rectangle: those that begin outside the visible plane keep their number and are left out
+-- the blocks of a rectangle: those that begin outside the coded plane keep their number and are left out
 unfoldable pub transform_blocks : Header → ℕ → PlaneArea → List TransformBlock
 transform_blocks h p a = filter_map (transform_block h p a) (range_with_len 0 (block_count a))

@@ -30,7 +30,7 @@ use Rattle.av1_blocks.specs.declared.transform.TheConstants.TxType as tx_types
 use Rattle.av1_blocks.specs.Parts.{subsize}
 use Rattle.av1_plan.specs.Format.{Length, one, two, four, Kind, Format, done, ◌>>=◌, field, any, nothing, lone, ◌++>◌}
 use Rattle.av1_plan.specs.Format.{in_turn}
-use Rattle.av1_plan.specs.Geometry.{plane_len, has_slot, is_inside, carries_chroma}
+use Rattle.av1_plan.specs.Geometry.{coded_side, plane_len, has_slot, is_inside, carries_chroma}
 use Rattle.av1_plan.specs.Plan.{LeafValue, PlanValue}
 use Rattle.av1_plan.specs.declared.header.Header.{Header}
 use Rattle.av1_plan.specs.declared.leaf.Triple.{Triple}
@@ -51,13 +51,16 @@ byte_from first last = where_ one (is_in_range first last)
 
 -- ---- what stands before the leaves
 
--- the four letters at the front: those of the first version or of the second
+-- the four letters at the front: those of one of the three versions
 abbrev pub is_magic : ℕ → Bool
 is_magic v = v == from_le_bytes w32 (codes "RPL1") || v == from_le_bytes w32 (codes "RPL2")
+    || v == from_le_bytes w32 (codes "RPL3")
 
 -- the version that these letters name
 abbrev pub version_of : ℕ → ℕ
-version_of letters = if letters == from_le_bytes w32 (codes "RPL2") then 2 else 1
+version_of letters =
+    if letters == from_le_bytes w32 (codes "RPL3") then 3 else
+    if letters == from_le_bytes w32 (codes "RPL2") then 2 else 1
 
 -- the version of the grammar
 unfoldable pub version : Format ℕ
@@ -65,9 +68,10 @@ version = do
   letters ← field (where_ four is_magic)
   done (version_of letters)
 
--- a side of a frame, in samples of luma
-abbrev pub is_side : ℕ → Bool
-is_side v = v % 8 == 0 && is_in_range 8 2048 v
+-- a side of a frame that is shown, in samples of luma: up to the second version a multiple of 8, in the third any
+-- number
+abbrev pub is_side : (version : ℕ) → ℕ → Bool
+is_side version v = (version == 3 || v % 8 == 0) && is_in_range 1 2048 v
 
 -- bits of a sample
 abbrev pub is_depth : ℕ → Bool
@@ -88,8 +92,8 @@ slots = do
 -- the frame and what holds for all leaves, in this version
 unfoldable pub frame : ℕ → Format Header
 frame version = do
-  width ← field (where_ two is_side)
-  height ← field (where_ two is_side)
+  width ← field (where_ two (is_side version))
+  height ← field (where_ two (is_side version))
   depth ← field (where_ one is_depth)
   sampling ← field (byte_from 0 2)
   filter ← field (byte_from 0 3)
@@ -98,8 +102,10 @@ frame version = do
   mask ← field (any one)
   done (record {
     version = version;
-    width = width;
-    height = height;
+    width = coded_side width;
+    height = coded_side height;
+    shown_width = width;
+    shown_height = height;
     depth = depth;
     sampling = sampling;
     filter = slice_index_or filter_modes.ALL filter REGULAR;
@@ -289,10 +295,10 @@ cut_by mark =
     PARTITION_HORZ_B ∷ PARTITION_VERT_A ∷ PARTITION_VERT_B ∷ PARTITION_HORZ_4 ∷ PARTITION_VERT_4 ∷ []) mark
     PARTITION_NONE
 
--- whether a node of this level may be cut into four leaves that are a quarter as wide or as high: in the second version
--- a node of side 16 to 64 (level 2 and up) that lies in the frame whole
+-- whether a node of this level may be cut into four leaves that are a quarter as wide or as high: from the second
+-- version on a node of side 16 to 64 (level 2 and up) that lies in what is coded whole
 unfoldable pub admits_stripes : Header → ℕ → ℕ → ℕ → Bool
-admits_stripes h level x y = h.version == 2 && nat_le 2 level && nat_le (x + 2 * half_side level) h.width
+admits_stripes h level x y = nat_le 2 h.version && nat_le 2 level && nat_le (x + 2 * half_side level) h.width
     && nat_le (y + 2 * half_side level) h.height
 
 -- a mark that a node may have: 0 to 3 (none, horizontal, vertical, split), or 8 or 9 (four leaves above one another or

@@ -1,5 +1,5 @@
 -- What holds of every plan that is read: its frame, its reference samples and its leaves.
-use Rattle.std.specs.Prelude.{◌≡◌, ℕ, ◌^◌, ◌%◌, ◌<◌, ◌≤◌, ◌⊎◌, Bool, true, false, ℤ, List, [], ◌∷◌, length, Option}
+use Rattle.std.specs.Prelude.{◌≡◌, ℕ, ◌+◌, ◌^◌, ◌%◌, ◌<◌, ◌≤◌, ◌⊎◌, Bool, true, false, ℤ, List, [], ◌∷◌, length, Option}
 use Rattle.std.specs.Prelude.{Some, None, is_some, slice_index_or, FitsSigned}
 use Rattle.std.specs.Int.{w8}
 use Rattle.std.specs.List.{All}
@@ -23,24 +23,33 @@ use Rattle.av1_plan.specs.Plan.{LeafValue}
 
 -- ---- the frame
 
--- a side of a frame, in samples of luma
+-- a side of a frame that is coded, in samples of luma
 pub record IsSide (n : ℕ) : Type 0 where
   pub whole : n % 8 ≡ 0
   pub least : 8 ≤ n
   pub most : n ≤ 2048
+
+-- a side that is shown, of one that is coded: the first two versions show all that they code
+pub record IsShown (version shown coded : ℕ) : Type 0 where
+  pub some : 1 ≤ shown
+  pub within : shown ≤ coded
+  pub near : coded < shown + 8
+  pub whole : version ≤ 2 → shown ≡ coded
 
 -- the slots that the seven references name, of which there are eight
 pub record AreSlots (slots : List ℕ) : Type 0 where
   pub count : length slots ≡ 7
   pub range : All (λ slot. slot < 8) slots
 
--- the version is 1 or 2, sampling 0, 1 or 2, and the filter one of the first four (the fifth, switchable, belongs to
+-- the version is 1, 2 or 3, sampling 0, 1 or 2, and the filter one of the first four (the fifth, switchable, belongs to
 -- bitstreams)
 pub record IsReadFrame (h : Header) : Type 0 where
   pub least_version : 1 ≤ h.version
-  pub most_version : h.version ≤ 2
+  pub most_version : h.version ≤ 3
   pub width : IsSide h.width
   pub height : IsSide h.height
+  pub shown_width : IsShown h.version h.shown_width h.width
+  pub shown_height : IsShown h.version h.shown_height h.height
   pub depth : (h.depth ≡ 8) ⊎ (h.depth ≡ 10) ⊎ (h.depth ≡ 12)
   pub sampling : h.sampling ≤ 2
   pub filter : filter_number h.filter < 4
@@ -49,7 +58,7 @@ pub record IsReadFrame (h : Header) : Type 0 where
 
 -- ---- reference samples
 
--- the samples of a plane: as many as it has, each of the frame's depth
+-- the samples of a plane: as many as are shown, each of the frame's depth
 pub record ArePlane (h : Header) (plane : ℕ) (samples : List ℕ) : Type 0 where
   pub count : length samples ≡ plane_len h plane
   pub range : All (λ sample. sample < 2 ^ h.depth) samples
@@ -133,7 +142,7 @@ pub record AreThree (carried : Bool) (lists : List (List Triple)) : Type 0 where
   pub v_silent : carried ≡ false → v ≡ []
 
 -- A leaf stands on its grid, and has what belongs to chroma exactly where it carries chroma. A side of it is more than
--- twice the other only in the second version, and then it ends in the frame.
+-- twice the other from the second version on alone, and then it ends in what is coded.
 pub record IsReadLeaf (h : Header) (l : LeafValue) : Type 0 where
   pub grid : IsOnGrid h l
   pub shape : h.version ≡ 1 → IsTwoToOne l

@@ -99,7 +99,7 @@ has_references h (Compound mode references mvs) = list_all (has_reference h) ref
 unfoldable pub fits_signed : ℕ → ℤ → Bool
 fits_signed bits v = not (int_lt v (neg_ℤ (pos (2 ^ (bits - 1))))) && int_lt v (pos (2 ^ (bits - 1)))
 
--- the triple names a block that begins in the visible plane, a place of it, and a number of depth + 8 signed bits
+-- the triple names a block that begins in the coded plane, a place of it, and a number of depth + 8 signed bits
 unfoldable pub is_coefficient : Header → ℕ → PlaneArea → Triple → Bool
 is_coefficient h p a t = has_block h p a t.block && nat_lt t.place (coded_area a.tx_size)
     && fits_signed (h.depth + 8) t.value
@@ -124,7 +124,7 @@ unfoldable pub is_of_block : Option Triple → Triple → Bool
 is_of_block None t = false
 is_of_block (Some s) t = s.block == t.block
 
--- all triples are coefficients of blocks that begin in the visible plane, and they rise strictly by block and place
+-- all triples are coefficients of blocks that begin in the coded plane, and they rise strictly by block and place
 unfoldable pub are_coefficients : Header → ℕ → PlaneArea → List Triple → Bool
 are_coefficients h p a triples = list_all (is_coefficient h p a) triples && rise triples
 

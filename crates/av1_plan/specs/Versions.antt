@@ -1,8 +1,9 @@
--- What the two versions of the plan grammar have in common.
-use Rattle.std.specs.Prelude.{◌≡◌, ℕ, codes, List, ◌++◌}
+-- What the versions of the plan grammar have in common.
+use Rattle.std.specs.Prelude.{◌≡◌, ℕ, ◌%◌, ◌≤◌, codes, List, ◌++◌}
 use Rattle.std.specs.List.{All}
 use Rattle.av1_plan.specs.declared.header.Header.{Header}
 use Rattle.av1_plan.specs.CodingOrder.{IsTwoToOne}
+use Rattle.av1_plan.specs.Geometry.{plane_width, plane_height, shown_columns, shown_rows}
 use Rattle.av1_plan.specs.Grammar.{plan}
 use Rattle.av1_plan.specs.Plan.{PlanValue}
 use Rattle.av1_plan.specs.Spelling.{AreText}
@@ -13,6 +14,8 @@ header_in n h = record {
   version = n;
   width = h.width;
   height = h.height;
+  shown_width = h.shown_width;
+  shown_height = h.shown_height;
   depth = h.depth;
   sampling = h.sampling;
   filter = h.filter;
@@ -37,3 +40,23 @@ abbrev pub FirstHasRest : Type 0
 FirstHasRest =
     (rest : List ℕ) (p : PlanValue) → AreText plan (codes "RPL2" ++ rest) p → All IsTwoToOne p.leaves
     → (p.header.version ≡ 2) × AreText plan (codes "RPL1" ++ rest) (plan_in 1 p)
+
+-- The same of the second version and the third.
+abbrev pub ThirdKeepsSecond : Type 0
+ThirdKeepsSecond =
+    (rest : List ℕ) (p : PlanValue) → AreText plan (codes "RPL2" ++ rest) p
+    → (p.header.version ≡ 2) × AreText plan (codes "RPL3" ++ rest) (plan_in 3 p)
+
+-- Back again, where both sides that are shown are multiples of 8.
+abbrev pub SecondHasRest : Type 0
+SecondHasRest =
+    (rest : List ℕ) (p : PlanValue) → AreText plan (codes "RPL3" ++ rest) p
+    → p.header.shown_width % 8 ≡ 0 → p.header.shown_height % 8 ≡ 0
+    → (p.header.version ≡ 3) × AreText plan (codes "RPL2" ++ rest) (plan_in 2 p)
+
+-- A plan of the first two versions shows all that it codes: in each plane as many columns and rows.
+abbrev pub ShowsAll : Header → Type 0
+ShowsAll h = (p : ℕ) → (shown_columns h p ≡ plane_width h p) × (shown_rows h p ≡ plane_height h p)
+
+abbrev pub EarlierShowAll : Type 0
+EarlierShowAll = (bytes : List ℕ) (p : PlanValue) → AreText plan bytes p → p.header.version ≤ 2 → ShowsAll p.header

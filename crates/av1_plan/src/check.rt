@@ -202,7 +202,7 @@ fn is_of_block(last: Option<Triple>, triple: &Triple) -> bool
     }
 }
 
-/// Whether the area has the block of a triple, and that begins in the visible plane `p`. The block of the last triple,
+/// Whether the area has the block of a triple, and that begins in the coded plane `p`. The block of the last triple,
 /// where there is one, does.
 #[tactic(auto, unfolding(crate::specs::Geometry::transform_block))]
 fn has_block(
@@ -222,7 +222,7 @@ fn has_block(
         .is_some()
 }
 
-/// Whether a triple names a block of the area that begins in the visible plane `p`, a place of it and a number in
+/// Whether a triple names a block of the area that begins in the coded plane `p`, a place of it and a number in
 /// range. The block of the last triple, where there is one, is such a block.
 #[tactic(auto, unfolding(crate::specs::Validity::is_coefficient))]
 fn is_coefficient(

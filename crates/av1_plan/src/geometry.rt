@@ -4,7 +4,7 @@
 //! alone.
 
 ghost use Rattle.std.specs.Prelude.{◌≡◌, ◌≤◌, ◌<◌};
-ghost use Rattle.av1_plan.specs.Geometry.{carries_chroma, covers_plane, plane_place, plane_size, plane_tx_size, plane_area};
+ghost use Rattle.av1_plan.specs.Geometry.{coded_side, carries_chroma, covers_plane, plane_place, plane_size, plane_tx_size, plane_area};
 
 use crate::header::Header;
 use crate::leaf::Leaf;
@@ -33,9 +33,19 @@ pub struct TransformBlock {
     pub y: usize,
 }
 
+/// A side of a frame that is coded, of one that is shown, in samples of luma: the least multiple of 8 that holds it.
+pub fn coded_side(shown: u16) -> u16
+    requires { shown ≤ 2048 }
+    ensures value { result ≡ coded_side shown }
+    ensures small { result ≤ 2048 }
+{
+    (shown + 7) / 8 * 8
+}
+
 impl Header {
     ghost use Rattle.std.specs.Prelude.{◌≡◌, ◌≤◌, ◌<◌};
-    ghost use Rattle.av1_plan.specs.Geometry.{xdec, ydec, plane_width, plane_height, plane_len, has_slot, is_inside};
+    ghost use Rattle.av1_plan.specs.Geometry.{xdec, ydec, plane_width, plane_height, shown_columns, shown_rows, plane_len};
+    ghost use Rattle.av1_plan.specs.Geometry.{has_slot, is_inside};
 
     /// The logarithm to base 2 of how many luma columns a sample of plane `p` stands for.
     #[tactic(auto, unfolding(crate::specs::Geometry::xdec))]
@@ -55,7 +65,7 @@ impl Header {
         if p > 0 && self.sampling == 0 { 1 } else { 0 }
     }
 
-    /// The columns of the visible plane `p`, in samples.
+    /// The columns of plane `p` that are coded, in samples.
     #[tactic(auto, unfolding(crate::specs::Geometry::plane_width))]
     pub fn plane_width(&self, p: usize) -> usize
         ensures value { result ≡ plane_width self.now p }
@@ -64,7 +74,7 @@ impl Header {
         usize::from(self.width) >> self.xdec(p)
     }
 
-    /// The rows of the visible plane `p`, in samples.
+    /// The rows of plane `p` that are coded, in samples.
     #[tactic(auto, unfolding(crate::specs::Geometry::plane_height))]
     pub fn plane_height(&self, p: usize) -> usize
         ensures value { result ≡ plane_height self.now p }
@@ -73,11 +83,33 @@ impl Header {
         usize::from(self.height) >> self.ydec(p)
     }
 
-    /// How many samples the visible plane `p` has.
+    /// The columns of plane `p` that are shown, in samples: where the plane is halved, half of luma's, rounded up.
+    #[tactic(auto, unfolding(crate::specs::Geometry::shown_columns))]
+    pub fn shown_columns(&self, p: usize) -> usize
+        ensures value { result ≡ shown_columns self.now p }
+        ensures small { result ≤ self.now.shown_width }
+        ensures few { result ≤ 65535 }
+    {
+        let decimation = self.xdec(p);
+        (usize::from(self.shown_width) + decimation) >> decimation
+    }
+
+    /// The rows of plane `p` that are shown, in samples: where the plane is halved, half of luma's, rounded up.
+    #[tactic(auto, unfolding(crate::specs::Geometry::shown_rows))]
+    pub fn shown_rows(&self, p: usize) -> usize
+        ensures value { result ≡ shown_rows self.now p }
+        ensures small { result ≤ self.now.shown_height }
+        ensures few { result ≤ 65535 }
+    {
+        let decimation = self.ydec(p);
+        (usize::from(self.shown_height) + decimation) >> decimation
+    }
+
+    /// How many samples of plane `p` are shown: so many it has in a reference, and in the output.
     pub fn plane_len(&self, p: usize) -> usize
         ensures { result ≡ plane_len self.now p }
     {
-        self.plane_width(p) * self.plane_height(p)
+        self.shown_columns(p) * self.shown_rows(p)
     }
 
     /// Whether a slot carries reference planes.
@@ -194,7 +226,7 @@ impl PlaneArea {
         self.size.width() / self.tx_size.width()
     }
 
-    /// How many transform blocks the rectangle has, those outside the visible plane counted too.
+    /// How many transform blocks the rectangle has, those outside the coded plane counted too.
     #[inline(always)]
     #[tactic(auto, unfolding(crate::specs::Geometry::block_count))]
     pub fn block_count(&self) -> usize
@@ -217,7 +249,7 @@ impl PlaneArea {
         }
     }
 
-    /// Transform block `n`, where there is one that begins in the visible plane `p`.
+    /// Transform block `n`, where there is one that begins in the coded plane `p`.
     #[tactic(auto, unfolding(crate::specs::Geometry::transform_block, crate::specs::Geometry::has_block))]
     pub fn transform_block(&self, header: &Header, p: usize, n: usize) -> Option<TransformBlock>
         ensures { result ≡ transform_block header.now p self.now n }

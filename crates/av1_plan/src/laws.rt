@@ -6,7 +6,7 @@ ghost use Rattle.av1_plan.specs.Lengths.{HeadersAreTwenty, ReferencesAreSlots};
 ghost use Rattle.av1_plan.specs.Pieces.{PiecesArePlan, PiecesAreRefused, PlanIsPieces};
 ghost use Rattle.av1_plan.specs.Plan.{PlanValue};
 ghost use Rattle.av1_plan.specs.Spelling.{AreText};
-ghost use Rattle.av1_plan.specs.Versions.{SecondKeepsFirst, FirstHasRest};
+ghost use Rattle.av1_plan.specs.Versions.{SecondKeepsFirst, FirstHasRest, ThirdKeepsSecond, SecondHasRest, EarlierShowAll};
 
 /// A law: bytes are the text of one plan at most.
 pub fn texts_are_of_one_plan()
@@ -23,6 +23,24 @@ pub fn the_second_version_keeps_the_first()
 /// with the letters `RPL1`.
 pub fn the_first_version_has_the_rest()
     ensures { FirstHasRest }
+{}
+
+/// A law: a plan of the second version is one of the third. Bytes with the letters `RPL2` that spell a plan spell the
+/// same plan with `RPL3`, but for its version.
+pub fn the_third_version_keeps_the_second()
+    ensures { ThirdKeepsSecond }
+{}
+
+/// A law: a plan of the third version that shows multiples of 8 columns and rows is one of the second, with the letters
+/// `RPL2`.
+pub fn the_second_version_has_the_rest()
+    ensures { SecondHasRest }
+{}
+
+/// A law: a plan of the first or the second version shows all that it codes. In each plane as many columns and rows are
+/// shown as are coded, so that its references, its output and what is read of them are those of whole planes.
+pub fn earlier_versions_show_what_is_coded()
+    ensures { EarlierShowAll }
 {}
 
 /// A law: what stands before the leaves of a plan, its references and the leaves behind them are the plan. The bytes of

@@ -14,11 +14,15 @@
 //! - A `Plan` keeps as a fact that a complete proper list of fields spells it. Its leaves stand in coding order: they
 //!   are those of one tree of marks for each superblock of the frame (`specs/Tree.antt`, `specs/CodingOrder.antt`).
 //! - What holds of every plan that is read, its accessors say (`specs/ReadPlans.antt`): the ranges of the frame's
-//!   numbers, as many reference samples as a plane has and each of the frame's depth, and of a leaf that it stands on
-//!   its grid, and has a chroma mode, a chroma type and triples of chroma where it carries chroma alone. A leaf one of
-//!   whose sides is four times the other ends in the frame.
-//! - The grammar has two versions, told by the letters at the front. The second adds two marks, which cut a node into
-//!   four leaves that are a quarter as high or as wide, and is else the same (`specs/Versions.antt`).
+//!   numbers, as many reference samples of a plane as are shown, each of the frame's depth, and of a leaf that it
+//!   stands on its grid, and has a chroma mode, a chroma type and triples of chroma where it carries chroma alone. A
+//!   leaf one of whose sides is four times the other ends in the frame.
+//! - A header has the sides that are coded, which are multiples of 8, and those that are shown. Nodes, leaves and
+//!   transform blocks go by the former, reference samples by the latter (`specs/Geometry.antt`). Up to the second
+//!   version the two are the same.
+//! - The grammar has three versions, told by the letters at the front. The second adds two marks, which cut a node into
+//!   four leaves that are a quarter as high or as wide, the third sides of any number; each is else the same as the one
+//!   before (`specs/Versions.antt`).
 //! - `check_plan` accepts exactly the plans of which no leaf is faulty, and else names the first faulty leaf and the
 //!   first of its reasons (`specs/Validity.antt`): sizes, transforms, modes, vectors, references, and coefficients that
 //!   rise strictly by block and place.
@@ -42,11 +46,12 @@ mod reader;
 
 pub use check::{check_leaves, check_plan, is_inter_size};
 pub use error::{Invalid, InvalidKind, PlanError};
-pub use geometry::{PlaneArea, TransformBlock, carries_chroma, plane_tx_size};
+pub use geometry::{PlaneArea, TransformBlock, carries_chroma, coded_side, plane_tx_size};
 pub use header::Header;
 pub use laws::{
-    fronts_have_these_lengths, pieces_are_a_plan, texts_are_of_one_plan,
-    the_first_version_has_the_rest, the_second_version_keeps_the_first,
+    earlier_versions_show_what_is_coded, fronts_have_these_lengths, pieces_are_a_plan,
+    texts_are_of_one_plan, the_first_version_has_the_rest, the_second_version_has_the_rest,
+    the_second_version_keeps_the_first, the_third_version_keeps_the_second,
 };
 pub use leaf::{ChromaMode, Leaf, LeafKind, Triple};
 pub use leaves::Leaves;

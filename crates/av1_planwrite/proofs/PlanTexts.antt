@@ -1,10 +1,10 @@
 -- The bytes of a plan are its text.
 use Rattle.std.proofs.Common.{◌≡◌, ℕ, ◌<◌, ◌≤◌, ◌^◌, Bool, true, false, if◌then◌else◌, inl, inr, List, [], ◌∷◌, ◌++◌, Option, Some, None, refl, sym, ap, subst}
-use Rattle.std.proofs.Common.{◌∙◌, append_assoc, arith, w32}
-use Rattle.std.specs.Prelude.{◌==◌, codes, nat_lt}
+use Rattle.std.proofs.Common.{◌∙◌, append_assoc, arith}
+use Rattle.std.specs.Prelude.{◌==◌, nat_lt}
 use Rattle.std.specs.List.{flat_map}
-use Rattle.std.specs.Int.{from_le_bytes, to_le_bytes}
-use Rattle.std.proofs.lemmas.Bool.{eqb-true, eqb-false, or_cases}
+use Rattle.std.specs.Int.{to_le_bytes}
+use Rattle.std.proofs.lemmas.Bool.{eqb-true, eqb-false}
 use Rattle.std.proofs.lemmas.List.{append-nil}
 use Rattle.av1_blocks.specs.Filters.{filter_number}
 use Rattle.av1_plan.specs.declared.header.Header.{Header}
@@ -17,6 +17,7 @@ use Rattle.av1_plan.specs.Spelling.{text, AreText}
 use Rattle.av1_plan.proofs.Carried.{AreApart, apart}
 use Rattle.av1_plan.proofs.Numbers.{filter_of, filter_number_is}
 use Rattle.av1_plan.proofs.ReadFrames.{range_is}
+use Rattle.av1_plan.proofs.Versions.{magic_is}
 use Rattle.av1_planwrite.specs.Text.{byte, pair, quad, letters, header_text, sample_text, plane_text, slot_text, references_text, superblocks_written}
 use Rattle.av1_planwrite.specs.Text.{front_text, plan_text}
 use Rattle.av1_planwrite.proofs.Told.{ended, IsAsked, asked, Tells, turns_tell, two_parts, last_part}
@@ -40,9 +41,10 @@ grown front e f = e ∙ ap (λ (xs : List ℕ). front ++ xs) f ∙ append-nil fr
 -- ---- the header
 
 letters_are : (v : ℕ) → is_magic v ≡ true → quad v ≡ letters (version_of v)
-letters_are v e = elim (or_cases (v == from_le_bytes w32 (codes "RPL1")) (v == from_le_bytes w32 (codes "RPL2")) e) [
-  | inl first ↦ subst (λ (n : ℕ). quad n ≡ letters (version_of n)) (sym (eqb-true v (from_le_bytes w32 (codes "RPL1")) first)) refl
-  | inr second ↦ subst (λ (n : ℕ). quad n ≡ letters (version_of n)) (sym (eqb-true v (from_le_bytes w32 (codes "RPL2")) second)) refl
+letters_are v e = elim (magic_is v e) [
+  | inl first ↦ subst (λ (n : ℕ). quad n ≡ letters (version_of n)) (sym first) refl
+  | inr (inl second) ↦ subst (λ (n : ℕ). quad n ≡ letters (version_of n)) (sym second) refl
+  | inr (inr third) ↦ subst (λ (n : ℕ). quad n ≡ letters (version_of n)) (sym third) refl
 ]
 
 version_told : Tells grammar.version letters
@@ -83,6 +85,9 @@ choice_back v le = elim (v == 1) as (λ b. (v == 1) ≡ b → v ≡ (if b then 1
     below_one : (v : ℕ) → v ≤ 1 → (v == 1) ≡ false → v ≡ 0
     below_one v le e = let other = eqb-false v 1 e in omega (arith, le, other)
 
+below_five : (v : ℕ) → v ≤ 3 → v < 5
+below_five v le = omega (arith, le)
+
 pub header_told : Tells grammar.header header_text
 unfolding grammar.header grammar.frame header_text
 header_told = record {
@@ -97,7 +102,7 @@ header_told = record {
       let slots = apart grammar.slots _ h edge.values edge.spells in
       let mask = asked _ _ h slots.behind slots.behind_spells in
       let end = ended _ h mask.values mask.spells in
-      let small : filter.number < 5 = omega (arith, (range_is 0 3 filter.number filter.admitted).1) in
+      let small : filter.number < 5 = below_five filter.number (range_is 0 3 filter.number filter.admitted).1 in
       let t0 = letters n.between in
       let t1 = t0 ++ pair width.number in
       let t2 = t1 ++ pair height.number in

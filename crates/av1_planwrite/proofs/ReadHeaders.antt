@@ -1,14 +1,15 @@
 -- What an admitted header says.
-use Rattle.std.proofs.Common.{◌≡◌, ℕ, zero, suc, ◌-◌, ◌<◌, ◌≤◌, ◌⊎◌, inl, inr, true, ◌&&◌, List, [], ◌∷◌, length, All, sym, ap, ◌∙◌, arith}
-use Rattle.std.specs.Prelude.{nat_le}
+use Rattle.std.proofs.Common.{◌≡◌, ℕ, zero, suc, ◌-◌, ◌<◌, ◌≤◌, ◌⊎◌, inl, inr, true, ◌&&◌, List, [], ◌∷◌, length, All, sym, ap, subst, ◌∙◌, arith}
+use Rattle.std.specs.Prelude.{nat_le, ◌==◌}
 use Rattle.std.specs.List.{list_all}
-use Rattle.std.proofs.lemmas.Bool.{and_parts, leb-true}
+use Rattle.std.proofs.lemmas.Bool.{and_parts, eqb-true, leb-true}
 use Rattle.av1_blocks.specs.Filters.{filter_number}
 use Rattle.av1_plan.specs.declared.header.Header.{Header}
+use Rattle.av1_plan.specs.Geometry.{coded_side}
 use Rattle.av1_plan.specs.Grammar.{is_side, is_depth}
-use Rattle.av1_plan.specs.ReadPlans.{IsReadFrame}
+use Rattle.av1_plan.specs.ReadPlans.{IsSide, IsShown, IsReadFrame}
 use Rattle.std.specs.Int.{is_in_range}
-use Rattle.av1_plan.proofs.ReadFrames.{side_is, depth_is}
+use Rattle.av1_plan.proofs.ReadFrames.{coded_is, shown_is, depth_is}
 use Rattle.av1_planwrite.specs.Asked.{across, down, row_before, rows_of, superblocks_from}
 use Rattle.av1_planwrite.specs.Building.{admits_header}
 
@@ -18,24 +19,55 @@ slots_are (s ∷ slots) e zero d lt = let (first, _) = and_parts (nat_le s 7) (l
 slots_are (s ∷ slots) e (suc k) d lt = let (_, later) = and_parts (nat_le s 7) (list_all (λ slot. nat_le slot 7) slots) e
     in slots_are slots later k d (omega (arith, lt))
 
+-- the version and the sides of an admitted header
+record HasSides (h : Header) : Type 0 where
+  least_version : 1 ≤ h.version
+  most_version : h.version ≤ 3
+  width : IsSide h.width
+  height : IsSide h.height
+  shown_width : IsShown h.version h.shown_width h.width
+  shown_height : IsShown h.version h.shown_height h.height
+
+sides_read : (h : Header)
+    → (is_in_range 1 3 h.version && is_side h.version h.shown_width && is_side h.version h.shown_height && h.width == coded_side h.shown_width
+    && h.height == coded_side h.shown_height) ≡ true → HasSides h
+sides_read h e =
+    let version = is_in_range 1 3 h.version in
+    let (c, coded_height) = and_parts (version && is_side h.version h.shown_width && is_side h.version h.shown_height && h.width == coded_side h.shown_width)
+    (h.height == coded_side h.shown_height) e in
+    let (d, coded_width) = and_parts (version && is_side h.version h.shown_width && is_side h.version h.shown_height) (h.width == coded_side h.shown_width) c in
+    let (f, height) = and_parts (version && is_side h.version h.shown_width) (is_side h.version h.shown_height) d in
+    let (g, width) = and_parts version (is_side h.version h.shown_width) f in
+    let (least, most) = and_parts (nat_le 1 h.version) (nat_le h.version 3) g in
+    let across = sym (eqb-true h.width (coded_side h.shown_width) coded_width) in
+    let down = sym (eqb-true h.height (coded_side h.shown_height) coded_height) in
+    record {
+      least_version = leb-true 1 h.version least;
+      most_version = leb-true h.version 3 most;
+      width = subst IsSide across (coded_is h.version h.shown_width width);
+      height = subst IsSide down (coded_is h.version h.shown_height height);
+      shown_width = subst (IsShown h.version h.shown_width) across (shown_is h.version h.shown_width width);
+      shown_height = subst (IsShown h.version h.shown_height) down (shown_is h.version h.shown_height height);
+    }
+
 pub header_read : (h : Header) → admits_header h ≡ true → h.mask < 256 → length h.slots ≡ 7 → IsReadFrame h
 unfolding admits_header
 header_read h e mask count =
-    let version = is_in_range 1 2 h.version in
-    let (a, slots) = and_parts (version && is_side h.width && is_side h.height && is_depth h.depth && nat_le h.sampling 2 && nat_le (filter_number h.filter) 3)
+    let front = is_in_range 1 3 h.version && is_side h.version h.shown_width && is_side h.version h.shown_height && h.width == coded_side h.shown_width
+    && h.height == coded_side h.shown_height in
+    let (a, slots) = and_parts (front && is_depth h.depth && nat_le h.sampling 2 && nat_le (filter_number h.filter) 3)
     (list_all (λ slot. nat_le slot 7) h.slots) e in
-    let (b, filter) =
-    and_parts (version && is_side h.width && is_side h.height && is_depth h.depth && nat_le h.sampling 2) (nat_le (filter_number h.filter) 3) a in
-    let (c, sampling) = and_parts (version && is_side h.width && is_side h.height && is_depth h.depth) (nat_le h.sampling 2) b in
-    let (d, depth) = and_parts (version && is_side h.width && is_side h.height) (is_depth h.depth) c in
-    let (f, height) = and_parts (version && is_side h.width) (is_side h.height) d in
-    let (g, width) = and_parts version (is_side h.width) f in
-    let (least, most) = and_parts (nat_le 1 h.version) (nat_le h.version 2) g in
+    let (b, filter) = and_parts (front && is_depth h.depth && nat_le h.sampling 2) (nat_le (filter_number h.filter) 3) a in
+    let (c, sampling) = and_parts (front && is_depth h.depth) (nat_le h.sampling 2) b in
+    let (d, depth) = and_parts front (is_depth h.depth) c in
+    let sides = sides_read h d in
     record {
-      least_version = leb-true 1 h.version least;
-      most_version = leb-true h.version 2 most;
-      width = side_is h.width width;
-      height = side_is h.height height;
+      least_version = sides.least_version;
+      most_version = sides.most_version;
+      width = sides.width;
+      height = sides.height;
+      shown_width = sides.shown_width;
+      shown_height = sides.shown_height;
       depth = depth_is h.depth depth;
       sampling = leb-true h.sampling 2 sampling;
       filter = omega (arith, leb-true (filter_number h.filter) 3 filter);

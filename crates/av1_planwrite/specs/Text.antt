@@ -43,12 +43,14 @@ quad v = to_le_bytes w32 v
 
 -- the letters of a version
 abbrev pub letters : ℕ → List ℕ
-letters version = if version == 2 then codes "RPL2" else codes "RPL1"
+letters version =
+    if version == 3 then codes "RPL3" else
+    if version == 2 then codes "RPL2" else codes "RPL1"
 
 -- the frame, and what holds for all leaves
 unfoldable pub header_text : Header → List ℕ
 header_text h =
-    letters h.version ++ pair h.width ++ pair h.height ++ byte h.depth ++ byte h.sampling
+    letters h.version ++ pair h.shown_width ++ pair h.shown_height ++ byte h.depth ++ byte h.sampling
     ++ byte (filter_number h.filter)
     ++ byte (if h.edge_filter then 1 else 0) ++ h.slots ++ byte h.mask
 

@@ -1,7 +1,8 @@
 //! Which arguments the calls of a builder admit.
 
-ghost use Rattle.std.specs.Prelude.{◌≡◌, ◌<◌, ◌≤◌, ◌^◌, true, nat_le, length};
+ghost use Rattle.std.specs.Prelude.{◌≡◌, ◌<◌, ◌≤◌, ◌^◌, ◌==◌, true, nat_le, length};
 ghost use Rattle.std.specs.List.{list_all};
+ghost use Rattle.av1_plan.specs.Geometry.{coded_side};
 ghost use Rattle.av1_plan.specs.Grammar.{is_side, is_depth};
 ghost use Rattle.av1_planwrite.specs.Building.{admits_header, admits_plane, admits_reference, is_named, admits_chroma, admits_kind, admits_counts};
 ghost use Rattle.av1_planwrite.specs.Building.{admits_fields};
@@ -14,10 +15,17 @@ use av1_plan::{ChromaMode, Header, LeafKind};
 // ---- the header
 
 /// Whether a frame may have a side of so many luma samples.
-fn is_side(side: u16) -> bool
-    ensures { result ≡ is_side side }
+fn is_side(version: u8, side: u16) -> bool
+    ensures { result ≡ is_side version side }
 {
-    side % 8 == 0 && 8 <= side && side <= 2048
+    (version == 3 || side % 8 == 0) && 1 <= side && side <= 2048
+}
+
+/// Whether this is the side that is coded where that one is shown.
+fn is_coded(coded: u16, shown: u16) -> bool
+    ensures { result ≡ (coded == coded_side shown) }
+{
+    u32::from(coded) == (u32::from(shown) + 7) / 8 * 8
 }
 
 /// Whether samples may have so many bits.
@@ -52,9 +60,11 @@ pub fn admits_header(header: &Header) -> bool
         ..
     } = *header;
     1 <= header.version
-        && header.version <= 2
-        && is_side(header.width)
-        && is_side(header.height)
+        && header.version <= 3
+        && is_side(header.version, header.shown_width)
+        && is_side(header.version, header.shown_height)
+        && is_coded(header.width, header.shown_width)
+        && is_coded(header.height, header.shown_height)
         && is_depth(header.depth)
         && header.sampling <= 2
         && header.filter.number() <= 3

@@ -7,7 +7,7 @@ use Rattle.av1_tile.specs.declared.predicted.PredictedPlanes.{PredictedPlanes}
 use Rattle.av1_tile.specs.Canvas.{Component, Y, U, V}
 use Rattle.av1_tile.specs.Edge.{sample_of}
 use Rattle.av1_tile.specs.Output.{by_rows, sample_bytes, visible}
-use Rattle.av1_tile.specs.PlaneBlocks.{extent_of, number}
+use Rattle.av1_tile.specs.PlaneBlocks.{number, shown_of}
 use Rattle.av1_tile.specs.Predicted.{ShowsPredictions, predictions_of, slow_predictions}
 
 -- the samples of each plane, where they are told by their lists
@@ -25,7 +25,7 @@ pub kept_are : {T : Type 0} (num : T → ℕ) (plan : PlanValue) (kept : Predict
 unfolding predictions_of visible
 kept_are num plan kept depth deep shows =
     let bytes : List ℕ → List ℕ = flat_map (sample_bytes plan.header.depth) in
-    let rows : Component → List ℕ = λ k. by_rows (extent_of plan.header (number k)) (λ x y. sample_of (slow_predictions plan k x y)) in
+    let rows : Component → List ℕ = λ k. by_rows (shown_of plan.header (number k)) (λ x y. sample_of (slow_predictions plan k x y)) in
     let y = map num kept.y.samples in
     let u = map num kept.u.samples in
     let v = map num kept.v.samples in

@@ -4,10 +4,11 @@ use Rattle.std.specs.List.{flat_map, sum_by}
 use Rattle.std.proofs.lemmas.List.{length-map}
 use Rattle.std.proofs.lemmas.List.FromFn.{sum_by-map-range_with_len_more, length-map-range_with_len}
 use Rattle.std.proofs.lemmas.List.Sums.{sum_by-append, sum_by-cons}
-use Rattle.av1_plan.specs.Geometry.{plane_width}
+use Rattle.av1_plan.specs.Geometry.{shown_columns}
 use Rattle.av1_plan.specs.declared.header.Header.{Header}
+use Rattle.av1_plan.proofs.Shown.{columns_few}
 use Rattle.av1_lists.specs.Lists.{by_index}
-use Rattle.av1_tile.specs.PlaneBlocks.{extent_of, component}
+use Rattle.av1_tile.specs.PlaneBlocks.{shown_of, component}
 use Rattle.av1_tile.specs.State.{Picture, state_header, shown, state_row}
 use Rattle.av1_tile.specs.Output.{by_rows}
 
@@ -25,17 +26,16 @@ pub rows_total-more : {T : Type 0} (num : T → ℕ) (s : Picture T) (p y : ℕ)
 rows_total-more num s p y = sum_by-map-range_with_len_more (λ r. sum (state_row num s p r)) (λ r. r) 0 y y (omega arith)
 
 -- all rows
-pub rows_total-all : {T : Type 0} (num : T → ℕ) (s : Picture T) (p n : ℕ) → n ≡ (extent_of (state_header s) p).height →
-    rows_total num s p n ≡ sum (by_rows (extent_of (state_header s) p) (shown num s (component p)))
-rows_total-all num s p n e = ap (rows_total num s p) e ∙ sym (sum-flat_map (λ y. state_row num s p y) (by_index (extent_of (state_header s) p).height (λ y. y)))
+pub rows_total-all : {T : Type 0} (num : T → ℕ) (s : Picture T) (p n : ℕ) → n ≡ (shown_of (state_header s) p).height →
+    rows_total num s p n ≡ sum (by_rows (shown_of (state_header s) p) (shown num s (component p)))
+rows_total-all num s p n e = ap (rows_total num s p) e ∙ sym (sum-flat_map (λ y. state_row num s p y) (by_index (shown_of (state_header s) p).height (λ y. y)))
 
 -- a row that was lent is no longer than the frame is wide
 pub row_within : {T : Type 0} (num : T → ℕ) (s : Picture T) (p y : ℕ) (h : Header) (row : List T) → h ≡ state_header s → map num row ≡ state_row num s p y →
-    length row ≤ h.width
-unfolding plane_width
+    length row ≤ h.shown_width
 row_within num s p y h row same is =
-    let width : length row ≡ plane_width (state_header s) p =
-    sym (length-map row num) ∙ ap length is ∙ length-map-range_with_len (λ x. shown num s (component p) x y) 0 (plane_width (state_header s) p) in
-    let narrow : plane_width (state_header s) p ≤ (state_header s).width = omega arith in
-    let wide : h.width ≡ (state_header s).width = ap (λ (g : Header). g.width) same in
+    let width : length row ≡ shown_columns (state_header s) p =
+    sym (length-map row num) ∙ ap length is ∙ length-map-range_with_len (λ x. shown num s (component p) x y) 0 (shown_columns (state_header s) p) in
+    let narrow = columns_few (state_header s) p in
+    let wide : h.shown_width ≡ (state_header s).shown_width = ap (λ (g : Header). g.shown_width) same in
     omega (arith, width, narrow, wide)

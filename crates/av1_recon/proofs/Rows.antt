@@ -11,11 +11,11 @@ use lib.Seq.{take-add}
 use Rattle.av1_lists.specs.Lists.{by_index}
 use Rattle.av1_frame.specs.declared.plane.Plane.{Plane}
 use Rattle.av1_frame.specs.Planes.{sample_at}
-use Rattle.av1_plan.specs.Geometry.{plane_width, plane_height}
+use Rattle.av1_plan.specs.Geometry.{shown_columns, shown_rows}
 use Rattle.av1_plan.specs.declared.header.Header.{Header}
 use Rattle.av1_streams.specs.Streams.{AppendsPrefix}
 use Rattle.av1_streams.proofs.Prefixes.{AppendsPrefix-all, AppendsPrefix-first, AppendsPrefix-after}
-use Rattle.av1_tile.specs.PlaneBlocks.{extent_of}
+use Rattle.av1_tile.specs.PlaneBlocks.{shown_of}
 use Rattle.av1_tile.specs.State.{Picture, state_header}
 use Rattle.av1_tile.specs.Output.{plane_bytes, sample_bytes}
 
@@ -61,7 +61,7 @@ AppendsPrefix-piece num depth row a b c at n bytes before piece next =
 
 -- the bytes of a row of plane p of a frame
 abbrev pub row_bytes : {T : Type 0} → (T → ℕ) → Header → Plane T → ℕ → ℕ → List ℕ
-row_bytes num h plane p y = flat_map (sample_bytes h.depth) (by_index (plane_width h p) (λ x. sample_at num plane x y))
+row_bytes num h plane p y = flat_map (sample_bytes h.depth) (by_index (shown_columns h p) (λ x. sample_at num plane x y))
 
 -- the bytes of its first rows
 abbrev pub rows_below : {T : Type 0} → (T → ℕ) → Header → Plane T → ℕ → ℕ → List ℕ
@@ -93,7 +93,7 @@ rows_split num h plane p y n =
 
 -- a row as it was lent
 pub row_is : {T : Type 0} (num : T → ℕ) (h : Header) (plane : Plane T) (p y : ℕ) (row : List T) →
-    map num row ≡ by_index (plane_width h p) (λ x. sample_at num plane x y) → bytes_of num h.depth row ≡ row_bytes num h plane p y
+    map num row ≡ by_index (shown_columns h p) (λ x. sample_at num plane x y) → bytes_of num h.depth row ≡ row_bytes num h plane p y
 row_is num h plane p y row is = ap (flat_map (sample_bytes h.depth)) is
 
 -- one row more
@@ -104,23 +104,23 @@ Appends-row num h plane p y a b c before next =
     (Appends-trans a b c _ _ before next)
 
 -- how many rows the header that was lent has
-pub height_is : {T : Type 0} (s : Picture T) (p n : ℕ) (h : Header) → n ≡ plane_height h p → h ≡ state_header s → n ≡ (extent_of (state_header s) p).height
-height_is s p n h rows same = rows ∙ ap (λ (k : Header). plane_height k p) same
+pub height_is : {T : Type 0} (s : Picture T) (p n : ℕ) (h : Header) → n ≡ shown_rows h p → h ≡ state_header s → n ≡ (shown_of (state_header s) p).height
+height_is s p n h rows same = rows ∙ ap (λ (k : Header). shown_rows k p) same
 
 -- all rows are the plane
-pub rows_are_plane : {T : Type 0} (num : T → ℕ) (h : Header) (plane : Plane T) (p n m : ℕ) → n ≡ m → m ≡ plane_height h p →
-    rows_below num h plane p n ≡ plane_bytes (extent_of h p) (sample_at num plane)
+pub rows_are_plane : {T : Type 0} (num : T → ℕ) (h : Header) (plane : Plane T) (p n m : ℕ) → n ≡ m → m ≡ shown_rows h p →
+    rows_below num h plane p n ≡ plane_bytes (shown_of h p) (sample_at num plane)
 rows_are_plane num h plane p n m same e =
-    let all = range_with_len 0 (plane_height h p) in
-    let line : ℕ → List ℕ = λ y. by_index (plane_width h p) (λ x. sample_at num plane x y) in
+    let all = range_with_len 0 (shown_rows h p) in
+    let line : ℕ → List ℕ = λ y. by_index (shown_columns h p) (λ x. sample_at num plane x y) in
     let bytes = sample_bytes h.depth in
     ap (rows_below num h plane p) same ∙ ap (rows_below num h plane p) e
     ∙ sym (ap (flat_map bytes) (flat_map-map line (λ y. y) all) ∙ flat_map-flat_map bytes line all)
 
 -- a prefix of the next row
-pub AppendsPrefix-row : {T : Type 0} (num : T → ℕ) (h : Header) (plane : Plane T) (p y n : ℕ) (a b c : Option (List ℕ)) → n ≡ plane_height h p → y < n
+pub AppendsPrefix-row : {T : Type 0} (num : T → ℕ) (h : Header) (plane : Plane T) (p y n : ℕ) (a b c : Option (List ℕ)) → n ≡ shown_rows h p → y < n
     → Appends a b (rows_below num h plane p y) → AppendsPrefix b c (row_bytes num h plane p y) →
-    AppendsPrefix a c (plane_bytes (extent_of h p) (sample_at num plane))
+    AppendsPrefix a c (plane_bytes (shown_of h p) (sample_at num plane))
 AppendsPrefix-row num h plane p y n a b c e within before next =
     let count : y + (1 + (n - y - 1)) ≡ n = omega arith in
     let whole = sym (rows_split num h plane p y (n - y - 1)) ∙ rows_are_plane num h plane p _ n count e in

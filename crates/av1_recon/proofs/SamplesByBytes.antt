@@ -8,7 +8,7 @@ use Rattle.av1_plan.specs.declared.header.Header.{Header}
 use Rattle.av1_tile.specs.declared.extent.PlaneExtent.{PlaneExtent}
 use Rattle.av1_tile.specs.Canvas.{Component, Y, U, V}
 use Rattle.av1_lists.specs.Lists.{by_index}
-use Rattle.av1_tile.specs.PlaneBlocks.{number, extent_of}
+use Rattle.av1_tile.specs.PlaneBlocks.{number, shown_of}
 use Rattle.av1_tile.specs.Output.{by_rows, plane_bytes, visible}
 
 -- the bytes of a sample: one, or the lower of two first
@@ -50,20 +50,20 @@ plane_once extent f g p q e =
     once (extent.depth == 8) (by_rows extent f) (by_rows extent g) p q (same_length extent.width f g (by_index extent.height (λ y. y))) e
 
 planes_once : (h : Header) (f g : Component → ℕ → ℕ → ℕ) → visible h f ≡ visible h g
-    → (by_rows (extent_of h 0) (f Y) ≡ by_rows (extent_of h 0) (g Y)) × (by_rows (extent_of h 1) (f U) ≡ by_rows (extent_of h 1) (g U)) ×
-    (by_rows (extent_of h 2) (f V) ≡ by_rows (extent_of h 2) (g V))
+    → (by_rows (shown_of h 0) (f Y) ≡ by_rows (shown_of h 0) (g Y)) × (by_rows (shown_of h 1) (f U) ≡ by_rows (shown_of h 1) (g U)) ×
+    (by_rows (shown_of h 2) (f V) ≡ by_rows (shown_of h 2) (g V))
 unfolding visible
 planes_once h f g e =
-    let bytes : (Component → ℕ → ℕ → ℕ) → ℕ → Component → List ℕ = λ s n k. plane_bytes (extent_of h n) (s k) in
-    let (y, rest) = plane_once (extent_of h 0) (f Y) (g Y) (bytes f 1 U ++ bytes f 2 V) (bytes g 1 U ++ bytes g 2 V)
+    let bytes : (Component → ℕ → ℕ → ℕ) → ℕ → Component → List ℕ = λ s n k. plane_bytes (shown_of h n) (s k) in
+    let (y, rest) = plane_once (shown_of h 0) (f Y) (g Y) (bytes f 1 U ++ bytes f 2 V) (bytes g 1 U ++ bytes g 2 V)
     (sym (append_assoc (bytes f 0 Y) (bytes f 1 U) (bytes f 2 V)) ∙ e ∙ append_assoc (bytes g 0 Y) (bytes g 1 U) (bytes g 2 V)) in
-    let (u, last) = plane_once (extent_of h 1) (f U) (g U) (bytes f 2 V) (bytes g 2 V) rest in
-    let (v, none) = plane_once (extent_of h 2) (f V) (g V) [] [] (append-nil (bytes f 2 V) ∙ last ∙ sym (append-nil (bytes g 2 V))) in
+    let (u, last) = plane_once (shown_of h 1) (f U) (g U) (bytes f 2 V) (bytes g 2 V) rest in
+    let (v, none) = plane_once (shown_of h 2) (f V) (g V) [] [] (append-nil (bytes f 2 V) ∙ last ∙ sym (append-nil (bytes g 2 V))) in
     (y, u, v)
 
 -- samples that are the same by their bytes are the same by their rows
 pub same_rows : (h : Header) (f g : Component → ℕ → ℕ → ℕ) → visible h f ≡ visible h g → (k : Component) →
-    by_rows (extent_of h (number k)) (f k) ≡ by_rows (extent_of h (number k)) (g k)
+    by_rows (shown_of h (number k)) (f k) ≡ by_rows (shown_of h (number k)) (g k)
 same_rows h f g e Y = (planes_once h f g e).0
 same_rows h f g e U = (planes_once h f g e).1
 same_rows h f g e V = (planes_once h f g e).2

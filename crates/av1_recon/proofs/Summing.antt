@@ -7,7 +7,7 @@ use Rattle.av1_plan.specs.Plan.{PlanValue}
 use Rattle.av1_tile.specs.Edge.{sample_of}
 use Rattle.av1_plan.proofs.Spans.{length-leaf_values}
 use Rattle.av1_tile.specs.Canvas.{Component, Y, U, V}
-use Rattle.av1_tile.specs.PlaneBlocks.{number, extent_of}
+use Rattle.av1_tile.specs.PlaneBlocks.{number, shown_of}
 use Rattle.av1_tile.specs.State.{Picture, state_header, shown}
 use Rattle.av1_tile.specs.Output.{by_rows, planes_of, visible}
 use Rattle.av1_tile.specs.Reference.{slow_walk}
@@ -16,7 +16,7 @@ use Rattle.av1_recon.proofs.SamplesByBytes.{same_rows}
 
 -- the sum of the samples that a state shows of a plane
 abbrev state_sum : {T : Type 0} → (T → ℕ) → Picture T → Component → Header → ℕ
-state_sum num s k h = sum (by_rows (extent_of h (number k)) (shown num s k))
+state_sum num s k h = sum (by_rows (shown_of h (number k)) (shown num s k))
 
 -- the lines of the same numbers
 same_lines : {n y u v n' y' u' v' : ℕ} → n ≡ n' → y ≡ y' → u ≡ u' → v ≡ v' → four_lines n y u v ≡ four_lines n' y' u' v'

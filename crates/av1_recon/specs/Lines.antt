@@ -2,7 +2,7 @@
 use Rattle.std.specs.Prelude.{ℕ, List, ◌++◌, length, sum, codes, decimal}
 use Rattle.av1_plan.specs.Plan.{PlanValue}
 use Rattle.av1_tile.specs.Canvas.{Component, Y, U, V}
-use Rattle.av1_tile.specs.PlaneBlocks.{number, extent_of}
+use Rattle.av1_tile.specs.PlaneBlocks.{number, shown_of}
 use Rattle.av1_tile.specs.Edge.{sample_of}
 use Rattle.av1_tile.specs.Output.{by_rows}
 use Rattle.av1_tile.specs.Reference.{slow_walk}
@@ -16,7 +16,7 @@ four_lines leaves y u v =
 -- the sum of the visible samples of a plane, by the slow definition
 abbrev pub visible_sum : PlanValue → Component → ℕ
 visible_sum plan component =
-    sum (by_rows (extent_of plan.header (number component)) (λ x y. sample_of (slow_walk plan component x y)))
+    sum (by_rows (shown_of plan.header (number component)) (λ x y. sample_of (slow_walk plan component x y)))
 
 -- the lines of a plan
 unfoldable pub sum_lines : PlanValue → List ℕ

@@ -5,7 +5,7 @@ ghost use Rattle.std.specs.Io.KnownBytes.{Appends};
 ghost use Rattle.av1_frame.specs.Planes.{sample_at};
 ghost use Rattle.av1_streams.specs.Faults.{HasCause};
 ghost use Rattle.av1_streams.specs.Streams.{AppendsPrefix};
-ghost use Rattle.av1_tile.specs.PlaneBlocks.{extent_of};
+ghost use Rattle.av1_tile.specs.PlaneBlocks.{shown_of};
 ghost use Rattle.av1_tile.specs.State.{IsSound, state_header, shown};
 ghost use Rattle.av1_tile.specs.Output.{visible, plane_bytes, sample_bytes};
 ghost use Rattle.av1_tile.specs.Walk.{AreFrame, IsPlaneOf, samples_of};
@@ -54,6 +54,7 @@ pub fn write_frame<T: Pixel, W: Sink>(
 }
 
 // Appends the visible rows of plane `p` of a frame, or a prefix of their bytes.
+#[tactic(auto, using(av1_tile::proofs::Pictures::shows_part))]
 fn write_plane<T: Pixel, W: Sink>(
     header: &Header,
     plane: &Plane<T>,
@@ -63,11 +64,11 @@ fn write_plane<T: Pixel, W: Sink>(
 ) -> Result<(), WriteFault>
     requires plane { IsPlaneOf header.now p plane.now }
     requires narrow { header.now.depth ≡ 8 → T.BITS ≤ 8 }
-    ensures whole { OnOk result (Appends (W.taken sink.old) (W.taken sink.new) (plane_bytes (extent_of header.now p) (sample_at T.num plane.now))) }
-    ensures prefix { AppendsPrefix (W.taken sink.old) (W.taken sink.new) (plane_bytes (extent_of header.now p) (sample_at T.num plane.now)) }
+    ensures whole { OnOk result (Appends (W.taken sink.old) (W.taken sink.new) (plane_bytes (shown_of header.now p) (sample_at T.num plane.now))) }
+    ensures prefix { AppendsPrefix (W.taken sink.old) (W.taken sink.new) (plane_bytes (shown_of header.now p) (sample_at T.num plane.now)) }
     ensures cause { HasCause (W.faults sink.old) (W.faults sink.new) result }
 {
-    for y in 0..header.plane_height(p) {
+    for y in 0..header.shown_rows(p) {
         write_row(header.depth, visible_row(plane, header, p, y), buffer, sink)?;
     }
     Ok(())

@@ -1,6 +1,6 @@
 //! Sums of the visible samples of a picture.
 ghost use Rattle.std.specs.Prelude.{◌≡◌, ◌<◌, sum};
-ghost use Rattle.av1_tile.specs.PlaneBlocks.{extent_of, component};
+ghost use Rattle.av1_tile.specs.PlaneBlocks.{shown_of, component};
 ghost use Rattle.av1_tile.specs.State.{IsSound, state_header, shown};
 ghost use Rattle.av1_tile.specs.Output.{by_rows};
 
@@ -13,7 +13,7 @@ use av1_plan::Header;
 pub fn plane_sum<T: Pixel>(state: &TileState<T>, p: usize) -> u64
     requires sound { IsSound T.num state.now }
     requires plane { p < 3 }
-    ensures { result ≡ sum (by_rows (extent_of (state_header state.now) p) (shown T.num state.now (component p))) }
+    ensures { result ≡ sum (by_rows (shown_of (state_header state.now) p) (shown T.num state.now (component p))) }
 {
     rows_sum(state, *state.header(), p)
 }
@@ -24,10 +24,10 @@ fn rows_sum<T: Pixel>(state: &TileState<T>, header: Header, p: usize) -> u64
     requires sound { IsSound T.num state.now }
     requires made { header ≡ state_header state.now }
     requires plane { p < 3 }
-    ensures { result ≡ sum (by_rows (extent_of (state_header state.now) p) (shown T.num state.now (component p))) }
+    ensures { result ≡ sum (by_rows (shown_of (state_header state.now) p) (shown T.num state.now (component p))) }
 {
     let mut total = 0;
-    for y in 0..header.plane_height(p) {
+    for y in 0..header.shown_rows(p) {
         total += u64::from(sum_of(state.row(p, y)));
     }
     total

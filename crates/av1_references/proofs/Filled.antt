@@ -10,7 +10,7 @@ use Rattle.av1_frame.specs.Planes.{InPlane, IsWhole, new_config, padded, painted
 use Rattle.av1_frame.proofs.Planes.{painted_plane_whole, sample_at_inside}
 use Rattle.av1_inter.proofs.Vectors.{padded_is_padded, visible_stays}
 use Rattle.av1_plan.specs.declared.header.Header.{Header}
-use Rattle.av1_plan.specs.Geometry.{plane_height, plane_width, xdec, ydec}
+use Rattle.av1_plan.specs.Geometry.{shown_rows, shown_columns, xdec, ydec}
 use Rattle.av1_references.specs.References.{HoldsPlane}
 
 -- samples that lie below a bound do so past the end of their list too, where they count as 0
@@ -43,7 +43,7 @@ module _ {T : Type 0} (num : T → ℕ) (pixel : ℕ → T) (back : (v : T) → 
       ∙ forth _
 
   put_holds : (h : Header) (p : ℕ) → 80 / 2 ^ xdec h p ≤ plane.plane_cfg.xpad → 80 / 2 ^ ydec h p ≤ plane.plane_cfg.ypad →
-      plane.plane_cfg.width ≡ plane_width h p → plane.plane_cfg.height ≡ plane_height h p
+      plane.plane_cfg.width ≡ shown_columns h p → plane.plane_cfg.height ≡ shown_rows h p
       → plane.plane_cfg.xdec ≡ xdec h p → plane.plane_cfg.ydec ≡ ydec h p → All (λ sample. sample < 2 ^ h.depth) samples →
       HoldsPlane num h p samples (padded put)
   put_holds h p xpad ypad w t dx dy below = record {
@@ -63,8 +63,8 @@ module _ {T : Type 0} (num : T → ℕ) (pixel : ℕ → T) (back : (v : T) → 
 -- Such a plane holds plane p of a frame, where it was made with that plane's sides and decimations.
 pub filled_holds : {T : Type 0} (num : T → ℕ) (pixel : ℕ → T) (back : (v : T) → pixel (num v) ≡ v) (forth : (v : ℕ) → num (pixel v) ≡ v) (samples : List ℕ)
     (made filled result : Plane T) {width height dx dy xpad ypad : ℕ} (h : Header) (p : ℕ)
-    → IsWhole made → made.plane_cfg ≡ new_config width height dx dy xpad ypad → xpad ≡ 80 / 2 ^ dx → ypad ≡ 80 / 2 ^ dy → width ≡ plane_width h p →
-    height ≡ plane_height h p → dx ≡ xdec h p → dy ≡ ydec h p
+    → IsWhole made → made.plane_cfg ≡ new_config width height dx dy xpad ypad → xpad ≡ 80 / 2 ^ dx → ypad ≡ 80 / 2 ^ dy → width ≡ shown_columns h p →
+    height ≡ shown_rows h p → dx ≡ xdec h p → dy ≡ ydec h p
     → All (λ sample. sample < 2 ^ h.depth) samples →
     filled ≡ painted_plane made (all_visible made.plane_cfg) (λ r c _. pixel (slice_index samples (r * made.plane_cfg.width + c)))
     → result ≡ padded filled → HoldsPlane num h p samples result

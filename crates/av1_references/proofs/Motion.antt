@@ -6,7 +6,7 @@ use Rattle.av1_blocks.specs.declared.partition.RefType.{RefType}
 use Rattle.av1_frame.specs.declared.frame_invariants.FrameInvariants.{FrameInvariants}
 use Rattle.av1_frame.specs.Areas.{VisibleArea}
 use Rattle.av1_inter.specs.Reference.{vector_of, reference_of as reference_in}
-use Rattle.av1_plan.specs.Geometry.{plane_width}
+use Rattle.av1_plan.specs.Geometry.{shown_columns}
 use Rattle.av1_plan.specs.Plan.{PlanValue}
 use Rattle.av1_plan.specs.Validity.{has_reference}
 use Rattle.av1_references.specs.Laws.{CompoundMotionLiesWithin, SingleMotionLiesWithin}
@@ -19,7 +19,7 @@ pub single_motion_within : SingleMotionLiesWithin
 single_motion_within value p reference mv area r c some_columns some_rows below =
     single_prediction_within value.header.depth value.header.filter (reference_plane value (slot_in value.header reference) p) mv area r c some_columns
     some_rows
-    (λ x y _ _. read_below (slot_samples value (slot_in value.header reference) p) (2 ^ value.header.depth) (y * plane_width value.header p + x)
+    (λ x y _ _. read_below (slot_samples value (slot_in value.header reference) p) (2 ^ value.header.depth) (y * shown_columns value.header p + x)
     (pow_pos value.header.depth) below)
 
 pub compound_motion_within : CompoundMotionLiesWithin

@@ -3,7 +3,7 @@ use Rattle.std.specs.Prelude.{ℕ, ◌^◌, ◌<◌, List, All}
 use Rattle.av1_blocks.specs.declared.mc.MotionVector.{MotionVector}
 use Rattle.av1_blocks.specs.declared.partition.RefType.{RefType}
 use Rattle.av1_frame.specs.Areas.{VisibleArea}
-use Rattle.av1_plan.specs.Geometry.{plane_height, plane_width}
+use Rattle.av1_plan.specs.Geometry.{shown_rows, shown_columns}
 use Rattle.av1_plan.specs.Plan.{PlanValue}
 use Rattle.av1_references.specs.References.{compound_motion, single_motion, slot_in, slot_samples}
 
@@ -11,7 +11,7 @@ use Rattle.av1_references.specs.References.{compound_motion, single_motion, slot
 abbrev pub SingleMotionLiesWithin : Type 0
 SingleMotionLiesWithin =
     (value : PlanValue) (p : ℕ) (reference : RefType) (mv : MotionVector) (area : VisibleArea) (r c : ℕ)
-    → 0 < plane_width value.header p → 0 < plane_height value.header p
+    → 0 < shown_columns value.header p → 0 < shown_rows value.header p
     → All (λ sample. sample < 2 ^ value.header.depth) (slot_samples value (slot_in value.header reference) p)
     → single_motion value p reference mv area r c < 2 ^ value.header.depth
 

@@ -16,7 +16,7 @@ use Rattle.av1_inter.specs.Prediction.{compound_prediction, single_prediction}
 use Rattle.av1_inter.specs.Reference.{IsPadded, ReferencePlane, slot_of, vector_of, reference_of as reference_in}
 use Rattle.av1_plan.specs.declared.geometry.PlaneArea.{PlaneArea}
 use Rattle.av1_plan.specs.declared.header.Header.{Header}
-use Rattle.av1_plan.specs.Geometry.{has_slot, plane_height, plane_width, xdec, ydec}
+use Rattle.av1_plan.specs.Geometry.{has_slot, shown_rows, shown_columns, xdec, ydec}
 use Rattle.av1_plan.specs.Plan.{PlanValue, carried_plane}
 use Rattle.av1_plan.specs.Validity.{has_reference}
 
@@ -26,14 +26,14 @@ use Rattle.av1_plan.specs.Validity.{has_reference}
 abbrev pub slot_samples : PlanValue → (slot p : ℕ) → List ℕ
 slot_samples value slot p = unwrap_or (carried_plane value slot p) []
 
--- plane p of a slot, as motion compensation reads it
+-- plane p of a slot, as motion compensation reads it: what is shown of it
 abbrev pub reference_plane : PlanValue → (slot p : ℕ) → ReferencePlane
 reference_plane value slot p = record {
-  width = plane_width value.header p;
-  height = plane_height value.header p;
+  width = shown_columns value.header p;
+  height = shown_rows value.header p;
   xdec = xdec value.header p;
   ydec = ydec value.header p;
-  sample = λ x y. slice_index (slot_samples value slot p) (y * plane_width value.header p + x);
+  sample = λ x y. slice_index (slot_samples value slot p) (y * shown_columns value.header p + x);
 }
 
 -- the slot that a reference names: reference n, from 1 to 7, names the header's slot in place n - 1
@@ -62,21 +62,21 @@ compound_motion value p references mvs area r c =
 
 -- ---- the frame settings that hold them
 
--- These samples, row by row, are those of a plane that stores plane p of a frame, padded for blocks of sides up to 64
--- in luma: their filters reach 7 samples past a side. Where the plane is halved, the sides of blocks are, and so are
--- its pads.
+-- These samples, row by row, are those of a plane that stores what is shown of plane p of a frame, padded for blocks of
+-- sides up to 64 in luma: their filters reach 7 samples past a side. Where the plane is halved, the sides of blocks
+-- are, and so are its pads.
 pub record HoldsPlane {T : Type 0} (num : T → ℕ) (h : Header) (p : ℕ) (samples : List ℕ)
     (plane : Plane T) : Type 0 where
   pub padded : IsPadded num plane
   pub xpad : 80 / 2 ^ xdec h p ≤ plane.plane_cfg.xpad
   pub ypad : 80 / 2 ^ ydec h p ≤ plane.plane_cfg.ypad
-  pub width : plane.plane_cfg.width ≡ plane_width h p
-  pub height : plane.plane_cfg.height ≡ plane_height h p
+  pub width : plane.plane_cfg.width ≡ shown_columns h p
+  pub height : plane.plane_cfg.height ≡ shown_rows h p
   pub xdec : plane.plane_cfg.xdec ≡ xdec h p
   pub ydec : plane.plane_cfg.ydec ≡ ydec h p
-  pub shows : (x y : ℕ) → x < plane_width h p → y < plane_height h p →
-      sample_at num plane x y ≡ slice_index samples (y * plane_width h p + x)
-  pub within : (x y : ℕ) → x < plane_width h p → y < plane_height h p → sample_at num plane x y < 2 ^ h.depth
+  pub shows : (x y : ℕ) → x < shown_columns h p → y < shown_rows h p →
+      sample_at num plane x y ≡ slice_index samples (y * shown_columns h p + x)
+  pub within : (x y : ℕ) → x < shown_columns h p → y < shown_rows h p → sample_at num plane x y < 2 ^ h.depth
 
 -- the settings of a frame are those of a header
 pub record HasSettings {T : Type 0} (h : Header) (fi : FrameInvariants T) : Type 0 where

@@ -29,7 +29,7 @@ fn pad_of(decimation: usize) -> usize
     PAD >> decimation
 }
 
-/// A padded plane with the sides of plane `p` of a frame, and these samples, row by row.
+/// A padded plane with the sides of what is shown of plane `p` of a frame, and these samples, row by row.
 pub(crate) fn padded_plane<T: Pixel>(
     alloc: Global,
     header: &Header,
@@ -41,8 +41,8 @@ pub(crate) fn padded_plane<T: Pixel>(
     requires samples { ArePlane header.now p samples.now }
     ensures { IfOk result (HoldsPlane T.num header.now p samples.now) }
 {
-    let width = header.plane_width(p);
-    let height = header.plane_height(p);
+    let width = header.shown_columns(p);
+    let height = header.shown_rows(p);
     let xdec = header.xdec(p);
     let ydec = header.ydec(p);
     let mut plane = Plane::new(alloc, width, height, xdec, ydec, pad_of(xdec), pad_of(ydec))?;

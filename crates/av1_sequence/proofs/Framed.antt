@@ -11,7 +11,7 @@ use Rattle.av1_frame.specs.declared.slots.Slot.{Slot}
 use Rattle.av1_lists.specs.Lists.{by_index}
 use Rattle.av1_lists.proofs.Lists.{by_index-same, get_or-by_index}
 use Rattle.av1_plan.specs.declared.header.Header.{Header}
-use Rattle.av1_plan.specs.Geometry.{plane_width}
+use Rattle.av1_plan.specs.Geometry.{shown_columns}
 use Rattle.av1_plan.specs.Grammar.{plan as grammar, superblocks}
 use Rattle.av1_plan.specs.Lengths.{slot_bytes}
 use Rattle.av1_plan.specs.Plan.{LeafValue, PlanValue}
@@ -205,7 +205,7 @@ module _ {T C : Type 0} {g : _} {ord : _} {eq : _} {partial : _} {coeff : _} (k 
   -- ---- rows
 
   abbrev row_of : Header → (p y : ℕ) → Frame → List ℕ
-  row_of f p y frame = row_in (plane_width f p) (slice_index_or frame p []) y
+  row_of f p y frame = row_in (shown_columns f p) (slice_index_or frame p []) y
 
   moved_row : (o : Option (List ℕ)) (p y : ℕ) → (see : Kept → Option Frame) → o ≡ option_map (row_of h p y) (see (seen g.num h fi places last)) →
       o ≡ option_map (row_of k.frames p y) (see k)

@@ -2,7 +2,7 @@
 use Rattle.std.proofs.Common.{ℕ, zero, suc, ◌+◌, ◌*◌, ◌≡◌, ◌≤◌, Bool, if◌then◌else◌, ◌++◌, length, refl, ap, ◌∙◌, arith}
 use Rattle.std.proofs.lemmas.List.{length-append}
 use Rattle.av1_plan.specs.declared.header.Header.{Header}
-use Rattle.av1_plan.specs.Geometry.{plane_height, plane_width, xdec, ydec}
+use Rattle.av1_plan.specs.Geometry.{shown_columns, shown_rows, xdec, ydec}
 use Rattle.av1_plan.specs.Lengths.{slot_bytes, slots_held}
 use Rattle.av1_plan.proofs.Lengths.{headers_are_twenty, references_are_slots}
 use Rattle.av1_sequence.specs.declared.head.FrameHead.{FrameHead}
@@ -12,7 +12,7 @@ use Rattle.av1_sequence.proofs.Serving.{mask_is}
 
 -- a slot of a plan is as long as a frame
 slot_same : (frames : Header) (slots : Slots) (head : FrameHead) → slot_bytes (frame_header frames slots head) ≡ slot_bytes frames
-unfolding plane_width plane_height xdec ydec
+unfolding shown_columns shown_rows xdec ydec
 slot_same frames slots head = refl
 
 -- the slots that a plan has are those that are read

@@ -21,7 +21,7 @@ use Rattle.av1_streams.proofs.Prefixes.{AppendsPrefix-after}
 use Rattle.av1_tile.specs.Canvas.{Component, Y, U, V}
 use Rattle.av1_tile.specs.Edge.{sample_of}
 use Rattle.av1_tile.specs.Output.{by_rows, planes_of, sample_bytes, visible}
-use Rattle.av1_tile.specs.PlaneBlocks.{extent_of, number}
+use Rattle.av1_tile.specs.PlaneBlocks.{shown_of, number}
 use Rattle.av1_tile.specs.Reference.{slow_walk}
 use Rattle.av1_sequence.specs.declared.error.FrameError.{FrameError}
 use Rattle.av1_sequence.specs.declared.error.FrameError.TheVariants as frame_errors
@@ -56,7 +56,7 @@ header_is h refs part p (vs, spells, is) = spelled_header (superblocks h) h refs
 
 -- the bytes of one plane, and of all, written at this depth
 abbrev plane_at_depth : ℕ → PlanValue → Component → List ℕ
-plane_at_depth depth plan k = flat_map (sample_bytes depth) (by_rows (extent_of plan.header (number k)) (λ x y. sample_of (slow_walk plan k x y)))
+plane_at_depth depth plan k = flat_map (sample_bytes depth) (by_rows (shown_of plan.header (number k)) (λ x y. sample_of (slow_walk plan k x y)))
 
 abbrev text_at_depth : ℕ → PlanValue → List ℕ
 text_at_depth depth plan = plane_at_depth depth plan Y ++ plane_at_depth depth plan U ++ plane_at_depth depth plan V

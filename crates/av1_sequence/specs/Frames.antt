@@ -12,7 +12,7 @@ use Rattle.av1_plan.specs.Spelling.{AreText, AreRefused}
 use Rattle.av1_tile.specs.Canvas.{Y, U, V}
 use Rattle.av1_tile.specs.Edge.{sample_of}
 use Rattle.av1_tile.specs.Output.{by_rows}
-use Rattle.av1_tile.specs.PlaneBlocks.{extent_of}
+use Rattle.av1_tile.specs.PlaneBlocks.{shown_of}
 use Rattle.av1_tile.specs.Reference.{slow_walk}
 use Rattle.av1_sequence.specs.declared.head.FrameHead.{FrameHead}
 use Rattle.av1_sequence.specs.Slots.{Frame, Slots, slot_of, is_read, bits_of, count_of}
@@ -30,6 +30,8 @@ frame_header frames slots head = record {
   version = 2;
   width = frames.width;
   height = frames.height;
+  shown_width = frames.shown_width;
+  shown_height = frames.shown_height;
   depth = frames.depth;
   sampling = frames.sampling;
   filter = head.filter;
@@ -69,9 +71,9 @@ PlansHaveTheirLength =
 abbrev pub most_bytes : ℕ
 most_bytes = 2 ^ 26
 
--- the visible planes that a plan comes to
+-- what is shown of the planes that a plan comes to
 abbrev pub frame_of : PlanValue → Frame
 frame_of plan =
-    by_rows (extent_of plan.header 0) (λ x y. sample_of (slow_walk plan Y x y))
-    ∷ by_rows (extent_of plan.header 1) (λ x y. sample_of (slow_walk plan U x y))
-    ∷ by_rows (extent_of plan.header 2) (λ x y. sample_of (slow_walk plan V x y)) ∷ []
+    by_rows (shown_of plan.header 0) (λ x y. sample_of (slow_walk plan Y x y))
+    ∷ by_rows (shown_of plan.header 1) (λ x y. sample_of (slow_walk plan U x y))
+    ∷ by_rows (shown_of plan.header 2) (λ x y. sample_of (slow_walk plan V x y)) ∷ []

@@ -23,8 +23,8 @@ pub record FrontValue : Type 0 where
 unfoldable pub front : Format FrontValue
 front = do
   letters ← field (where_ four is_magic)
-  width ← field (where_ two is_side)
-  height ← field (where_ two is_side)
+  width ← field (where_ two (is_side 2))
+  height ← field (where_ two (is_side 2))
   depth ← field (where_ one is_depth)
   sampling ← field (byte_from 0 2)
   count ← field (any two)

@@ -5,15 +5,16 @@ use Rattle.av1_frame.specs.declared.frame_invariants.FrameInvariants.{FrameInvar
 use Rattle.av1_frame.specs.declared.plane.Plane.{Plane}
 use Rattle.av1_frame.specs.declared.slots.Slot.{Slot}
 use Rattle.av1_frame.specs.Frames.{slot_plane}
-use Rattle.av1_frame.specs.Planes.{sample_at}
+use Rattle.av1_frame.specs.Planes.{sample_at, with_sides}
 use Rattle.av1_lists.specs.Lists.{by_index}
 use Rattle.av1_plan.specs.declared.header.Header.{Header}
 use Rattle.av1_plan.specs.Grammar.{is_depth}
-use Rattle.av1_plan.specs.ReadPlans.{IsSide}
+use Rattle.av1_plan.specs.Geometry.{plane_width, plane_height, shown_columns, shown_rows}
+use Rattle.av1_plan.specs.ReadPlans.{IsSide, IsShown}
 use Rattle.av1_references.specs.References.{HoldsPlane}
 use Rattle.av1_tile.specs.declared.planes.Planes.{Planes}
 use Rattle.av1_tile.specs.Output.{by_rows}
-use Rattle.av1_tile.specs.PlaneBlocks.{extent_of}
+use Rattle.av1_tile.specs.PlaneBlocks.{shown_of}
 use Rattle.av1_tile.specs.Walk.{HasPads, HasRoom, StoresAll}
 use Rattle.av1_sequence.specs.Slots.{Frame, Slots}
 
@@ -26,9 +27,9 @@ pub record Kept : Type 0 where
 
 -- ---- planes in memory
 
--- the numbers of the visible samples of plane p, row by row
+-- the numbers of the samples of plane p that are shown, row by row
 abbrev pub plane_shown : {T : Type 0} → (T → ℕ) → Header → ℕ → Plane T → List ℕ
-plane_shown num h p plane = by_rows (extent_of h p) (λ x y. sample_at num plane x y)
+plane_shown num h p plane = by_rows (shown_of h p) (λ x y. sample_at num plane x y)
 
 -- of three planes
 abbrev pub planes_shown : {T : Type 0} → (T → ℕ) → Header → (y u v : Plane T) → Frame
@@ -39,6 +40,16 @@ pub record AreReady {T : Type 0} (num : T → ℕ) (h : Header) (planes : Planes
   pub stores : StoresAll num h planes
   pub room : HasRoom h planes
   pub pads : HasPads h 80 planes
+
+-- a plane of which just what is shown of plane p of a frame is visible, and one of which all that is coded is
+abbrev pub shown_plane : {T : Type 0} → Header → ℕ → Plane T → Plane T
+shown_plane h p = with_sides (shown_columns h p) (shown_rows h p)
+
+abbrev pub coded_plane : {T : Type 0} → Header → ℕ → Plane T → Plane T
+coded_plane h p = with_sides (plane_width h p) (plane_height h p)
+
+abbrev pub coded_planes : {T : Type 0} → Header → (y u v : Plane T) → Planes T
+coded_planes h y u v = record { y = coded_plane h 0 y; u = coded_plane h 1 u; v = coded_plane h 2 v }
 
 -- ---- frames at places
 
@@ -65,10 +76,13 @@ pub record IsKeptAt {T : Type 0} (num : T → ℕ) (h : Header) (fi : FrameInvar
 pub record AreFrames (h : Header) : Type 0 where
   pub width : IsSide h.width
   pub height : IsSide h.height
+  pub shown_width : IsShown 2 h.shown_width h.width
+  pub shown_height : IsShown 2 h.shown_height h.height
   pub depth : is_depth h.depth ≡ true
   pub sampling : h.sampling ≤ 2
 
--- the frames that slots show are kept at their places, and what stands at any place can take a later frame
+-- the frames that slots show are kept at their places, and what stands at any place can take a later frame, once what
+-- is coded is visible again
 pub record KeepsFrames {T : Type 0} (num : T → ℕ) (h : Header) (fi : FrameInvariants T)
     (places : List (Option ℕ)) : Type 0 where
   pub frame : AreFrames h
@@ -77,4 +91,4 @@ pub record KeepsFrames {T : Type 0} (num : T → ℕ) (h : Header) (fi : FrameIn
   pub eight : length places ≡ 8
   pub kept : (s place : ℕ) → s < 8 → slice_index_or places s None ≡ Some place → IsKeptAt num h fi place
   pub again : (place : ℕ) (t : Slot T) → slice_index_or fi.slots place None ≡ Some t →
-      AreReady num h (record { y = t.y; u = t.u; v = t.v })
+      AreReady num h (coded_planes h t.y t.u t.v)

@@ -3,9 +3,9 @@ use Rattle.std.specs.Prelude.{◌≡◌, ℕ, ◌==◌, ◌≤◌, ◌++◌, [],
 use Rattle.std.specs.List.{flat_map}
 use Rattle.av1_frame.specs.declared.plane.Plane.{Plane}
 use Rattle.av1_plan.specs.declared.header.Header.{Header}
-use Rattle.av1_plan.specs.Geometry.{plane_width}
+use Rattle.av1_plan.specs.Geometry.{shown_columns}
 use Rattle.av1_tile.specs.Output.{sample_bytes}
-use Rattle.av1_tile.specs.Walk.{IsPlaneOf}
+use Rattle.av1_tile.specs.Walk.{ShowsPart}
 use Rattle.av1_sequence.specs.Slots.{Frame}
 
 -- the samples of plane p, each as one byte at depth 8, else as two, the low one first
@@ -18,8 +18,8 @@ frame_text frames frame = plane_text frames frame 0 ++ plane_text frames frame 1
 
 -- plane p of a frame that can be written: it is no wider than frames are
 pub record IsWritable {T : Type 0} (h : Header) (p : ℕ) (plane : Plane T) : Type 0 where
-  pub place : IsPlaneOf h p plane
-  pub wide : plane_width h p ≤ 2048
+  pub place : ShowsPart h p plane
+  pub wide : shown_columns h p ≤ 2048
 
 -- samples of this depth are written as those of so many bits: as one byte each, or as two
 abbrev pub AreWrittenAs : (depth bits : ℕ) → Type 0

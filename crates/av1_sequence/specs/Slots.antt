@@ -4,7 +4,7 @@ use Rattle.std.specs.Prelude.{None, slice_index_or, is_some, if◌then◌else◌
 use Rattle.std.specs.List.{list_any}
 use Rattle.av1_lists.specs.Lists.{by_index}
 
--- the visible planes of a frame, Y, U and V, each row by row
+-- what is shown of the planes of a frame, Y, U and V, each row by row
 abbrev pub Frame : Type 0
 Frame = List (List ℕ)
 

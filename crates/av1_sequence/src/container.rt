@@ -54,8 +54,8 @@ fn front(reader: &mut Reader<'_>) -> Result<FileFront, PlanError>
     ensures moves { Moves reader.old reader.new }
 {
     magic(reader)?;
-    let width = reader.side()?;
-    let height = reader.side()?;
+    let width = reader.side(2)?;
+    let height = reader.side(2)?;
     let depth = reader.depth()?;
     let sampling = reader.byte(0, 2)?;
     let count = reader.any_u16()?;

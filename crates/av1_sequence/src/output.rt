@@ -10,7 +10,7 @@ ghost use Rattle.av1_frame.specs.Planes.{sample_at};
 ghost use Rattle.av1_streams.specs.Faults.{HasCause};
 ghost use Rattle.av1_streams.specs.Streams.{AppendsPrefix};
 ghost use Rattle.av1_tile.specs.Output.{plane_bytes, sample_bytes};
-ghost use Rattle.av1_tile.specs.PlaneBlocks.{extent_of};
+ghost use Rattle.av1_tile.specs.PlaneBlocks.{shown_of};
 ghost use Rattle.av1_sequence.specs.Output.{AreWrittenAs, IsWritable, frame_text, plane_text};
 ghost use Rattle.av1_sequence.specs.Slots.{Frame};
 
@@ -121,11 +121,11 @@ fn write_rows<T: Written, W: Sink>(
 ) -> Result<(), WriteFault>
     requires plane { IsWritable header.now p plane.now }
     requires written { AreWrittenAs header.now.depth T.BITS }
-    ensures whole { OnOk result (Appends (W.taken sink.old) (W.taken sink.new) (plane_bytes (extent_of header.now p) (sample_at T.num plane.now))) }
-    ensures prefix { AppendsPrefix (W.taken sink.old) (W.taken sink.new) (plane_bytes (extent_of header.now p) (sample_at T.num plane.now)) }
+    ensures whole { OnOk result (Appends (W.taken sink.old) (W.taken sink.new) (plane_bytes (shown_of header.now p) (sample_at T.num plane.now))) }
+    ensures prefix { AppendsPrefix (W.taken sink.old) (W.taken sink.new) (plane_bytes (shown_of header.now p) (sample_at T.num plane.now)) }
     ensures cause { HasCause (W.faults sink.old) (W.faults sink.new) result }
 {
-    for y in 0..header.plane_height(p) {
+    for y in 0..header.shown_rows(p) {
         T::write_row(visible_row(plane, header, p, y), buffer, sink)?;
     }
     Ok(())

@@ -7,12 +7,15 @@ ghost use Rattle.std.specs.Prelude.{[], ◌≡◌, ◌≢◌, ℕ, ◌+◌, ◌*
 ghost use Rattle.std.specs.Prelude.{length, map};
 ghost use Rattle.std.specs.Prelude.{IfOk, IfSome};
 ghost use Rattle.std.specs.Option.{option_map};
-ghost use Rattle.av1_plan.specs.Geometry.{plane_len, plane_height, plane_width};
+ghost use Rattle.av1_plan.specs.Geometry.{plane_len, shown_columns, shown_rows};
 ghost use Rattle.av1_plan.specs.Plan.{PlanValue};
 ghost use Rattle.av1_references.specs.References.{ServesPlan};
 ghost use Rattle.av1_plan.specs.Lengths.{slot_bytes};
 ghost use Rattle.av1_sequence.specs.Frames.{IsHead, frame_header, frame_references};
-ghost use Rattle.av1_sequence.specs.Kept.{AreFrames, AreReady, IsKeptAt, KeepsFrames, plane_shown, planes_shown, shown_at, slots_shown};
+ghost use Rattle.av1_sequence.specs.Kept.{AreFrames, AreReady, IsKeptAt, KeepsFrames, coded_plane, coded_planes, plane_shown, planes_shown, shown_at};
+ghost use Rattle.av1_sequence.specs.Kept.{shown_plane, slots_shown};
+ghost use Rattle.av1_frame.specs.Planes.{IsWhole, padded};
+ghost use Rattle.av1_tile.specs.Walk.{Stores};
 ghost use Rattle.av1_sequence.specs.Output.{IsWritable};
 ghost use Rattle.av1_sequence.specs.Slots.{Frame, bits_of, count_of, has_bit, is_named, is_read, refreshed, row_in};
 
@@ -44,7 +47,7 @@ fn plane_samples(header: &Header, p: usize) -> usize
     ensures value { result ≡ plane_len header.now p }
     ensures few { result ≤ 2 ^ 22 }
 {
-    header.plane_width(p) * header.plane_height(p)
+    header.plane_len(p)
 }
 
 /// How many bytes the samples of a frame are: one a sample at depth 8, else two.
@@ -143,12 +146,39 @@ fn places_of(places: &[Option<u8>; SLOTS], slots: &[u8; 7]) -> [u8; 7]
     named
 }
 
-/// The planes of a frame, where there are some.
-fn as_planes<T: Pixel>(planes: Option<(Plane<T>, Plane<T>, Plane<T>)>) -> Option<Planes<T>>
-    ensures { result ≡ option_map (λ p. record { y = p.0; u = p.1; v = p.2 }) planes }
+/// Makes what is shown of plane `p` of a frame its visible samples, and pads it with these.
+fn pad_shown<T: Pixel>(header: &Header, plane: &mut Plane<T>, p: usize)
+    requires frame { AreFrames header.now }
+    requires stores { Stores T.num header.now p plane.old }
+    ensures { plane.new ≡ padded (shown_plane header.now p plane.old) }
+{
+    plane.set_sides(header.shown_columns(p), header.shown_rows(p));
+    plane.pad();
+}
+
+/// Makes all that is coded of plane `p` of a frame visible again.
+fn open_plane<T: Pixel>(header: &Header, plane: &mut Plane<T>, p: usize)
+    requires { IsWhole (coded_plane header.now p plane.old) }
+    ensures { plane.new ≡ coded_plane header.now p plane.old }
+{
+    plane.set_sides(header.plane_width(p), header.plane_height(p));
+}
+
+/// The planes of a frame, where there are some, for a later one: what is coded of each is visible again.
+fn as_planes<T: Pixel>(
+    header: &Header,
+    planes: Option<(Plane<T>, Plane<T>, Plane<T>)>,
+) -> Option<Planes<T>>
+    requires { IfSome planes (λ p. AreReady T.num header.now (coded_planes header.now p.0 p.1 p.2)) }
+    ensures { result ≡ option_map (λ p. coded_planes header.now p.0 p.1 p.2) planes }
 {
     match planes {
-        Some((y, u, v)) => Some(Planes { y, u, v }),
+        Some((mut y, mut u, mut v)) => {
+            open_plane(header, &mut y, 0);
+            open_plane(header, &mut u, 1);
+            open_plane(header, &mut v, 2);
+            Some(Planes { y, u, v })
+        }
         None => None,
     }
 }
@@ -219,6 +249,8 @@ impl<T: Pixel> Pictures<T> {
             version: 2,
             width: self.header.width,
             height: self.header.height,
+            shown_width: self.header.shown_width,
+            shown_height: self.header.shown_height,
             depth: self.header.depth,
             sampling: self.header.sampling,
             filter: head.filter,
@@ -272,13 +304,13 @@ impl<T: Pixel> Pictures<T> {
             mut u,
             mut v,
         } = planes;
-        y.pad();
-        u.pad();
-        v.pad();
+        pad_shown(&self.header, &mut y, 0);
+        pad_shown(&self.header, &mut u, 1);
+        pad_shown(&self.header, &mut v, 2);
         let place = free_place(&self.places, refresh);
         let before = self.fi.replace_slot(usize::from(place), y, u, v);
         self.places = replaced(self.places, refresh, place);
-        (place, as_planes(before))
+        (place, as_planes(&self.header, before))
     }
 
     /// Plane `p` of the frame at a place.
@@ -296,9 +328,9 @@ impl<T: Pixel> Pictures<T> {
     pub fn row_at(&self, place: u8, p: usize, y: usize) -> &[T]
         requires kept { IsKeptAt T.num self.now.header self.now.fi place }
         requires plane { p < 3 }
-        requires in_plane { y < plane_height self.now.header p }
+        requires in_plane { y < shown_rows self.now.header p }
         ensures { (frame : Frame) → shown_at T.num self.now.header self.now.fi place ≡ Some frame →
-            map T.num result.now ≡ row_in (plane_width self.now.header p) (slice_index_or frame p []) y }
+            map T.num result.now ≡ row_in (shown_columns self.now.header p) (slice_index_or frame p []) y }
     {
         visible_row(self.plane_at(place, p), &self.header, p, y)
     }

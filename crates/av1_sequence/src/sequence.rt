@@ -97,7 +97,7 @@ impl<T: Pixel> SequenceOf<T> {
     ghost use Rattle.std.specs.Prelude.{◌≡◌, ℕ, ◌<◌, ◌≤◌, ◌^◌, [], None, Some, length, map, option_map, slice_index_or, IfOk, IfErr, IfNone, IfSome, OnOk};
     ghost use Rattle.av1_blocks.specs.Depths.{IsDepth};
     ghost use Rattle.av1_plan.specs.Values.{leaves_value};
-    ghost use Rattle.av1_plan.specs.Geometry.{plane_height, plane_width};
+    ghost use Rattle.av1_plan.specs.Geometry.{shown_rows, shown_columns};
     ghost use Rattle.av1_plan.specs.Grammar.{plan as grammar};
     ghost use Rattle.av1_plan.specs.ReadPlans.{IsSide};
     ghost use Rattle.av1_plan.specs.Spelling.{IsSpelled};
@@ -129,6 +129,8 @@ impl<T: Pixel> SequenceOf<T> {
             version: 2,
             width,
             height,
+            shown_width: width,
+            shown_height: height,
             depth,
             sampling,
             filter: FilterMode::REGULAR,
@@ -225,13 +227,13 @@ impl<T: Pixel> SequenceOf<T> {
         }
     }
 
-    /// The visible row `y` of plane `p` (0 for Y, 1 for U and 2 for V) of the frame that was accepted last. None where
-    /// no frame was accepted yet.
+    /// Row `y` of what is shown of plane `p` (0 for Y, 1 for U and 2 for V) of the frame that was accepted last. None
+    /// where no frame was accepted yet.
     pub fn last_row(&self, p: usize, y: usize) -> Option<&[T]>
         requires plane { p < 3 }
-        requires in_plane { y < plane_height self.now.frames p }
+        requires in_plane { y < shown_rows self.now.frames p }
         ensures { option_map (λ row. map T.num row.now) result ≡
-            option_map (λ frame. row_in (plane_width self.now.frames p) (slice_index_or frame p []) y) self.now.last }
+            option_map (λ frame. row_in (shown_columns self.now.frames p) (slice_index_or frame p []) y) self.now.last }
     {
         match self.last_plane(p) {
             Some(plane) => Some(visible_row(plane, self.header(), p, y)),
@@ -239,12 +241,12 @@ impl<T: Pixel> SequenceOf<T> {
         }
     }
 
-    /// The visible row `y` of plane `p` of the frame in a slot. None where the slot is empty.
+    /// Row `y` of what is shown of plane `p` of the frame in a slot. None where the slot is empty.
     pub fn slot_row(&self, slot: usize, p: usize, y: usize) -> Option<&[T]>
         requires slot { slot < 8 }
         requires plane { p < 3 }
-        requires in_plane { y < plane_height self.now.frames p }
-        ensures { option_map (λ row. map T.num row.now) result ≡ option_map (λ frame. row_in (plane_width self.now.frames p) (slice_index_or frame p []) y)
+        requires in_plane { y < shown_rows self.now.frames p }
+        ensures { option_map (λ row. map T.num row.now) result ≡ option_map (λ frame. row_in (shown_columns self.now.frames p) (slice_index_or frame p []) y)
             (slice_index_or self.now.slots slot None) }
     {
         match self.pictures.places[slot] {

@@ -71,7 +71,19 @@ module _ (h : Header) (block : PlaneBlock) (at : BlockPlace) where
 -- a plan of which nothing is asked
 no_plan : PlanValue
 no_plan = record {
-  header = record { version = 1; width = 8; height = 8; depth = 8; sampling = 0; filter = REGULAR; edge_filter = false; slots = []; mask = 0 };
+  header = record {
+    version = 1;
+    width = 8;
+    height = 8;
+    shown_width = 8;
+    shown_height = 8;
+    depth = 8;
+    sampling = 0;
+    filter = REGULAR;
+    edge_filter = false;
+    slots = [];
+    mask = 0;
+  };
   references = [];
   leaves = [];
 }

@@ -4,7 +4,7 @@ use Rattle.std.specs.Int.{next_multiple_of}
 use Rattle.av1_frame.specs.declared.plane.Plane.{Plane}
 use Rattle.av1_frame.specs.declared.plane.PlaneConfig.{PlaneConfig}
 use Rattle.av1_plan.specs.declared.header.Header.{Header}
-use Rattle.av1_plan.specs.Geometry.{xdec, ydec, plane_width, plane_height}
+use Rattle.av1_plan.specs.Geometry.{xdec, ydec, plane_width, plane_height, shown_columns, shown_rows}
 use Rattle.av1_tile.specs.Memory.{HasRoomFor, WalkRoom}
 use Rattle.av1_tile.specs.State.{AreAlike, IsSound, Picture}
 use Rattle.av1_tile.specs.Walk.{Stores, StoresAll, HasRoomIn, HasRoom}
@@ -18,6 +18,8 @@ pub alike_same : (h k : Header) → h ≡ k → AreAlike h k
 alike_same h k same = record {
   width = ap (λ (g : Header). g.width) same;
   height = ap (λ (g : Header). g.height) same;
+  shown_width = ap (λ (g : Header). g.shown_width) same;
+  shown_height = ap (λ (g : Header). g.shown_height) same;
   depth = ap (λ (g : Header). g.depth) same;
   sampling = ap (λ (g : Header). g.sampling) same;
 }
@@ -42,6 +44,14 @@ module _ (h k : Header) (alike : AreAlike h k) where
   unfolding plane_height
   height_same p = ap₂ (λ (n d : ℕ). n / 2 ^ d) alike.height (ydec_same p)
 
+  columns_same : (p : ℕ) → shown_columns h p ≡ shown_columns k p
+  unfolding shown_columns
+  columns_same p = ap₂ (λ (n d : ℕ). (n + d) / 2 ^ d) alike.shown_width (xdec_same p)
+
+  rows_same : (p : ℕ) → shown_rows h p ≡ shown_rows k p
+  unfolding shown_rows
+  rows_same p = ap₂ (λ (n d : ℕ). (n + d) / 2 ^ d) alike.shown_height (ydec_same p)
+
   -- a plane that stores its part of one frame stores that of the other
   stores_same : {T : Type 0} (num : T → ℕ) (p : ℕ) (plane : Plane T) → Stores num h p plane → Stores num k p plane
   stores_same num p plane s = record {
@@ -49,6 +59,8 @@ module _ (h k : Header) (alike : AreAlike h k) where
       whole = s.place.whole;
       width = s.place.width ∙ width_same p;
       height = s.place.height ∙ height_same p;
+      shown_columns = subst (λ (n : ℕ). n ≤ plane.plane_cfg.width) (columns_same p) s.place.shown_columns;
+      shown_rows = subst (λ (n : ℕ). n ≤ plane.plane_cfg.height) (rows_same p) s.place.shown_rows;
       xdec = s.place.xdec ∙ xdec_same p;
       ydec = s.place.ydec ∙ ydec_same p;
     };

@@ -17,14 +17,14 @@ use Rattle.av1_frame.proofs.Paint.{length_paint, paint_at}
 use Rattle.av1_frame.proofs.Planes.{some_item}
 use Rattle.av1_lists.specs.Lists.{by_index}
 use Rattle.av1_plan.specs.declared.header.Header.{Header}
-use Rattle.av1_plan.specs.Geometry.{plane_width, plane_height}
+use Rattle.av1_plan.specs.Geometry.{plane_width, plane_height, shown_columns, shown_rows}
 use Rattle.av1_plan.specs.Plan.{PlanValue}
 use Rattle.av1_tile.specs.declared.planes.Planes.{Planes}
 use Rattle.av1_tile.specs.declared.predicted.PredictedPlanes.{PredictedPlanes}
 use Rattle.av1_tile.specs.Canvas.{Component, Y, U, V, Written, Canvas, blank, turned, with_written}
 use Rattle.av1_tile.specs.Edge.{sample_of}
 use Rattle.av1_tile.specs.Output.{by_rows}
-use Rattle.av1_tile.specs.PlaneBlocks.{extent_of, number}
+use Rattle.av1_tile.specs.PlaneBlocks.{number, shown_of}
 use Rattle.av1_tile.specs.Predicted.{AreBlank, ShowsPredictions, copied, keeping_step, kept_in, predictions_in, rows_in}
 use Rattle.av1_tile.specs.Predicted.{slow_predictions}
 use Rattle.av1_tile.specs.Predicted.{slow_progress, stored_in, with_rows}
@@ -62,12 +62,12 @@ own_written V w canvas x y = refl
 
 -- ---- rows
 
--- rows of the visible samples of plane k hold what has been written there, and 0 elsewhere
+-- rows of the samples that are shown of plane k hold what has been written there, and 0 elsewhere
 pub record RowsShow {T : Type 0} (num : T → ℕ) (h : Header) (k : Component) (rows : SampleRows T) (written : Written) : Type 0 where
-  pub width : rows.width ≡ plane_width h (number k)
-  pub long : length rows.samples ≡ plane_height h (number k) * plane_width h (number k)
-  pub shown : (x y : ℕ) → x < plane_width h (number k) → y < plane_height h (number k) →
-      slice_index (map num rows.samples) (y * plane_width h (number k) + x) ≡ sample_of (written x y)
+  pub width : rows.width ≡ shown_columns h (number k)
+  pub long : length rows.samples ≡ shown_rows h (number k) * shown_columns h (number k)
+  pub shown : (x y : ℕ) → x < shown_columns h (number k) → y < shown_rows h (number k) →
+      slice_index (map num rows.samples) (y * shown_columns h (number k) + x) ≡ sample_of (written x y)
 
 abbrev AllShow : {T : Type 0} → (T → ℕ) → Header → PredictedPlanes T → Canvas → Type 0
 AllShow num h kept predictions = (k : Component) → RowsShow num h k (rows_in k kept) (predictions k)
@@ -124,7 +124,7 @@ module _ {T : Type 0} (num : T → ℕ) (pixel : ℕ → T) (law : (v : ℕ) →
 
   -- what is kept of a rectangle that holds what was drawn
   rows_copied : (h : Header) (k : Component) (plane : Plane T) (a : VisibleArea) (f : ℕ → ℕ → ℕ) (rows : SampleRows T) (written : Written)
-      → ((x y : ℕ) → x < plane_width h (number k) → y < plane_height h (number k) → in_visible a x y ≡ true → sample_at num plane x y ≡ f (y - a.y) (x - a.x))
+      → ((x y : ℕ) → x < shown_columns h (number k) → y < shown_rows h (number k) → in_visible a x y ≡ true → sample_at num plane x y ≡ f (y - a.y) (x - a.x))
       → RowsShow num h k rows written
       → RowsShow num h k (copied num pixel plane (stored_in a) rows) (λ x y. turned (in_visible a x y) (λ _. Some (f (y - a.y) (x - a.x))) (written x y))
   rows_copied h k plane a f rows written holds t = record {
@@ -133,10 +133,10 @@ module _ {T : Type 0} (num : T → ℕ) (pixel : ℕ → T) (law : (v : ℕ) →
     shown = λ x y hx hy.
         let copy = copied num pixel plane (stored_in a) rows in
         let own : x < rows.width = omega (arith, hx, t.width) in
-        let long : length rows.samples ≡ plane_height h (number k) * rows.width = t.long ∙ ap (λ (n : ℕ). plane_height h (number k) * n) (sym t.width) in
-        let place : y * rows.width + x ≡ y * plane_width h (number k) + x = ap (λ (n : ℕ). y * n + x) t.width in
+        let long : length rows.samples ≡ shown_rows h (number k) * rows.width = t.long ∙ ap (λ (n : ℕ). shown_rows h (number k) * n) (sym t.width) in
+        let place : y * rows.width + x ≡ y * shown_columns h (number k) + x = ap (λ (n : ℕ). y * n + x) t.width in
         ap (slice_index (map num copy.samples)) (sym place)
-        ∙ copied_at plane a rows (plane_height h (number k)) x y long own hy
+        ∙ copied_at plane a rows (shown_rows h (number k)) x y long own hy
         ∙ copied_is (in_visible a x y) _ (f (y - a.y) (x - a.x)) _ (written x y)
         (λ e. let (c, r) = inside_at a x y e in ap (λ (n : ℕ). sample_at num plane n (a.y + (y - a.y))) c ∙ ap (sample_at num plane x) r ∙ holds x y hx hy e)
         (ap (slice_index (map num rows.samples)) place ∙ t.shown x y hx hy);
@@ -158,10 +158,13 @@ module _ {T : Type 0} (num : T → ℕ) (pixel : ℕ → T) (law : (v : ℕ) →
   kept_shows plan canvas predictions j (predict block n a) next kept s t shows =
       let h = plan.header in
       let f = predicted plan canvas j block a in
-      let holds : (x y : ℕ) → x < plane_width h (number j) → y < plane_height h (number j) → in_visible a x y ≡ true →
+      let holds : (x y : ℕ) → x < shown_columns h (number j) → y < shown_rows h (number j) → in_visible a x y ≡ true →
       sample_at num (plane_of j next) x y ≡ f (y - a.y) (x - a.x) =
       λ x y hx hy e.
-      let (column, row) = stored_place h (number j) (plane_of j next) x y (s.plane j) hx hy in
+      let is = s.plane j in
+      let coded_x : x < plane_width h (number j) = omega (arith, hx, is.shown_columns, is.width) in
+      let coded_y : y < plane_height h (number j) = omega (arith, hy, is.shown_rows, is.height) in
+      let (column, row) = stored_place h (number j) (plane_of j next) x y is coded_x coded_y in
       t j x y (f (y - a.y) (x - a.x)) column row (own_written j _ canvas x y ∙ drawn_at (in_visible a x y) _ (canvas j x y) e) in
       subst (λ (q : PredictedPlanes T). AllShow num h q (with_written j (predictions_in plan canvas j (predict block n a) (predictions j)) predictions))
       (sym (kept_with (plane_of j next) kept j block n a))
@@ -192,17 +195,17 @@ module _ {T : Type 0} (num : T → ℕ) (pixel : ℕ → T) (law : (v : ℕ) →
   blank_shows h kept is k = subst (λ (r : SampleRows T). RowsShow num h k r (blank k)) (sym (own k)) zeros
     where
       own : (k : Component) → rows_in k kept ≡
-          record { width = plane_width h (number k); samples = replicate (plane_height h (number k) * plane_width h (number k)) (pixel 0) }
+          record { width = shown_columns h (number k); samples = replicate (shown_rows h (number k) * shown_columns h (number k)) (pixel 0) }
       own Y = is.y
       own U = is.u
       own V = is.v
 
       zeros : RowsShow num h k
-          (record { width = plane_width h (number k); samples = replicate (plane_height h (number k) * plane_width h (number k)) (pixel 0) }) (blank k)
+          (record { width = shown_columns h (number k); samples = replicate (shown_rows h (number k) * shown_columns h (number k)) (pixel 0) }) (blank k)
       zeros = record {
         width = refl;
         long = length-replicate _ (pixel 0);
-        shown = λ x y hx hy. zeros_shown num (pixel 0) (law 0) _ (y * plane_width h (number k) + x);
+        shown = λ x y hx hy. zeros_shown num (pixel 0) (law 0) _ (y * shown_columns h (number k) + x);
       }
 
   -- ---- all samples, row by row
@@ -228,10 +231,10 @@ module _ {T : Type 0} (num : T → ℕ) (pixel : ℕ → T) (law : (v : ℕ) →
       sym (take-append-drop width xs) ∙ ap (λ (l : List ℕ). l ++ drop width xs) row ∙ ap (λ (l : List ℕ). by_index width (λ x. f x first) ++ l) below
 
   rows_are : (h : Header) (k : Component) (rows : SampleRows T) (written : Written) → RowsShow num h k rows written →
-      map num rows.samples ≡ by_rows (extent_of h (number k)) (λ x y. sample_of (written x y))
+      map num rows.samples ≡ by_rows (shown_of h (number k)) (λ x y. sample_of (written x y))
   rows_are h k rows written t =
-      let w = plane_width h (number k) in
-      let n = plane_height h (number k) in
+      let w = shown_columns h (number k) in
+      let n = shown_rows h (number k) in
       let f = λ (x y : ℕ). sample_of (written x y) in
       rows_listed w n 0 f (map num rows.samples) (length-map rows.samples num ∙ t.long) (λ x y hx hy. t.shown x y hx hy ∙ ap (f x) (omega arith))
       ∙ ap (flat_map (λ y. by_index w (λ x. f x y))) (sym (map-id (range_with_len 0 n)))

@@ -36,7 +36,7 @@ use Rattle.av1_tile.specs.declared.planes.Planes.{Planes}
 use Rattle.av1_tile.specs.Canvas.{Component, Y, U, V, Written, Canvas, is_same, blank, turned, drawn, with_written}
 use Rattle.av1_tile.specs.Edge.{edge, sample_of}
 use Rattle.av1_tile.specs.Output.{plane_bytes, sample_bytes, visible}
-use Rattle.av1_tile.specs.PlaneBlocks.{number, extent_of}
+use Rattle.av1_tile.specs.PlaneBlocks.{number, extent_of, shown_of}
 use Rattle.av1_tile.specs.Reference.{added, block_residue, by_mode, by_prediction, luma_for, luma_of, predicted, slow_in, slow_step, slow_walk}
 use Rattle.av1_tile.specs.Steps.{Step, predict, add, PlaneStep, steps}
 use Rattle.av1_tile.specs.Walk.{HasRoomIn, IsPlaneOf, answer_right, answer_low, placed_edge, fast_in, fast_step, plane_of, with_plane}
@@ -172,7 +172,7 @@ whole_with : {T : Type 0} (h : Header) (planes : Planes T) (j : Component) (p : 
     p.plane_cfg ≡ (plane_of j planes).plane_cfg → AllWhole h (with_plane j planes p)
 whole_with h planes j p s t same = record { plane = places_with h planes j p s.plane t; room = room_with h planes j p s.room same }
 
--- ---- the visible samples
+-- ---- the samples that are shown
 
 -- equal samples make equal rows
 rows_same : (width first n : ℕ) (f g : ℕ → ℕ → ℕ) → ((x y : ℕ) → x < width → y < first + n → f x y ≡ g x y) →
@@ -191,15 +191,15 @@ plane_bytes_same extent f g e =
     ∙ rows_same extent.width 0 extent.height f g (λ x y h k. e x y h (omega arith)) ∙ ap (flat_map (λ y. by_index extent.width (λ x. g x y))) (sym id))
 
 pub visible_same : (h : Header) (f g : Component → ℕ → ℕ → ℕ) →
-    ((k : Component) (x y : ℕ) → x < (extent_of h (number k)).width → y < (extent_of h (number k)).height → f k x y ≡ g k x y) → visible h f ≡ visible h g
+    ((k : Component) (x y : ℕ) → x < (shown_of h (number k)).width → y < (shown_of h (number k)).height → f k x y ≡ g k x y) → visible h f ≡ visible h g
 unfolding visible
 visible_same h f g e =
-    let a = plane_bytes_same (extent_of h 0) (f Y) (g Y) (e Y) in
-    let b = plane_bytes_same (extent_of h 1) (f U) (g U) (e U) in
-    let c = plane_bytes_same (extent_of h 2) (f V) (g V) (e V) in
-    ap (λ (l : List ℕ). l ++ plane_bytes (extent_of h 1) (f U) ++ plane_bytes (extent_of h 2) (f V)) a
-    ∙ ap (λ (l : List ℕ). plane_bytes (extent_of h 0) (g Y) ++ l ++ plane_bytes (extent_of h 2) (f V)) b
-    ∙ ap (λ (l : List ℕ). plane_bytes (extent_of h 0) (g Y) ++ plane_bytes (extent_of h 1) (g U) ++ l) c
+    let a = plane_bytes_same (shown_of h 0) (f Y) (g Y) (e Y) in
+    let b = plane_bytes_same (shown_of h 1) (f U) (g U) (e U) in
+    let c = plane_bytes_same (shown_of h 2) (f V) (g V) (e V) in
+    ap (λ (l : List ℕ). l ++ plane_bytes (shown_of h 1) (f U) ++ plane_bytes (shown_of h 2) (f V)) a
+    ∙ ap (λ (l : List ℕ). plane_bytes (shown_of h 0) (g Y) ++ l ++ plane_bytes (shown_of h 2) (f V)) b
+    ∙ ap (λ (l : List ℕ). plane_bytes (shown_of h 0) (g Y) ++ plane_bytes (shown_of h 1) (g U) ++ l) c
 
 module _ {T : Type 0} (num : T → ℕ) (pixel : ℕ → T) (law : (v : ℕ) → num (pixel v) ≡ v) (back : (x : T) → pixel (num x) ≡ x) where
   -- a rectangle that is turned in the plane as on the canvas

@@ -7,7 +7,7 @@ use Rattle.av1_edges.specs.Edges.{Edge}
 use Rattle.av1_frame.specs.Areas.{VisibleArea}
 use Rattle.av1_plan.specs.declared.header.Header.{Header}
 use Rattle.av1_plan.specs.Geometry.{xdec, ydec, plane_width, plane_height, carries_chroma, covers_plane, plane_place, plane_size, plane_tx_size, plane_area}
-use Rattle.av1_plan.specs.Geometry.{has_block, transform_block}
+use Rattle.av1_plan.specs.Geometry.{has_block, transform_block, shown_columns, shown_rows}
 use Rattle.av1_plan.specs.Plan.{LeafValue, PlanValue}
 use Rattle.av1_plan.specs.Versions.{header_in, plan_in}
 use Rattle.av1_tile.specs.declared.plane_block.PlaneBlock.{PlaneBlock}
@@ -47,7 +47,7 @@ module _ (n : ℕ) (h : Header) where
 module _ (n : ℕ) (plan : PlanValue) where
   prediction_same : (c : Component) (prediction : Prediction) (a : VisibleArea) (edge : PredictionMode → ℤ → Edge) (luma : ℕ → ℕ → ℤ) (r k : ℕ)
       → by_prediction (plan_in n plan) (number c) prediction a edge luma r k ≡ by_prediction plan (number c) prediction a edge luma r k
-  unfolding by_prediction plane_width plane_height xdec ydec
+  unfolding by_prediction plane_width plane_height shown_columns shown_rows xdec ydec
   prediction_same Y (predictions.Intra mode step filter) a edge luma r k = refl
   prediction_same Y (predictions.FromLuma alpha) a edge luma r k = refl
   prediction_same Y (predictions.Single mode reference mv) a edge luma r k = refl
@@ -63,7 +63,7 @@ module _ (n : ℕ) (plan : PlanValue) where
 
   predicted_same : (canvas : Canvas) (c : Component) (block : PlaneBlock) (a : VisibleArea) (r k : ℕ) →
       predicted (plan_in n plan) canvas c block a r k ≡ predicted plan canvas c block a r k
-  unfolding predicted plane_width plane_height xdec ydec
+  unfolding predicted plane_width plane_height shown_columns shown_rows xdec ydec
   predicted_same canvas Y block a r k = prediction_same Y block.prediction a _ _ r k
   predicted_same canvas U block a r k = prediction_same U block.prediction a _ _ r k
   predicted_same canvas V block a r k = prediction_same V block.prediction a _ _ r k
@@ -86,7 +86,7 @@ module _ (n : ℕ) (plan : PlanValue) where
       ∙ ap (λ (ss : List PlaneStep). fold (slow_step plan) blank ss) (steps_same n plan.header [] plan.leaves)
 
   shown_same : (f : Component → ℕ → ℕ → ℕ) → visible (header_in n plan.header) f ≡ visible plan.header f
-  unfolding visible plane_width plane_height xdec ydec
+  unfolding visible shown_columns shown_rows xdec ydec
   shown_same f = refl
 
 pub versions_show_the_same : VersionsShowTheSame

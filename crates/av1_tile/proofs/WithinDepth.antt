@@ -38,7 +38,15 @@ use Rattle.av1_intra.proofs.Within.{predicted_within}
 -- a painted plane is one of the same plane of the frame
 pub painted_place : {T : Type 0} (h : Header) (p : ℕ) (plane : Plane T) (a : VisibleArea) (f : ℕ → ℕ → T → T) → IsPlaneOf h p plane →
     IsPlaneOf h p (painted_plane plane a f)
-painted_place h p plane a f s = record { whole = painted_plane_whole plane a f s.whole; width = s.width; height = s.height; xdec = s.xdec; ydec = s.ydec }
+painted_place h p plane a f s = record {
+  whole = painted_plane_whole plane a f s.whole;
+  width = s.width;
+  height = s.height;
+  shown_columns = s.shown_columns;
+  shown_rows = s.shown_rows;
+  xdec = s.xdec;
+  ydec = s.ydec;
+}
 
 -- a rectangle that begins in the visible plane
 pub record BeginsIn (h : Header) (p : ℕ) (a : VisibleArea) : Type 0 where

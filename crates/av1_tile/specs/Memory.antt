@@ -2,7 +2,7 @@
 use Rattle.std.specs.Prelude.{◌≡◌, ◌<◌, ◌≤◌, ◌*◌, ◌/◌, ℕ, List, None}
 use Rattle.av1_frame.specs.declared.frame_invariants.FrameInvariants.{FrameInvariants}
 use Rattle.av1_plan.specs.declared.header.Header.{Header}
-use Rattle.av1_plan.specs.Geometry.{plane_height, plane_width}
+use Rattle.av1_plan.specs.Geometry.{shown_columns, shown_rows}
 use Rattle.av1_plan.specs.Grammar.{plan as grammar}
 use Rattle.av1_plan.specs.Plan.{LeafValue, PlanValue}
 use Rattle.av1_plan.specs.Spelling.{IsSpelled}
@@ -34,8 +34,8 @@ pub record IsPlanOver {T : Type 0} (num : T → ℕ) (h : Header) (own : List Le
   pub leaves : plan.leaves ≡ own
   pub references : ServesPlan num plan fi
 
--- planes show what a plan comes to, at each visible sample
+-- planes show what a plan comes to, at each sample that is shown
 abbrev pub ShowsPlan : {T : Type 0} → (T → ℕ) → PlanValue → Planes T → Type 0
 ShowsPlan num plan planes =
-    (k : Component) (x y : ℕ) → x < plane_width plan.header (number k) → y < plane_height plan.header (number k) →
+    (k : Component) (x y : ℕ) → x < shown_columns plan.header (number k) → y < shown_rows plan.header (number k) →
     samples_of num planes k x y ≡ sample_of (slow_walk plan k x y)

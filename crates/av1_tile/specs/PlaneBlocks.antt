@@ -20,7 +20,7 @@ use Rattle.av1_plan.specs.declared.leaf.ChromaMode.TheVariants.{Plain, Cfl}
 use Rattle.av1_plan.specs.declared.leaf.LeafKind.{LeafKind}
 use Rattle.av1_plan.specs.declared.leaf.LeafKind.TheVariants.{Intra, Single, Compound}
 use Rattle.av1_plan.specs.declared.geometry.PlaneArea.{PlaneArea}
-use Rattle.av1_plan.specs.Geometry.{plane_width, plane_height, plane_area, carries_chroma}
+use Rattle.av1_plan.specs.Geometry.{plane_width, plane_height, shown_columns, shown_rows, plane_area, carries_chroma}
 use Rattle.av1_plan.specs.Plan.{LeafValue}
 use Rattle.av1_tile.specs.declared.extent.PlaneExtent.{PlaneExtent}
 use Rattle.av1_tile.specs.declared.plane_block.PlaneBlock.{PlaneBlock}
@@ -42,9 +42,13 @@ component zero = Y
 component (suc zero) = U
 component n = V
 
--- the visible sides of a plane, by its number, and the depth of its samples
+-- the sides of a plane that are coded, by its number, and the depth of its samples
 abbrev pub extent_of : Header → ℕ → PlaneExtent
 extent_of h plane = record { width = plane_width h plane; height = plane_height h plane; depth = h.depth }
+
+-- and those that are shown
+abbrev pub shown_of : Header → ℕ → PlaneExtent
+shown_of h plane = record { width = shown_columns h plane; height = shown_rows h plane; depth = h.depth }
 
 -- the planes that a leaf covers a part of, in their order
 abbrev pub components_of : Header → LeafValue → List Component

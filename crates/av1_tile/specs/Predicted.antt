@@ -10,7 +10,7 @@ use Rattle.av1_frame.specs.Planes.{sample_at}
 use Rattle.av1_frame.specs.Samples.{paint}
 use Rattle.av1_intra.specs.ChromaFromLuma.{ac_at}
 use Rattle.av1_plan.specs.declared.header.Header.{Header}
-use Rattle.av1_plan.specs.Geometry.{plane_height, plane_width}
+use Rattle.av1_plan.specs.Geometry.{shown_columns, shown_rows}
 use Rattle.av1_plan.specs.Plan.{PlanValue}
 use Rattle.av1_tile.specs.declared.plane_block.PlaneBlock.{PlaneBlock}
 use Rattle.av1_tile.specs.declared.planes.Planes.{Planes}
@@ -18,7 +18,7 @@ use Rattle.av1_tile.specs.declared.predicted.PredictedPlanes.{PredictedPlanes}
 use Rattle.av1_tile.specs.Canvas.{Component, Y, U, V, Written, Canvas, blank, drawn, with_written}
 use Rattle.av1_tile.specs.Edge.{sample_of}
 use Rattle.av1_tile.specs.Output.{by_rows, visible}
-use Rattle.av1_tile.specs.PlaneBlocks.{component, extent_of, number}
+use Rattle.av1_tile.specs.PlaneBlocks.{component, number, shown_of}
 use Rattle.av1_tile.specs.Reference.{predicted, slow_step}
 use Rattle.av1_tile.specs.SampleRows.{SampleRows}
 use Rattle.av1_tile.specs.Steps.{Step, predict, add, PlaneStep, steps}
@@ -53,7 +53,7 @@ no_progress = record { canvas = blank; predictions = blank }
 unfoldable pub slow_predictions : PlanValue → Canvas
 slow_predictions plan = (fold (slow_progress plan) no_progress (steps plan.header plan.leaves)).predictions
 
--- the bytes of the predictions of the visible planes
+-- the bytes of the predictions of what is shown of the planes
 unfoldable pub predictions_of : PlanValue → List ℕ
 predictions_of plan = visible plan.header (λ component x y. sample_of (slow_predictions plan component x y))
 
@@ -119,10 +119,10 @@ keeping_step num pixel plan s step =
 
 -- ---- what callers see of it
 
--- zeros for each visible sample of a plane, and of all three
+-- zeros for each sample that is shown of a plane, and of all three
 abbrev pub no_rows : {T : Type 0} → (ℕ → T) → Header → (p : ℕ) → SampleRows T
 no_rows pixel h p =
-    record { width = plane_width h p; samples = replicate (plane_height h p * plane_width h p) (pixel 0) }
+    record { width = shown_columns h p; samples = replicate (shown_rows h p * shown_columns h p) (pixel 0) }
 
 pub record AreBlank {T : Type 0} (pixel : ℕ → T) (h : Header) (kept : PredictedPlanes T) : Type 0 where
   pub y : kept.y ≡ no_rows pixel h 0
@@ -133,4 +133,4 @@ pub record AreBlank {T : Type 0} (pixel : ℕ → T) (h : Header) (kept : Predic
 abbrev pub ShowsPredictions : {T : Type 0} → (T → ℕ) → PlanValue → PredictedPlanes T → Type 0
 ShowsPredictions num plan kept =
     (k : Component) → map num (rows_in k kept).samples ≡
-    by_rows (extent_of plan.header (number k)) (λ x y. sample_of (slow_predictions plan k x y))
+    by_rows (shown_of plan.header (number k)) (λ x y. sample_of (slow_predictions plan k x y))

@@ -10,7 +10,7 @@ use Rattle.av1_references.specs.References.{HoldsReferences}
 use Rattle.av1_tile.specs.declared.planes.Planes.{Planes}
 use Rattle.av1_tile.specs.Canvas.{Component}
 use Rattle.av1_tile.specs.Edge.{sample_of}
-use Rattle.av1_tile.specs.PlaneBlocks.{component, extent_of}
+use Rattle.av1_tile.specs.PlaneBlocks.{component, shown_of}
 use Rattle.av1_tile.specs.Reference.{slow_walk}
 use Rattle.av1_tile.specs.Steps.{steps}
 use Rattle.av1_tile.specs.Walk.{plane_of, StoresAll, HasRoom, AreFilledWith, edges_after}
@@ -44,6 +44,8 @@ pub record IsSound {T : Type 0} (num : T → ℕ) (s : Picture T) : Type 0 where
 pub record AreAlike (h k : Header) : Type 0 where
   pub width : h.width ≡ k.width
   pub height : h.height ≡ k.height
+  pub shown_width : h.shown_width ≡ k.shown_width
+  pub shown_height : h.shown_height ≡ k.shown_height
   pub depth : h.depth ≡ k.depth
   pub sampling : h.sampling ≡ k.sampling
 
@@ -66,17 +68,17 @@ edges_of count plan = fold edges_after count (steps plan.header plan.leaves)
 abbrev pub shown : {T : Type 0} → (T → ℕ) → Picture T → Component → ℕ → ℕ → ℕ
 shown num s k x y = sample_at num (plane_of k s.planes) x y
 
--- row y of the visible plane p
+-- row y of what is shown of plane p
 abbrev pub state_row : {T : Type 0} → (T → ℕ) → Picture T → ℕ → ℕ → List ℕ
-state_row num s p y = by_index (extent_of s.header p).width (λ x. shown num s (component p) x y)
+state_row num s p y = by_index (shown_of s.header p).width (λ x. shown num s (component p) x y)
 
 -- and that row of what a plan comes to
 abbrev pub plan_row : PlanValue → (p y : ℕ) → List ℕ
-plan_row plan p y = by_index (extent_of plan.header p).width (λ x. sample_of (slow_walk plan (component p) x y))
+plan_row plan p y = by_index (shown_of plan.header p).width (λ x. sample_of (slow_walk plan (component p) x y))
 
 -- the state shows what the plan comes to, row by row
 abbrev pub ShowsRows : {T : Type 0} → (T → ℕ) → PlanValue → Picture T → Type 0
-ShowsRows num plan s = (p y : ℕ) → p < 3 → y < (extent_of plan.header p).height →
+ShowsRows num plan s = (p y : ℕ) → p < 3 → y < (shown_of plan.header p).height →
     state_row num s p y ≡ plan_row plan p y
 
 -- each stored sample of its planes is this one

@@ -39,8 +39,8 @@ use Rattle.av1_plan.specs.declared.geometry.PlaneArea.{PlaneArea}
 use Rattle.av1_plan.specs.declared.leaf.Leaf.{Leaf}
 use Rattle.av1_plan.specs.declared.leaf.LeafKind.TheVariants.{Intra}
 use Rattle.av1_plan.specs.declared.leaf.Triple.{Triple}
-use Rattle.av1_plan.specs.Geometry.{xdec, ydec, plane_width, plane_height, plane_area, carries_chroma, block_count}
-use Rattle.av1_plan.specs.Geometry.{blocks_across}
+use Rattle.av1_plan.specs.Geometry.{xdec, ydec, plane_width, plane_height, shown_columns, shown_rows, plane_area}
+use Rattle.av1_plan.specs.Geometry.{carries_chroma, block_count, blocks_across}
 use Rattle.av1_plan.specs.Plan.{LeafValue, PlanValue}
 use Rattle.av1_plan.specs.ReadPlans.{IsOtherFrame, IsReadFrame}
 use Rattle.av1_plan.specs.Validity.{has_reference}
@@ -161,13 +161,22 @@ edges_after count s = edges_in count s.step
 
 -- ---- planes
 
--- the plane has the sides and decimations of the visible plane p of a frame, and its samples fill its rows
+-- the plane has the sides and decimations of what is coded of plane p of a frame, what is shown lies in it, and its
+-- samples fill its rows
 pub record IsPlaneOf {T : Type 0} (h : Header) (p : ℕ) (plane : Plane T) : Type 0 where
   pub whole : IsWhole plane
   pub width : plane.plane_cfg.width ≡ plane_width h p
   pub height : plane.plane_cfg.height ≡ plane_height h p
+  pub shown_columns : shown_columns h p ≤ plane.plane_cfg.width
+  pub shown_rows : shown_rows h p ≤ plane.plane_cfg.height
   pub xdec : plane.plane_cfg.xdec ≡ xdec h p
   pub ydec : plane.plane_cfg.ydec ≡ ydec h p
+
+-- what is shown of plane p of a frame lies in the plane, whose samples fill its rows
+pub record ShowsPart {T : Type 0} (h : Header) (p : ℕ) (plane : Plane T) : Type 0 where
+  pub whole : IsWhole plane
+  pub columns : shown_columns h p ≤ plane.plane_cfg.width
+  pub rows : shown_rows h p ≤ plane.plane_cfg.height
 
 -- the planes of a frame
 pub record AreFrame {T : Type 0} (h : Header) (planes : Planes T) : Type 0 where

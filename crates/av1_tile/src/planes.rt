@@ -3,9 +3,9 @@
 ghost use Rattle.std.specs.Prelude.{◌≡◌, ◌/◌, ◌^◌, ◌<◌, ◌≤◌, All, IfOk, map};
 ghost use Rattle.av1_frame.specs.Planes.{sample_at};
 ghost use Rattle.av1_lists.specs.Lists.{by_index};
-ghost use Rattle.av1_plan.specs.Geometry.{plane_width, plane_height};
+ghost use Rattle.av1_plan.specs.Geometry.{shown_columns, shown_rows};
 ghost use Rattle.av1_plan.specs.ReadPlans.{IsReadFrame};
-ghost use Rattle.av1_tile.specs.Walk.{HasPad, HasRoomIn, IsPlaneOf, Stores};
+ghost use Rattle.av1_tile.specs.Walk.{HasPad, HasRoomIn, ShowsPart, Stores};
 
 use av1_blocks::OutOfMemory;
 use av1_frame::{Pixel, Plane};
@@ -33,8 +33,8 @@ fn pad_of(pad: usize, decimation: usize) -> usize
     pad >> decimation
 }
 
-/// A plane of zeros with the sides of plane `p` (0 for Y, 1 for U and 2 for V) of a frame, and on every side `pad`
-/// samples of luma besides: half as many samples in directions in which the plane is halved.
+/// A plane of zeros with the sides of what is coded of plane `p` (0 for Y, 1 for U and 2 for V) of a frame, and on
+/// every side `pad` samples of luma besides: half as many samples in directions in which the plane is halved.
 ///
 /// Storage is that of whole superblocks. An error is running out of memory.
 fn plane_of_frame<T: Pixel>(
@@ -63,25 +63,25 @@ fn plane_of_frame<T: Pixel>(
     )
 }
 
-/// The visible row `y` of plane `p` (0 for Y, 1 for U and 2 for V) of a frame, from its first sample on.
+/// Row `y` of what is shown of plane `p` (0 for Y, 1 for U and 2 for V) of a frame, from its first sample on.
 pub fn visible_row<'a, T: Pixel>(
     plane: &'a Plane<T>,
     header: &Header,
     p: usize,
     y: usize,
 ) -> &'a [T]
-    requires place { IsPlaneOf header.now p plane.now }
-    requires in_plane { y < plane_height header.now p }
-    ensures { map T.num result.now ≡ by_index (plane_width header.now p) (λ x. sample_at T.num plane.now x y) }
+    requires place { ShowsPart header.now p plane.now }
+    requires in_plane { y < shown_rows header.now p }
+    ensures { map T.num result.now ≡ by_index (shown_columns header.now p) (λ x. sample_at T.num plane.now x y) }
 {
-    plane.run(0, y, header.plane_width(p))
+    plane.run(0, y, header.shown_columns(p))
 }
 
 impl<T: Pixel> Planes<T> {
     ghost use Rattle.std.specs.Prelude.{◌≡◌, ◌<◌, ◌≤◌, IfOk, map};
     ghost use Rattle.av1_frame.specs.Planes.{sample_at};
     ghost use Rattle.av1_lists.specs.Lists.{by_index};
-    ghost use Rattle.av1_plan.specs.Geometry.{plane_width, plane_height};
+    ghost use Rattle.av1_plan.specs.Geometry.{shown_columns, shown_rows};
     ghost use Rattle.av1_plan.specs.ReadPlans.{IsReadFrame};
     ghost use Rattle.av1_tile.specs.PlaneBlocks.{component};
     ghost use Rattle.av1_tile.specs.Walk.{AreFilledWith, AreFrame, HasPads, HasRoom, plane_of, StoresAll};
@@ -102,12 +102,13 @@ impl<T: Pixel> Planes<T> {
         Ok(Planes { y, u, v })
     }
 
-    /// The visible row `y` of plane `p` (0 for Y, 1 for U and 2 for V) of a frame, from its first sample on.
+    /// Row `y` of what is shown of plane `p` (0 for Y, 1 for U and 2 for V) of a frame, from its first sample on.
+    #[tactic(auto, using(crate::proofs::Pictures::shows_part))]
     pub fn row(&self, header: &Header, p: usize, y: usize) -> &[T]
         requires frame { AreFrame header.now self.now }
         requires plane { p < 3 }
-        requires in_plane { y < plane_height header.now p }
-        ensures { map T.num result.now ≡ by_index (plane_width header.now p) (λ x. sample_at T.num (plane_of (component p) self.now) x y) }
+        requires in_plane { y < shown_rows header.now p }
+        ensures { map T.num result.now ≡ by_index (shown_columns header.now p) (λ x. sample_at T.num (plane_of (component p) self.now) x y) }
     {
         match p {
             0 => visible_row(&self.y, header, 0, y),

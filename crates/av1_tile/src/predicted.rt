@@ -25,7 +25,8 @@ fn copy_area<T: Pixel>(samples: &mut [T], width: usize, plane: &Plane<T>, area: 
     }
 }
 
-/// What was predicted of a plane's visible samples, row by row. It may have no rows: then nothing is kept in it.
+/// What was predicted of the samples that are shown of a plane, row by row. It may have no rows: then nothing is kept
+/// in it.
 #[derive(Drop)]
 pub struct PredictedPlane<T> {
     width: usize,
@@ -61,7 +62,7 @@ impl<T: Pixel> PredictedPlane<T> {
         }
     }
 
-    /// Zeros for each visible sample of plane `p` of a frame. An error is running out of memory.
+    /// Zeros for each sample that is shown of plane `p` of a frame. An error is running out of memory.
     pub(crate) fn new(
         alloc: Global,
         header: &Header,
@@ -70,8 +71,8 @@ impl<T: Pixel> PredictedPlane<T> {
         requires frame { IsReadFrame header.now }
         ensures { IfOk result (λ plane. plane ≡ no_rows T.pixel header.now p) }
     {
-        let width = header.plane_width(p);
-        let height = header.plane_height(p);
+        let width = header.shown_columns(p);
+        let height = header.shown_rows(p);
         Ok(PredictedPlane {
             width,
             height,
@@ -86,7 +87,7 @@ impl<T: Pixel> PredictedPlane<T> {
         self.samples.as_slice()
     }
 
-    /// Keeps what a plane holds in the rectangle `area`, as far as it is visible.
+    /// Keeps what a plane holds in the rectangle `area`, as far as it is shown.
     pub(crate) fn keep(&mut self, plane: &Plane<T>, area: StoredArea)
         requires { InPlane (visible_in area) plane.now }
         ensures { self.new ≡ copied T.num T.pixel plane.now area self.old }
@@ -131,7 +132,7 @@ impl<T: Pixel> PredictedPlanes<T> {
         }
     }
 
-    /// Zeros for each visible sample of a frame. An error is running out of memory.
+    /// Zeros for each sample that is shown of a frame. An error is running out of memory.
     pub(crate) fn new(alloc: Global, header: &Header) -> Result<PredictedPlanes<T>, OutOfMemory>
         requires frame { IsReadFrame header.now }
         ensures { IfOk result (λ kept. AreBlank T.pixel header.now kept) }
@@ -142,7 +143,7 @@ impl<T: Pixel> PredictedPlanes<T> {
         Ok(PredictedPlanes { y, u, v })
     }
 
-    /// Keeps what plane `p` holds in the rectangle `area`, as far as it is visible.
+    /// Keeps what plane `p` holds in the rectangle `area`, as far as it is shown.
     pub(crate) fn keep(&mut self, p: usize, plane: &Plane<T>, area: StoredArea)
         requires { InPlane (visible_in area) plane.now }
         ensures { self.new ≡ with_rows (component p) self.old

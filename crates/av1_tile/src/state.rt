@@ -39,7 +39,7 @@ impl<T: Pixel> TileState<T> {
     ghost use Rattle.av1_plan.specs.Values.{plan_value};
     ghost use Rattle.av1_plan.specs.Validity.{first_fault};
     ghost use Rattle.av1_references.specs.References.{HoldsReferences};
-    ghost use Rattle.av1_tile.specs.PlaneBlocks.{extent_of};
+    ghost use Rattle.av1_tile.specs.PlaneBlocks.{shown_of};
     ghost use Rattle.av1_tile.specs.State.{
       AreAlike,
       edges_of,
@@ -102,11 +102,11 @@ impl<T: Pixel> TileState<T> {
         self.memory.edges()
     }
 
-    /// The visible row `y` of plane `p` (0 for Y, 1 for U and 2 for V), from its first sample on.
+    /// Row `y` of what is shown of plane `p` (0 for Y, 1 for U and 2 for V), from its first sample on.
     pub fn row(&self, p: usize, y: usize) -> &[T]
         requires sound { IsSound T.num self.now }
         requires plane { p < 3 }
-        requires in_plane { y < (extent_of (state_header self.now) p).height }
+        requires in_plane { y < (shown_of (state_header self.now) p).height }
         ensures { map T.num result.now ≡ state_row T.num self.now p y }
     {
         self.planes.row(&self.header, p, y)

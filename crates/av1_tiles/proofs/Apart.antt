@@ -2,6 +2,7 @@
 use Rattle.std.proofs.Common.{◌≡◌, ◌≢◌, ℕ, ◌+◌, ◌-◌, ◌/◌, ◌%◌, ◌^◌, ◌<◌, ◌≤◌, ◌⊎◌, inl, inr, List, length, arith, slice_index}
 use Rattle.std.proofs.lemmas.Bool.{cases_eq, cases_lt}
 use Rattle.std.proofs.lemmas.Nat.{div_below, mod_below}
+use Rattle.av1_plan.proofs.Shown.{all_shown}
 use Rattle.av1_tiles.specs.declared.file.Front.{Front}
 use Rattle.av1_tiles.specs.Bounds.{AreBounds, IsReadFront}
 use Rattle.av1_tiles.specs.File.{front_value}
@@ -56,8 +57,9 @@ area_is f read i lt =
     let column = column_in f read i lt in
     let row = row_in f read i lt in
     record {
-      columns = omega (arith, read.columns.rising k column, read.columns.within (k + 1) column);
-      rows = omega (arith, read.rows.rising r row, read.rows.within (r + 1) row);
+      columns =
+          omega (arith, read.columns.rising k column, read.columns.within (k + 1) column, (all_shown f.header read.frame (omega (arith, read.version))).0);
+      rows = omega (arith, read.rows.rising r row, read.rows.within (r + 1) row, (all_shown f.header read.frame (omega (arith, read.version))).1);
       width = side_between f.header.width f.columns.items read.frame.width read.columns k column;
       height = side_between f.header.height f.rows.items read.frame.height read.rows r row;
     }

@@ -1,7 +1,7 @@
 -- The samples of a tile are those of its plan alone.
 use Rattle.std.proofs.Common.{◌≡◌, ℕ, ◌+◌, ◌<◌, sym, ap, subst, ◌∙◌}
 use Rattle.av1_plan.specs.declared.header.Header.{Header}
-use Rattle.av1_plan.specs.Geometry.{plane_width, plane_height}
+use Rattle.av1_plan.specs.Geometry.{shown_columns, shown_rows}
 use Rattle.av1_plan.specs.Grammar.{superblocks, plan_behind}
 use Rattle.av1_plan.specs.Plan.{PlanValue}
 use Rattle.av1_plan.specs.Spelling.{IsSpelled}
@@ -29,8 +29,8 @@ isolated f g plans_f plans_g frame_f frame_g i tiles_f tiles_g joined_f joined_g
     let p = number component in
     let header : tile_header f.front.header (tile_area f.front i) ≡ tile_header g.front.header (tile_area g.front i) =
     tile_header_is f i (plans_f i) (tiles_f i lt_f) ∙ ap (λ (plan : PlanValue). plan.header) same ∙ sym (tile_header_is g i (plans_g i) (tiles_g i lt_g)) in
-    let lx_g = subst (λ (h : Header). x < plane_width h p) header lx in
-    let ly_g = subst (λ (h : Header). y < plane_height h p) header ly in
+    let lx_g = subst (λ (h : Header). x < shown_columns h p) header lx in
+    let ly_g = subst (λ (h : Header). y < shown_rows h p) header ly in
     joined_f i lt_f component x y lx ly
     ∙ ap (λ (plan : PlanValue). sample_of (slow_walk plan component x y)) same
     ∙ sym (joined_g i lt_g component x y lx_g ly_g)

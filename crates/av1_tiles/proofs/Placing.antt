@@ -6,9 +6,10 @@ use Rattle.av1_lists.proofs.Lists.{get_or-by_index}
 use Rattle.av1_frame.specs.declared.plane.Plane.{Plane}
 use Rattle.av1_frame.specs.Areas.{VisibleArea, in_visible}
 use Rattle.av1_frame.specs.Planes.{InPlane, sample_at, painted_plane}
-use Rattle.av1_frame.proofs.Planes.{sample_at_inside, painted_plane_whole}
+use Rattle.av1_frame.proofs.Planes.{sample_at_inside}
 use Rattle.av1_plan.specs.declared.header.Header.{Header}
 use Rattle.av1_tile.specs.Walk.{IsPlaneOf}
+use Rattle.av1_tile.proofs.WithinDepth.{painted_place}
 use Rattle.av1_tiles.specs.declared.area.TileArea.{TileArea}
 use Rattle.av1_tiles.specs.Bounds.{AreBounds}
 use Rattle.av1_tiles.specs.Joined.{placed}
@@ -72,8 +73,8 @@ placed_fits h tile a p x y plane is area tile_is x_is y_is =
     let rows = rows_within h a p area in
     rw (tile_is, x_is, y_is) (record {
       storage = is.whole;
-      columns = omega (arith, columns, is.width, is.whole.visible_columns);
-      rows = omega (arith, rows, is.height, is.whole.visible_rows);
+      columns = omega (arith, columns, is.shown_columns, is.whole.visible_columns);
+      rows = omega (arith, rows, is.shown_rows, is.whole.visible_rows);
     })
 
 -- a plane of a frame that was painted is one
@@ -81,4 +82,4 @@ pub painted_plane_of : {T : Type 0} (h : Header) (p : ℕ) (plane new : Plane T)
     new ≡ painted_plane plane a f → IsPlaneOf h p new
 painted_plane_of h p plane new a f is e =
     subst (IsPlaneOf h p) (sym e)
-    (record { whole = painted_plane_whole plane a f is.whole; width = is.width; height = is.height; xdec = is.xdec; ydec = is.ydec })
+    (painted_place h p plane a f is)

@@ -3,12 +3,14 @@ use Rattle.std.proofs.Common.{◌≡◌, ℕ, ◌-◌, ◌*◌, ◌≤◌, lengt
 use Rattle.std.specs.Prelude.{vec_len}
 use Rattle.av1_plan.specs.Format.{four, Input, read}
 use Rattle.av1_plan.specs.Grammar.{where_, frame, references}
+use Rattle.av1_plan.specs.ReadPlans.{IsReadFrame}
 use Rattle.av1_plan.specs.Spelling.{IsSpelled}
 use Rattle.av1_plan.proofs.Fields.{AreBytes}
 use Rattle.av1_plan.proofs.Pieces.{spelled_done, spelled_asks, spelled_bind}
 use Rattle.av1_plan.proofs.ReadFrames.{frame_is}
 use Rattle.av1_plan.proofs.ReadReferences.{stored_are}
 use Rattle.av1_plan.proofs.Spelled.{read_spells}
+use Rattle.av1_plan.proofs.Versions.{frame_version}
 use Rattle.av1_tiles.specs.declared.file.Front.{Front}
 use Rattle.av1_tiles.specs.Bounds.{AreBounds, IsReadFront}
 use Rattle.av1_tiles.specs.File.{front_value}
@@ -33,6 +35,9 @@ pieces v s =
     record { header = h_spelled; references = slots_spelled; columns = columns_spelled; rows = rows_spelled } in
     subst HasPieces (spelled_done _ v s5) whole
 
+pub front_frame : (v : FrontValue) → IsSpelled front v → IsReadFrame v.header
+front_frame v s = frame_is 2 v.header (lit≤ tt) (lit≤ tt) (pieces v s).header
+
 -- the bounds of the columns and rows of tiles
 pub record HasBounds (v : FrontValue) : Type 0 where
   pub columns : AreBounds v.header.width v.columns
@@ -54,6 +59,7 @@ front_is f eight s =
     let bounds = front_bounds (front_value f) s in
     record {
       frame = is;
+      version = frame_version 2 p.header.values f.header p.header.spells;
       eight = eight;
       slots = stored_are f.header f.references.items eight p.references;
       columns = bounds.columns;

@@ -1,5 +1,5 @@
 -- The rectangle of a plane's samples is a plane of the tile.
-use Rattle.std.proofs.Common.{◌≡◌, ℕ, zero, suc, ◌+◌, ◌*◌, ◌/◌, ◌^◌, ◌<◌, ◌≤◌, List, ◌++◌, length, drop, All, refl, sym, ap, subst, ◌∙◌, arith}
+use Rattle.std.proofs.Common.{◌≡◌, ℕ, zero, suc, ◌+◌, ◌*◌, ◌/◌, ◌%◌, ◌^◌, ◌<◌, ◌≤◌, List, ◌++◌, length, drop, All, refl, sym, ap, subst, ◌∙◌, arith}
 use Rattle.std.specs.List.{flat_map, range_with_len}
 use Rattle.std.proofs.lemmas.Grind.{flat_map-append}
 use Rattle.std.proofs.lemmas.List.{append-nil, length-append, length-take-le, length-drop}
@@ -7,8 +7,9 @@ use Rattle.std.proofs.lemmas.List.Elements.{All-nil, All-append, All-take, All-d
 use Rattle.av1_lists.proofs.Ranges.{range-append}
 use Rattle.std.specs.Prelude.{◌==◌, nat_lt, Bool, true, false, if◌then◌else◌}
 use Rattle.av1_plan.specs.declared.header.Header.{Header}
-use Rattle.av1_plan.specs.Geometry.{xdec, ydec, plane_width, plane_height}
+use Rattle.av1_plan.specs.Geometry.{xdec, ydec, shown_columns, shown_rows}
 use Rattle.av1_plan.specs.ReadPlans.{ArePlane, IsReadFrame}
+use Rattle.av1_plan.proofs.Shown.{rows_few}
 use Rattle.av1_tiles.specs.declared.area.TileArea.{TileArea}
 use Rattle.av1_tiles.specs.Tiles.{IsTileArea, tile_header, corner_column, corner_row, rectangle, tile_plane}
 
@@ -64,7 +65,7 @@ rectangle_all P stride x y width height samples all =
 -- ---- tiles
 
 -- a part of a halved side ends in the halved side
-halves : (x w s d : ℕ) → d ≤ 1 → x + w ≤ s → x / 2 ^ d + w / 2 ^ d ≤ s / 2 ^ d
+halves : (x w s d : ℕ) → d ≤ 1 → x + w ≤ s → x / 2 ^ d + (w + d) / 2 ^ d ≤ (s + d) / 2 ^ d
 halves x w s zero le h = omega (arith, h)
 halves x w s (suc zero) le h = omega (arith, h)
 halves x w s (suc (suc d)) le h = absurd (omega (arith, le))
@@ -98,17 +99,17 @@ same_ydec h a zero = refl
 same_ydec h a (suc p) = refl
 
 -- a tile's columns and rows end in each plane
-pub columns_within : (h : Header) (a : TileArea) (p : ℕ) → IsTileArea h a → corner_column h a p + plane_width (tile_header h a) p ≤ plane_width h p
-unfolding plane_width
-columns_within h a p is = rw (same_xdec h a p) (halves a.x a.width h.width (xdec h p) (xdec_small h p) is.columns)
+pub columns_within : (h : Header) (a : TileArea) (p : ℕ) → IsTileArea h a → corner_column h a p + shown_columns (tile_header h a) p ≤ shown_columns h p
+unfolding shown_columns
+columns_within h a p is = rw (same_xdec h a p) (halves a.x a.width h.shown_width (xdec h p) (xdec_small h p) is.columns)
 
-pub rows_within : (h : Header) (a : TileArea) (p : ℕ) → IsTileArea h a → corner_row h a p + plane_height (tile_header h a) p ≤ plane_height h p
-unfolding plane_height
-rows_within h a p is = rw (same_ydec h a p) (halves a.y a.height h.height (ydec h p) (ydec_small h p) is.rows)
+pub rows_within : (h : Header) (a : TileArea) (p : ℕ) → IsTileArea h a → corner_row h a p + shown_rows (tile_header h a) p ≤ shown_rows h p
+unfolding shown_rows
+rows_within h a p is = rw (same_ydec h a p) (halves a.y a.height h.shown_height (ydec h p) (ydec_small h p) is.rows)
 
 pub samples_within : (h : Header) (a : TileArea) (p : ℕ) (samples : List ℕ) → IsTileArea h a → ArePlane h p samples →
-    (corner_row h a p + plane_height (tile_header h a) p) * plane_width h p ≤ length samples
-samples_within h a p samples is are = lines _ (plane_height h p) (plane_width h p) (length samples) (rows_within h a p is) are.count
+    (corner_row h a p + shown_rows (tile_header h a) p) * shown_columns h p ≤ length samples
+samples_within h a p samples is are = lines _ (shown_rows h p) (shown_columns h p) (length samples) (rows_within h a p is) are.count
   where
     lines : (n height width count : ℕ) → n ≤ height → count ≡ width * height → n * width ≤ count
     lines n height width count le e = grind arith
@@ -117,9 +118,9 @@ pub plane_of_tile : (h : Header) (a : TileArea) (p : ℕ) (samples : List ℕ) �
     ArePlane (tile_header h a) p (tile_plane h a p samples)
 unfolding tile_plane
 plane_of_tile h a p samples is are =
-    let stride = plane_width h p in
-    let width = plane_width (tile_header h a) p in
-    let height = plane_height (tile_header h a) p in
+    let stride = shown_columns h p in
+    let width = shown_columns (tile_header h a) p in
+    let height = shown_rows (tile_header h a) p in
     let count = rectangle_count stride (corner_column h a p) (corner_row h a p) width height samples (columns_within h a p is)
     (samples_within h a p samples is are) in
     let turned : height * width ≡ width * height = omega arith in
@@ -130,34 +131,35 @@ plane_of_tile h a p samples is are =
 
 -- the same of what calls gave
 pub columns_by : (h tile : Header) (a : TileArea) (p x dec width stride : ℕ) → IsTileArea h a → tile ≡ tile_header h a → x ≡ a.x → dec ≡ xdec h p →
-    width ≡ plane_width tile p → stride ≡ plane_width h p → x / 2 ^ dec + width ≤ stride
+    width ≡ shown_columns tile p → stride ≡ shown_columns h p → x / 2 ^ dec + width ≤ stride
 columns_by h tile a p x dec width stride is tile_is x_is dec_is width_is stride_is = rw (x_is, dec_is, width_is, stride_is, tile_is) (columns_within h a p is)
 
 pub samples_by : (h tile : Header) (a : TileArea) (p y dec height stride : ℕ) (samples : List ℕ) → IsTileArea h a → ArePlane h p samples →
-    tile ≡ tile_header h a → y ≡ a.y → dec ≡ ydec h p → height ≡ plane_height tile p → stride ≡ plane_width h p
+    tile ≡ tile_header h a → y ≡ a.y → dec ≡ ydec h p → height ≡ shown_rows tile p → stride ≡ shown_columns h p
     → (y / 2 ^ dec + height) * stride ≤ length samples
 samples_by h tile a p y dec height stride samples is are tile_is y_is dec_is height_is stride_is =
     rw (y_is, dec_is, height_is, stride_is, tile_is) (samples_within h a p samples is are)
 
 -- there are few rows
 pub few_by : (h tile : Header) (a : TileArea) (p y dec height : ℕ) → IsReadFrame h → IsTileArea h a → tile ≡ tile_header h a → y ≡ a.y → dec ≡ ydec h p →
-    height ≡ plane_height tile p → y / 2 ^ dec + height ≤ 65536
-unfolding plane_height
+    height ≡ shown_rows tile p → y / 2 ^ dec + height ≤ 65536
 few_by h tile a p y dec height frame is tile_is y_is dec_is height_is =
     let within = rows_within h a p is in
-    let most = whole h.height (ydec h p) (ydec_small h p) in
-    rw (y_is, dec_is, height_is, tile_is) (omega (arith, within, most, frame.height.most))
-  where
-    whole : (s d : ℕ) → d ≤ 1 → s / 2 ^ d ≤ s
-    whole s zero le = omega arith
-    whole s (suc zero) le = omega arith
-    whole s (suc (suc d)) le = absurd (omega (arith, le))
+    rw (y_is, dec_is, height_is, tile_is) (omega (arith, within, rows_few h p, frame.shown_height.within, frame.height.most))
+
+-- a side of a tile is even
+even_side : (w d : ℕ) → d ≤ 1 → w % 8 ≡ 0 → (w + d) / 2 ^ d ≡ w / 2 ^ d
+even_side w zero le whole = omega arith
+even_side w (suc zero) le whole = omega (arith, whole)
+even_side w (suc (suc d)) le whole = absurd (omega (arith, le))
 
 -- the sides of a tile's plane
-pub tile_width : (h : Header) (a : TileArea) (p : ℕ) → plane_width (tile_header h a) p ≡ a.width / 2 ^ xdec h p
-unfolding plane_width
-tile_width h a p = ap (λ (d : ℕ). a.width / 2 ^ d) (same_xdec h a p)
+pub tile_width : (h : Header) (a : TileArea) (p : ℕ) → a.width % 8 ≡ 0 → shown_columns (tile_header h a) p ≡ a.width / 2 ^ xdec h p
+unfolding shown_columns
+tile_width h a p whole =
+    ap (λ (d : ℕ). (a.width + d) / 2 ^ d) (same_xdec h a p) ∙ even_side a.width (xdec h p) (xdec_small h p) whole
 
-pub tile_height : (h : Header) (a : TileArea) (p : ℕ) → plane_height (tile_header h a) p ≡ a.height / 2 ^ ydec h p
-unfolding plane_height
-tile_height h a p = ap (λ (d : ℕ). a.height / 2 ^ d) (same_ydec h a p)
+pub tile_height : (h : Header) (a : TileArea) (p : ℕ) → a.height % 8 ≡ 0 → shown_rows (tile_header h a) p ≡ a.height / 2 ^ ydec h p
+unfolding shown_rows
+tile_height h a p whole =
+    ap (λ (d : ℕ). (a.height + d) / 2 ^ d) (same_ydec h a p) ∙ even_side a.height (ydec h p) (ydec_small h p) whole

@@ -6,7 +6,7 @@ use Rattle.av1_frame.specs.Areas.{in_visible}
 use Rattle.av1_frame.specs.Planes.{sample_at, painted_plane}
 use Rattle.av1_frame.proofs.Planes.{sample_at_outside}
 use Rattle.av1_plan.specs.declared.header.Header.{Header}
-use Rattle.av1_plan.specs.Geometry.{xdec, ydec, plane_width, plane_height}
+use Rattle.av1_plan.specs.Geometry.{xdec, ydec, shown_columns, shown_rows}
 use Rattle.av1_plan.specs.Plan.{PlanValue}
 use Rattle.av1_tile.specs.declared.planes.Planes.{Planes}
 use Rattle.av1_tile.specs.Canvas.{Component, Y, U, V}
@@ -55,12 +55,12 @@ shows_own num pixel back there f i plan own q old new are area shows same header
     let fits =
     placed_fits f.header (tile_header f.header (tile_area f i)) (tile_area f i) p _ _ (plane_of c old) (frame_plane f.header old are c) area refl refl refl
     in
-    let inside : y < plane_height plan.header p = subst (λ (h : Header). y < plane_height h p) header ly in
+    let inside : y < shown_rows plan.header p = subst (λ (h : Header). y < shown_rows h p) header ly in
     let row : row_in num own q p y ≡ by_index a.width (λ x. sample_of (slow_walk plan c x y)) =
-    ap (λ (h : Header). by_index (plane_width h p) (λ x. samples_of num q (component p) x y)) same
-    ∙ ap (λ (k : Component). by_index (plane_width plan.header p) (λ x. samples_of num q k x y)) (same_component c)
-    ∙ listed_same (plane_width plan.header p) (λ x. samples_of num q c x y) (λ x. sample_of (slow_walk plan c x y)) (λ x hx. shows c x y hx inside)
-    ∙ ap (λ (h : Header). by_index (plane_width h p) (λ x. sample_of (slow_walk plan c x y))) (sym header) in
+    ap (λ (h : Header). by_index (shown_columns h p) (λ x. samples_of num q (component p) x y)) same
+    ∙ ap (λ (k : Component). by_index (shown_columns plan.header p) (λ x. samples_of num q k x y)) (same_component c)
+    ∙ listed_same (shown_columns plan.header p) (λ x. samples_of num q c x y) (λ x. sample_of (slow_walk plan c x y)) (λ x hx. shows c x y hx inside)
+    ∙ ap (λ (h : Header). by_index (shown_columns h p) (λ x. sample_of (slow_walk plan c x y))) (sym header) in
     ap (λ (q : Plane _). sample_at num q (a.x + x) (a.y + y)) (placed c)
     ∙ placed_sample num pixel back there (plane_of c old) a (λ r. row_in num own q p r) (λ x y. sample_of (slow_walk plan c x y)) fits x y lx ly row
 
@@ -84,16 +84,18 @@ shows_other num pixel back f read i j lt_i lt_j differ plan old new g are placed
     let plane = plane_of c old in
     let is = frame_plane h old are c in
     let area = area_is f read j lt_j in
-    let in_x : x < other.width / 2 ^ xdec h p = subst (λ (n : ℕ). x < n) (tile_width h other p) lx in
-    let in_y : y < other.height / 2 ^ ydec h p = subst (λ (n : ℕ). y < n) (tile_height h other p) ly in
+    let first = area_is f read i lt_i in
+    let in_x : x < other.width / 2 ^ xdec h p = subst (λ (n : ℕ). x < n) (tile_width h other p area.width.whole) lx in
+    let in_y : y < other.height / 2 ^ ydec h p = subst (λ (n : ℕ). y < n) (tile_height h other p area.height.whole) ly in
     let out : in_visible a column row ≡ false =
     outside a column row (elim (tiles_apart f read i j lt_i lt_j differ (xdec h p) (ydec h p) x y (xdec_small h p) (ydec_small h p) in_x in_y) [
-      | inl columns ↦ inl (apart_by (corner_column h one p) (one.width / 2 ^ xdec h p) column a.width (tile_width h one p) columns)
-      | inr rows ↦ inr (apart_by (corner_row h one p) (one.height / 2 ^ ydec h p) row a.height (tile_height h one p) rows)
+      | inl columns ↦ inl (apart_by (corner_column h one p) (one.width / 2 ^ xdec h p) column a.width (tile_width h one p first.width.whole) columns)
+      | inr rows ↦ inr (apart_by (corner_row h one p) (one.height / 2 ^ ydec h p) row a.height (tile_height h one p first.height.whole) rows)
     ]) in
     ap (λ (q : Plane _). sample_at num q column row) (placed c)
-    ∙ sample_at_outside num pixel back plane a (g c) column row is.whole (omega (arith, columns_within h other p area, lx, is.width, is.whole.visible_columns))
-    (omega (arith, rows_within h other p area, ly, is.height, is.whole.visible_rows)) out
+    ∙ sample_at_outside num pixel back plane a (g c) column row is.whole
+    (omega (arith, columns_within h other p area, lx, is.shown_columns, is.whole.visible_columns))
+    (omega (arith, rows_within h other p area, ly, is.shown_rows, is.whole.visible_rows)) out
     ∙ before c x y lx ly
 
 -- what a frame shows once tile i was reconstructed into it: the tile's own plan, and what it showed of all others

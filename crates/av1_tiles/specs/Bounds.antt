@@ -21,6 +21,7 @@ pub record AreBounds (side : ℕ) (bounds : List ℕ) : Type 0 where
 -- what stands before the parts, where it was read
 pub record IsReadFront (f : Front) : Type 0 where
   pub frame : IsReadFrame f.header
+  pub version : f.header.version ≡ 2
   pub eight : length f.references.items ≡ 8
   pub slots : AreStoredSlots f.header f.references.items 8
   pub columns : AreBounds f.header.width f.columns.items

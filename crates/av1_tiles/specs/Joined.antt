@@ -3,7 +3,7 @@ use Rattle.std.specs.Prelude.{◌≡◌, ℕ, ◌+◌, ◌<◌, List}
 use Rattle.av1_lists.specs.Lists.{by_index}
 use Rattle.av1_frame.specs.Areas.{VisibleArea}
 use Rattle.av1_plan.specs.declared.header.Header.{Header}
-use Rattle.av1_plan.specs.Geometry.{plane_width, plane_height}
+use Rattle.av1_plan.specs.Geometry.{shown_columns, shown_rows}
 use Rattle.av1_plan.specs.Plan.{PlanValue}
 use Rattle.av1_tile.specs.declared.planes.Planes.{Planes}
 use Rattle.av1_tile.specs.Canvas.{Component}
@@ -16,13 +16,13 @@ use Rattle.av1_tiles.specs.Grammar.{FrontValue, FileValue, count_tiles}
 use Rattle.av1_tiles.specs.Tiles.{tile_area, tile_header, corner_column, corner_row}
 use Rattle.av1_tiles.specs.Validity.{AreTiles}
 
--- the rectangle of a plane from column x of row y on that has the sides of plane p of a frame
+-- the rectangle of a plane from column x of row y on that has the sides of what is shown of plane p of a frame
 abbrev pub placed : Header → (p x y : ℕ) → VisibleArea
-placed h p x y = record { x = x; y = y; width = plane_width h p; height = plane_height h p }
+placed h p x y = record { x = x; y = y; width = shown_columns h p; height = shown_rows h p }
 
--- row y of the visible plane p of a frame
+-- row y of what is shown of plane p of a frame
 abbrev pub row_in : {T : Type 0} → (T → ℕ) → Header → Planes T → (p y : ℕ) → List ℕ
-row_in num h planes p y = by_index (plane_width h p) (λ x. samples_of num planes (component p) x y)
+row_in num h planes p y = by_index (shown_columns h p) (λ x. samples_of num planes (component p) x y)
 
 -- a tile's rectangle of plane p of its frame
 abbrev pub tile_rectangle : Header → TileArea → (p : ℕ) → VisibleArea
@@ -30,10 +30,10 @@ tile_rectangle h a p = placed (tile_header h a) p (corner_column h a p) (corner_
 
 -- the sides of tile i in plane p
 abbrev pub tile_columns : FrontValue → (i p : ℕ) → ℕ
-tile_columns f i p = plane_width (tile_header f.header (tile_area f i)) p
+tile_columns f i p = shown_columns (tile_header f.header (tile_area f i)) p
 
 abbrev pub tile_rows : FrontValue → (i p : ℕ) → ℕ
-tile_rows f i p = plane_height (tile_header f.header (tile_area f i)) p
+tile_rows f i p = shown_rows (tile_header f.header (tile_area f i)) p
 
 -- at the samples of tile i the frame is what the tile's plan comes to, counted from the tile's corner in each plane
 abbrev pub ShowsTile : FrontValue → (i : ℕ) → PlanValue → (Component → ℕ → ℕ → ℕ) → Type 0

@@ -4,7 +4,7 @@ use Rattle.std.specs.Prelude.{option_map, slice_index, slice_index_or}
 use Rattle.std.specs.List.{flat_map, range_with_len}
 use Rattle.av1_plan.specs.declared.header.Header.{Header}
 use Rattle.av1_plan.specs.Format.{Format}
-use Rattle.av1_plan.specs.Geometry.{xdec, ydec, plane_width, plane_height}
+use Rattle.av1_plan.specs.Geometry.{xdec, ydec, shown_columns, shown_rows}
 use Rattle.av1_plan.specs.Grammar.{plan_behind}
 use Rattle.av1_plan.specs.Plan.{PlanValue}
 use Rattle.av1_plan.specs.ReadPlans.{IsSide}
@@ -30,17 +30,19 @@ tile_area f i = area_between f.columns f.rows (i % across f) (i / across f)
 
 -- a rectangle of the frame whose sides are those of a frame
 pub record IsTileArea (h : Header) (a : TileArea) : Type 0 where
-  pub columns : a.x + a.width ≤ h.width
-  pub rows : a.y + a.height ≤ h.height
+  pub columns : a.x + a.width ≤ h.shown_width
+  pub rows : a.y + a.height ≤ h.shown_height
   pub width : IsSide a.width
   pub height : IsSide a.height
 
--- a tile as a frame of its own
+-- a tile as a frame of its own, of which all is shown
 abbrev pub tile_header : Header → TileArea → Header
 tile_header h a = record {
   version = h.version;
   width = a.width;
   height = a.height;
+  shown_width = a.width;
+  shown_height = a.height;
   depth = h.depth;
   sampling = h.sampling;
   filter = h.filter;
@@ -64,8 +66,8 @@ rectangle stride x y width height samples =
 -- a tile's rectangle of plane p of a reference
 unfoldable pub tile_plane : Header → TileArea → ℕ → List ℕ → List ℕ
 tile_plane h a p samples =
-    rectangle (plane_width h p) (corner_column h a p) (corner_row h a p) (plane_width (tile_header h a) p)
-    (plane_height (tile_header h a) p) samples
+    rectangle (shown_columns h p) (corner_column h a p) (corner_row h a p) (shown_columns (tile_header h a) p)
+    (shown_rows (tile_header h a) p) samples
 
 -- and of its three planes
 abbrev pub tile_planes : Header → TileArea → List (List ℕ) → List (List ℕ)

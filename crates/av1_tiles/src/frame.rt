@@ -4,7 +4,7 @@ ghost use Rattle.std.specs.Prelude.{◌≡◌, ◌<◌, ◌≤◌, length, slice
 ghost use Rattle.av1_frame.specs.Planes.{InPlane, painted_plane};
 ghost use Rattle.av1_frame.specs.Regions.{InStorage, painted};
 ghost use Rattle.av1_frame.specs.Samples.{paint_row};
-ghost use Rattle.av1_plan.specs.Geometry.{plane_width, plane_height};
+ghost use Rattle.av1_plan.specs.Geometry.{shown_columns, shown_rows};
 ghost use Rattle.av1_plan.specs.Values.{plan_value};
 ghost use Rattle.av1_plan.specs.Validity.{first_fault};
 ghost use Rattle.av1_tile.specs.Memory.{HasRoomFor, ShowsPlan};
@@ -44,8 +44,8 @@ pub struct TilePicture<T: Pixel> {
 fn copy_tile_row<T: Pixel>(row: &mut [T], tile: &TilePicture<T>, p: usize, y: usize, width: usize)
     requires tile { AreFrame tile.now.header tile.now.planes }
     requires plane { p < 3 }
-    requires in_plane { y < plane_height tile.now.header p }
-    requires columns { width ≡ plane_width tile.now.header p }
+    requires in_plane { y < shown_rows tile.now.header p }
+    requires columns { width ≡ shown_columns tile.now.header p }
     requires row_long { width ≤ length row.old }
     ensures { row.new ≡ paint_row width (λ c _. T.pixel (slice_index (row_in T.num tile.now.header tile.now.planes p y) c)) row.old }
 {
@@ -63,8 +63,8 @@ fn copy_rows<T: Pixel>(
 )
     requires tile { AreFrame tile.now.header tile.now.planes }
     requires plane { p < 3 }
-    requires columns { width ≡ plane_width tile.now.header p }
-    requires rows { height ≡ plane_height tile.now.header p }
+    requires columns { width ≡ shown_columns tile.now.header p }
+    requires rows { height ≡ shown_rows tile.now.header p }
     requires fits { InStorage output.old }
     requires columns_fit { width ≤ output.old.area.width }
     requires rows_fit { height ≤ output.old.area.height }
@@ -84,8 +84,8 @@ fn place_plane<T: Pixel>(plane: &mut Plane<T>, tile: &TilePicture<T>, p: usize, 
     ensures { plane.new ≡ painted_plane plane.old (placed tile.now.header p x y)
         (λ r c _. T.pixel (slice_index (row_in T.num tile.now.header tile.now.planes p r) c)) }
 {
-    let width = tile.header.plane_width(p);
-    let height = tile.header.plane_height(p);
+    let width = tile.header.shown_columns(p);
+    let height = tile.header.shown_rows(p);
     copy_rows(
         &mut plane.region_mut(visible_area(x, y, width, height)),
         tile,

@@ -21,6 +21,7 @@ use av1_recon::PlanRefusal;
 use std::alloc::{AllocError, Global};
 
 /// The rectangle between the bounds from a column and a row of tiles on.
+#[tactic(auto, using(av1_plan::proofs::Shown::all_shown))]
 fn area_between(
     header: &Header,
     columns: &[u16],
@@ -29,6 +30,7 @@ fn area_between(
     row: usize,
 ) -> TileArea
     requires frame { IsReadFrame header.now }
+    requires early { header.now.version ≤ 2 }
     requires columns { AreBounds header.now.width columns.now }
     requires rows { AreBounds header.now.height rows.now }
     requires column { column + 1 < length columns.now }
@@ -72,6 +74,8 @@ fn tile_header(header: &Header, area: TileArea) -> Header
         version: header.version,
         width: area.width,
         height: area.height,
+        shown_width: area.width,
+        shown_height: area.height,
         depth: header.depth,
         sampling: header.sampling,
         filter: header.filter,
@@ -123,11 +127,11 @@ fn tile_plane(
     rectangle(
         alloc,
         samples,
-        header.plane_width(p),
+        header.shown_columns(p),
         usize::from(area.x) >> header.xdec(p),
         usize::from(area.y) >> header.ydec(p),
-        tile.plane_width(p),
-        tile.plane_height(p),
+        tile.shown_columns(p),
+        tile.shown_rows(p),
     )
 }
 

@@ -9,7 +9,8 @@ use Rattle.av1_blocks.specs.Blocks.{block_width, block_height}
 use Rattle.av1_lists.proofs.Lists.{get_or-by_index, length-by_index}
 use Rattle.av1_plan.specs.declared.header.Header.{Header}
 use Rattle.av1_plan.specs.declared.geometry.PlaneArea.{PlaneArea}
-use Rattle.av1_plan.specs.Geometry.{covers_plane, plane_area, plane_height, plane_width}
+use Rattle.av1_plan.specs.Geometry.{covers_plane, plane_area, shown_rows, shown_columns}
+use Rattle.av1_plan.proofs.Shown.{columns_few}
 use Rattle.av1_plan.specs.ReadPlans.{IsReadFrame}
 use Rattle.av1_tile.specs.State.{plan_row}
 use Rattle.av1_plan.specs.declared.leaf.Leaf.{Leaf}
@@ -29,59 +30,59 @@ use Rattle.av1_trace.proofs.SameSamples.{agrees, none_listed}
 
 -- the numbers of a row, and the samples of a row's bytes, are those of the plane
 pub record IsRow (plan : PlanValue) (bytes : List ℕ) (p y depth : ℕ) (row numbers : List ℕ) : Type 0 where
-  pub given_are : (x : ℕ) → x < plane_width plan.header p → sample_from depth row x ≡ given plan.header bytes p x y
+  pub given_are : (x : ℕ) → x < shown_columns plan.header p → sample_from depth row x ≡ given plan.header bytes p x y
   pub numbers_are : numbers ≡ plan_row plan p y
 
 pub is_row : (plan : PlanValue) (bytes : List ℕ) (p y : ℕ) (h : Header) (row numbers : List ℕ) → h ≡ plan.header
-    → ((x : ℕ) → x < plane_width h p → sample_from h.depth row x ≡ given h bytes p x y) → numbers ≡ plan_row plan p y → IsRow plan bytes p y h.depth row numbers
+    → ((x : ℕ) → x < shown_columns h p → sample_from h.depth row x ≡ given h bytes p x y) → numbers ≡ plan_row plan p y →
+    IsRow plan bytes p y h.depth row numbers
 is_row plan bytes p y h row numbers same f e = record {
-  given_are = subst (λ (k : Header). (x : ℕ) → x < plane_width k p → sample_from h.depth row x ≡ given k bytes p x y) same f;
+  given_are = subst (λ (k : Header). (x : ℕ) → x < shown_columns k p → sample_from h.depth row x ≡ given k bytes p x y) same f;
   numbers_are = e;
 }
 
 -- a row is as long as its plane is wide
 pub row_is_long : {T : Type 0} (num : T → ℕ) (plan : PlanValue) (p y right : ℕ) (row : List T) → map num row ≡ plan_row plan p y →
-    right ≤ plane_width plan.header p → right ≤ length row
+    right ≤ shown_columns plan.header p → right ≤ length row
 row_is_long num plan p y right row e h =
-    let long : length row ≡ plane_width plan.header p = sym (length-map row num) ∙ ap length e
-    ∙ length-by_index (plane_width plan.header p) (λ x. defined plan p x y) in
+    let long : length row ≡ shown_columns plan.header p = sym (length-map row num) ∙ ap length e
+    ∙ length-by_index (shown_columns plan.header p) (λ x. defined plan p x y) in
     omega (arith, h, long)
 
-pub few_columns : (h k : Header) (p right : ℕ) → k ≡ h → IsReadFrame k → right ≤ plane_width h p → right ≤ 65536
-unfolding plane_width
+pub few_columns : (h k : Header) (p right : ℕ) → k ≡ h → IsReadFrame k → right ≤ shown_columns h p → right ≤ 65536
 few_columns h k p right same read within =
     let frame : IsReadFrame h = subst IsReadFrame same read in
-    omega (arith, within, frame.width.most)
+    omega (arith, within, columns_few h p, frame.shown_width.within, frame.width.most)
 
 number_is : (plan : PlanValue) (bytes : List ℕ) (p y x depth : ℕ) (row numbers : List ℕ) → IsRow plan bytes p y depth row numbers →
-    x < plane_width plan.header p → get_or numbers x 0 ≡ defined plan p x y
+    x < shown_columns plan.header p → get_or numbers x 0 ≡ defined plan p x y
 number_is plan bytes p y x depth row numbers is h =
-    ap (λ l. get_or l x 0) is.numbers_are ∙ get_or-by_index (plane_width plan.header p) (λ c. defined plan p c y) x 0 h
+    ap (λ l. get_or l x 0) is.numbers_are ∙ get_or-by_index (shown_columns plan.header p) (λ c. defined plan p c y) x 0 h
 
 row_agrees : (plan : PlanValue) (bytes : List ℕ) (p y left right depth : ℕ) (row numbers : List ℕ) → IsRow plan bytes p y depth row numbers →
-    right ≤ plane_width plan.header p
+    right ≤ shown_columns plan.header p
     → ((x : ℕ) → left ≤ x → x < right → sample_from depth row x ≡ get_or numbers x 0) → AgreeFrom plan bytes p y left right
 row_agrees plan bytes p y left right depth row numbers is within same x l h =
-    let inside : x < plane_width plan.header p = omega arith in
+    let inside : x < shown_columns plan.header p = omega arith in
     sym (is.given_are x inside) ∙ same x l h ∙ number_is plan bytes p y x depth row numbers is inside
 
 -- what is said of a row's bytes and numbers, said of the plane
 pub none_in_row : (plan : PlanValue) (bytes : List ℕ) (p y left right depth : ℕ) (row numbers : List ℕ) (found : Option Other) →
-    IsRow plan bytes p y depth row numbers → right ≤ plane_width plan.header p
+    IsRow plan bytes p y depth row numbers → right ≤ shown_columns plan.header p
     → IfNone found ((x : ℕ) → left ≤ x → x < right → sample_from depth row x ≡ get_or numbers x 0) → IfNone found (AgreeFrom plan bytes p y left right)
 none_in_row plan bytes p y left right depth row numbers None is within same = row_agrees plan bytes p y left right depth row numbers is within same
 none_in_row plan bytes p y left right depth row numbers (Some other) is within same = tt
 
 pub some_in_row : (plan : PlanValue) (bytes : List ℕ) (p y left right depth : ℕ) (row numbers : List ℕ) (found : Option Other) →
-    IsRow plan bytes p y depth row numbers → right ≤ plane_width plan.header p
+    IsRow plan bytes p y depth row numbers → right ≤ shown_columns plan.header p
     → IfSome found (λ other. (left ≤ other.column) × (other.column < right) × (other.given ≢ other.defined))
     → IfSome found (λ other. (other.given ≡ sample_from depth row other.column) × (other.defined ≡ get_or numbers other.column 0))
     → IfSome found (λ other. (x : ℕ) → left ≤ x → x < other.column → sample_from depth row x ≡ get_or numbers x 0)
     → IfSome found (λ other. IsOther plan bytes p y left right other)
 some_in_row plan bytes p y left right depth row numbers None is within place samples same = tt
 some_in_row plan bytes p y left right depth row numbers (Some other) is within (from, before, differs) (g, d) same =
-    let inside : other.column < plane_width plan.header p = omega arith in
-    let some : other.column ≤ plane_width plan.header p = omega arith in
+    let inside : other.column < shown_columns plan.header p = omega arith in
+    let some : other.column ≤ shown_columns plan.header p = omega arith in
     record {
       from = from;
       before = before;
@@ -114,9 +115,9 @@ one_row_more plan bytes p left right top y above here x r a b t u = elim (cases_
 -- a rectangle, by the columns and rows from which and up to which it is visible
 pub record IsRectangle (h : Header) (p : ℕ) (a : PlaneArea) (left right top bottom : ℕ) : Type 0 where
   pub left_is : left ≡ a.x
-  pub right_is : right ≡ min (a.x + block_width a.size) (plane_width h p)
+  pub right_is : right ≡ min (a.x + block_width a.size) (shown_columns h p)
   pub top_is : top ≡ a.y
-  pub bottom_is : bottom ≡ min (a.y + block_height a.size) (plane_height h p)
+  pub bottom_is : bottom ≡ min (a.y + block_height a.size) (shown_rows h p)
 
 -- all of its rows agree
 pub all_agree : (plan : PlanValue) (bytes : List ℕ) (n p : ℕ) (a : PlaneArea) (left right top bottom y : ℕ) →
@@ -152,15 +153,16 @@ first_is plan bytes n p a left right top bottom y other box over below is above 
     let from : a.x ≤ x = omega (arith, is.from, box.left_is) in
     let begins : a.y ≤ y = omega (arith, over, box.top_is) in
     let ne : given h bytes p x y ≢ defined plan p x y = λ same. is.differs (is.given_is ∙ same ∙ sym is.defined_is) in
-    let found = first_passes q a.x (min (a.x + block_width a.size) (plane_width h p) - a.x) a.y (min (a.y + block_height a.size) (plane_height h p) - a.y)
+    let found = first_passes q a.x (min (a.x + block_width a.size) (shown_columns h p) - a.x) a.y (min (a.y + block_height a.size) (shown_rows h p) - a.y)
     (x - a.x) (y - a.y) x y
-    (in_count a.x (block_width a.size) (plane_width h p) right box.right_is x from is.before)
-    (in_count a.y (block_height a.size) (plane_height h p) bottom box.bottom_is y begins below)
+    (in_count a.x (block_width a.size) (shown_columns h p) right box.right_is x from is.before)
+    (in_count a.y (block_height a.size) (shown_rows h p) bottom box.bottom_is y begins below)
     (again a.x x from) (again a.y y begins)
     (other_at (given h bytes p x y) (defined plan p x y) ne)
     (λ z l m. agrees (given h bytes p z y) (defined plan p z y) (is.first z (omega (arith, l, box.left_is)) m))
     (λ z r l m t b. agrees (given h bytes p z r) (defined plan p z r)
-    (above z r (omega (arith, l, box.left_is)) (side_is a.x (block_width a.size) (plane_width h p) right box.right_is z m l) (omega (arith, t, box.top_is)) b))
+    (above z r (omega (arith, l, box.left_is)) (side_is a.x (block_width a.size) (shown_columns h p) right box.right_is z m l)
+    (omega (arith, t, box.top_is)) b))
     in
     sym (ap (option_map (difference_at plan bytes n p)) found
     ∙ ap (λ (v : ℕ). let o : Option Difference = Some (record { leaf = n; plane = p; row = y; column = x; given = v; defined = defined plan p x y }) in o)

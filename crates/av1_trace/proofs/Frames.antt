@@ -8,21 +8,21 @@ use Rattle.std.proofs.Math.Nat.{mul-le-mul, mul-le-mul_left}
 use Rattle.av1_trace.specs.Samples.{planes_len, sample_from, sample_len, samples_before}
 use Rattle.av1_plan.specs.ReadPlans.{IsReadFrame}
 use Rattle.av1_plan.specs.declared.header.Header.{Header}
-use Rattle.av1_plan.specs.Geometry.{plane_len, plane_height, plane_width}
+use Rattle.av1_plan.specs.Geometry.{plane_len, shown_rows, shown_columns}
+use Rattle.av1_plan.proofs.Shown.{columns_few, rows_few}
 
 -- a plane has no more samples than the largest frame
 pub plane_is_small : (h : Header) (p : ℕ) → IsReadFrame h → plane_len h p ≤ 4194304
-unfolding plane_width plane_height
 plane_is_small h p read =
-    let columns : plane_width h p ≤ 2048 = omega (arith, read.width.most) in
-    let rows : plane_height h p ≤ 2048 = omega (arith, read.height.most) in
+    let columns : shown_columns h p ≤ 2048 = omega (arith, columns_few h p, read.shown_width.within, read.width.most) in
+    let rows : shown_rows h p ≤ 2048 = omega (arith, rows_few h p, read.shown_height.within, read.height.most) in
     mul-le-mul columns rows
 
 -- the samples of a row are among those of its plane
-pub in_plane : (h : Header) (p y : ℕ) → y < plane_height h p → y * plane_width h p + plane_width h p ≤ plane_len h p
+pub in_plane : (h : Header) (p y : ℕ) → y < shown_rows h p → y * shown_columns h p + shown_columns h p ≤ plane_len h p
 in_plane h p y below =
-    let next : suc y ≤ plane_height h p = omega arith in
-    omega (arith, mul-le-mul_left (plane_width h p) next)
+    let next : suc y ≤ shown_rows h p = omega arith in
+    omega (arith, mul-le-mul_left (shown_columns h p) next)
 
 -- the samples of a row are among those of the three planes
 behind : (h : Header) (p n : ℕ) → p < 3 → n ≤ plane_len h p → samples_before h p + n ≤ samples_before h 3
@@ -32,21 +32,21 @@ behind h (suc zero) n l m = omega arith
 behind h (suc (suc zero)) n l m = omega arith
 behind h (suc (suc (suc p))) n l m = absurd (omega arith)
 
-pub row_fits : (h : Header) (p y : ℕ) → p < 3 → y < plane_height h p → samples_before h p + (y * plane_width h p + plane_width h p) ≤ samples_before h 3
-row_fits h p y few below = behind h p (y * plane_width h p + plane_width h p) few (in_plane h p y below)
+pub row_fits : (h : Header) (p y : ℕ) → p < 3 → y < shown_rows h p → samples_before h p + (y * shown_columns h p + shown_columns h p) ≤ samples_before h 3
+row_fits h p y few below = behind h p (y * shown_columns h p + shown_columns h p) few (in_plane h p y below)
 
 -- so many samples lie in a row and above it
-pub row_is_small : (h : Header) (p y w : ℕ) → IsReadFrame h → y < plane_height h p → w ≡ plane_width h p → y * w + w ≤ 4194304
+pub row_is_small : (h : Header) (p y w : ℕ) → IsReadFrame h → y < shown_rows h p → w ≡ shown_columns h p → y * w + w ≤ 4194304
 row_is_small h p y w read below e =
-    let here : y * plane_width h p + plane_width h p ≤ 4194304 = omega (arith, in_plane h p y below, plane_is_small h p read) in
+    let here : y * shown_columns h p + shown_columns h p ≤ 4194304 = omega (arith, in_plane h p y below, plane_is_small h p read) in
     subst (λ (v : ℕ). y * v + v ≤ 4194304) (sym e) here
 
 -- the bytes of a row lie among those of the planes
-pub bytes_fit : (h : Header) (p y before w n : ℕ) → n ≡ planes_len h → before ≡ samples_before h p → w ≡ plane_width h p → p < 3 → y < plane_height h p →
+pub bytes_fit : (h : Header) (p y before w n : ℕ) → n ≡ planes_len h → before ≡ samples_before h p → w ≡ shown_columns h p → p < 3 → y < shown_rows h p →
     sample_len h.depth * (before + y * w + w) ≤ n
 unfolding planes_len
 bytes_fit h p y before w n whole b e few below =
-    let fits : before + y * plane_width h p + plane_width h p ≤ samples_before h 3 = omega (arith, row_fits h p y few below, b) in
+    let fits : before + y * shown_columns h p + shown_columns h p ≤ samples_before h 3 = omega (arith, row_fits h p y few below, b) in
     let moved : before + y * w + w ≤ samples_before h 3 = subst (λ (v : ℕ). before + y * v + v ≤ samples_before h 3) (sym e) fits in
     subst (λ (m : ℕ). sample_len h.depth * (before + y * w + w) ≤ m) (sym whole) (mul-le-mul_left (sample_len h.depth) moved)
 

@@ -11,11 +11,11 @@ use Rattle.std.proofs.Math.Nat.{mul_comm}
 use Rattle.av1_lists.specs.Lists.{by_index}
 use Rattle.av1_lists.proofs.Ranges.{range-append}
 use Rattle.av1_plan.specs.declared.header.Header.{Header}
-use Rattle.av1_plan.specs.Geometry.{plane_height, plane_len, plane_width}
+use Rattle.av1_plan.specs.Geometry.{shown_rows, plane_len, shown_columns}
 use Rattle.av1_recon.proofs.SamplesByBytes.{bytes_by}
 use Rattle.av1_streams.specs.Streams.{AreBytes}
 use Rattle.av1_tile.specs.Output.{by_rows, plane_bytes, sample_bytes, visible}
-use Rattle.av1_tile.specs.PlaneBlocks.{extent_of, number}
+use Rattle.av1_tile.specs.PlaneBlocks.{shown_of, number}
 use Rattle.av1_trace.specs.Samples.{given, planes_len, sample_from, sample_len, samples_before}
 
 -- ---- samples one after the other
@@ -113,16 +113,16 @@ rows_from f b w a (suc h) =
 
 -- the samples that bytes give in a plane stand there one after the other
 plane_given : (h : Header) (bytes : List ℕ) (p : ℕ) →
-    by_rows (extent_of h p) (given h bytes p) ≡ map (sample_from h.depth bytes) (range_with_len (samples_before h p) (plane_len h p))
+    by_rows (shown_of h p) (given h bytes p) ≡ map (sample_from h.depth bytes) (range_with_len (samples_before h p) (plane_len h p))
 plane_given h bytes p =
     let f = sample_from h.depth bytes in
     let b = samples_before h p in
-    let w = plane_width h p in
+    let w = shown_columns h p in
     let line : ℕ → List ℕ = λ y. by_index w (λ x. f (b + (y * w + x))) in
     let start : b + 0 * w ≡ b = omega arith in
-    flat_map-map line (λ y. y) (range_with_len 0 (plane_height h p)) ∙ rows_from f b w 0 (plane_height h p)
-    ∙ ap (λ (z : ℕ). map f (range_with_len z (plane_height h p * w))) start
-    ∙ ap (λ (z : ℕ). map f (range_with_len b z)) (mul_comm (plane_height h p) w)
+    flat_map-map line (λ y. y) (range_with_len 0 (shown_rows h p)) ∙ rows_from f b w 0 (shown_rows h p)
+    ∙ ap (λ (z : ℕ). map f (range_with_len z (shown_rows h p * w))) start
+    ∙ ap (λ (z : ℕ). map f (range_with_len b z)) (mul_comm (shown_rows h p) w)
 
 -- one plane more
 plane_more : (h : Header) (f : ℕ → ℕ) (p : ℕ) → map f (range_with_len 0 (samples_before h p)) ++ map f (range_with_len (samples_before h p) (plane_len h p)) ≡
@@ -146,14 +146,14 @@ given_bytes h bytes e all =
     let s = sample_bytes h.depth in
     let r : ℕ → List ℕ = λ p. map f (range_with_len (samples_before h p) (plane_len h p)) in
     let front : ℕ → List ℕ = λ p. map f (range_with_len 0 (samples_before h p)) in
-    let y : plane_bytes (extent_of h 0) (given h bytes 0) ≡ flat_map s (r 0) = ap (flat_map s) (plane_given h bytes 0) in
-    let u : plane_bytes (extent_of h 1) (given h bytes 1) ≡ flat_map s (r 1) = ap (flat_map s) (plane_given h bytes 1) in
-    let v : plane_bytes (extent_of h 2) (given h bytes 2) ≡ flat_map s (r 2) = ap (flat_map s) (plane_given h bytes 2) in
+    let y : plane_bytes (shown_of h 0) (given h bytes 0) ≡ flat_map s (r 0) = ap (flat_map s) (plane_given h bytes 0) in
+    let u : plane_bytes (shown_of h 1) (given h bytes 1) ≡ flat_map s (r 1) = ap (flat_map s) (plane_given h bytes 1) in
+    let v : plane_bytes (shown_of h 2) (given h bytes 2) ≡ flat_map s (r 2) = ap (flat_map s) (plane_given h bytes 2) in
     let one : r 0 ≡ front 1 = ap (λ l. l ++ r 0) (sym (no_samples h f)) ∙ plane_more h f 0 in
     let two : front 1 ++ r 1 ≡ front 2 = plane_more h f 1 in
     let three : front 2 ++ r 2 ≡ front 3 = plane_more h f 2 in
-    ap (λ l. l ++ plane_bytes (extent_of h 1) (given h bytes 1) ++ plane_bytes (extent_of h 2) (given h bytes 2)) y
-    ∙ ap (λ l. flat_map s (r 0) ++ l ++ plane_bytes (extent_of h 2) (given h bytes 2)) u
+    ap (λ l. l ++ plane_bytes (shown_of h 1) (given h bytes 1) ++ plane_bytes (shown_of h 2) (given h bytes 2)) y
+    ∙ ap (λ l. flat_map s (r 0) ++ l ++ plane_bytes (shown_of h 2) (given h bytes 2)) u
     ∙ ap (λ l. flat_map s (r 0) ++ flat_map s (r 1) ++ l) v
     ∙ sym (ap (λ l. l ++ flat_map s (r 2)) (flat_map-append s (r 0) (r 1)))
     ∙ sym (flat_map-append s (r 0 ++ r 1) (r 2))

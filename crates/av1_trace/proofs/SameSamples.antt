@@ -20,16 +20,18 @@ use Rattle.av1_plan.specs.declared.header.Header.{Header}
 use Rattle.av1_plan.specs.declared.geometry.PlaneArea.{PlaneArea}
 use Rattle.av1_plan.specs.declared.plan.Plan.{Plan}
 use Rattle.av1_plan.specs.Values.{plan_value}
-use Rattle.av1_plan.specs.Geometry.{covers_plane, plane_area, plane_height, plane_width}
+use Rattle.av1_plan.specs.Geometry.{covers_plane, plane_area, plane_height, plane_width, shown_rows, shown_columns}
 use Rattle.av1_plan.specs.Plan.{LeafValue, PlanValue}
 use Rattle.av1_plan.specs.Validity.{first_fault}
+use Rattle.av1_plan.proofs.ReadPlans.{kept_frame}
+use Rattle.av1_plan.proofs.Shown.{columns_shown, rows_shown}
 use Rattle.av1_recon.proofs.SamplesByBytes.{same_rows}
 use Rattle.av1_streams.specs.Streams.{AreBytes}
 use Rattle.av1_tile.specs.declared.extent.PlaneExtent.{PlaneExtent}
 use Rattle.av1_tile.specs.Canvas.{Component, Y, U, V}
 use Rattle.av1_tile.specs.Output.{by_rows, planes_of}
 use Rattle.av1_tile.specs.Edge.{sample_of}
-use Rattle.av1_tile.specs.PlaneBlocks.{component, extent_of, number}
+use Rattle.av1_tile.specs.PlaneBlocks.{component, shown_of, number}
 use Rattle.av1_tile.specs.Reference.{slow_walk}
 use Rattle.av1_tile.proofs.Pictures.{plan_coded}
 use Rattle.av1_tile.proofs.Simulation.{visible_same}
@@ -57,8 +59,8 @@ pub record IsVisibleIn (h : Header) (p : ℕ) (a : PlaneArea) (x y : ℕ) : Type
   pub right : x < a.x + block_width a.size
   pub top : a.y ≤ y
   pub bottom : y < a.y + block_height a.size
-  pub column : x < plane_width h p
-  pub row : y < plane_height h p
+  pub column : x < shown_columns h p
+  pub row : y < shown_rows h p
 
 -- samples agree at the visible places of a rectangle
 abbrev Agree : PlanValue → List ℕ → (p : ℕ) → PlaneArea → Type 0
@@ -86,11 +88,11 @@ unfolding first_difference visible_places
 none_listed plan bytes n p a same =
     let h = plan.header in
     ap (option_map (difference_at plan bytes n p))
-    (none_passes (is_other plan bytes p) a.x (min (a.x + block_width a.size) (plane_width h p) - a.x) a.y
-    (min (a.y + block_height a.size) (plane_height h p) - a.y)
+    (none_passes (is_other plan bytes p) a.x (min (a.x + block_width a.size) (shown_columns h p) - a.x) a.y
+    (min (a.y + block_height a.size) (shown_rows h p) - a.y)
     (λ x y l r t b.
-    let (right, column) = in_side a.x (block_width a.size) (plane_width h p) x r l in
-    let (bottom, row) = in_side a.y (block_height a.size) (plane_height h p) y b t in
+    let (right, column) = in_side a.x (block_width a.size) (shown_columns h p) x r l in
+    let (bottom, row) = in_side a.y (block_height a.size) (shown_rows h p) y b t in
     agrees (given h bytes p x y) (defined plan p x y) (same x y (record { left = l; right = right; top = t; bottom = bottom; column = column; row = row }))))
 
 unmapped : {A B : Type 0} (f : A → B) (o : Option A) → option_map f o ≡ None → o ≡ None
@@ -104,14 +106,14 @@ none_differs plan bytes n p a e x y v =
     let h = plan.header in
     let q = is_other plan bytes p in
     differs (given h bytes p x y) (defined plan p x y)
-    (nothing_passes q a.x (min (a.x + block_width a.size) (plane_width h p) - a.x) a.y (min (a.y + block_height a.size) (plane_height h p) - a.y)
+    (nothing_passes q a.x (min (a.x + block_width a.size) (shown_columns h p) - a.x) a.y (min (a.y + block_height a.size) (shown_rows h p) - a.y)
     (unmapped (difference_at plan bytes n p) (find q (visible_places h p a)) e) x y
-    v.left (of_side a.x (block_width a.size) (plane_width h p) x v.right v.column v.left) v.top
-    (of_side a.y (block_height a.size) (plane_height h p) y v.bottom v.row v.top))
+    v.left (of_side a.x (block_width a.size) (shown_columns h p) x v.right v.column v.left) v.top
+    (of_side a.y (block_height a.size) (shown_rows h p) y v.bottom v.row v.top))
 
 -- samples agree at all visible places of a plane
 abbrev AgreeIn : PlanValue → List ℕ → (p : ℕ) → Type 0
-AgreeIn plan bytes p = (x y : ℕ) → x < plane_width plan.header p → y < plane_height plan.header p → given plan.header bytes p x y ≡ defined plan p x y
+AgreeIn plan bytes p = (x y : ℕ) → x < shown_columns plan.header p → y < shown_rows plan.header p → given plan.header bytes p x y ≡ defined plan p x y
 
 either_way : {A : Type 0} (b : Bool) (xs : List A) → xs ≡ [] → (if b then xs else []) ≡ []
 either_way true xs e = e
@@ -134,7 +136,7 @@ nothing_in_plane plan bytes n l p same =
 
 -- a leaf without an entry in a plane agrees at the visible places of its area
 agrees_in_area : (plan : PlanValue) (bytes : List ℕ) (n : ℕ) (l : LeafValue) (p : ℕ) → plane_differences plan bytes n l p ≡ [] → (x y : ℕ) →
-    in_area plan.header p l x y ≡ true → x < plane_width plan.header p → y < plane_height plan.header p
+    in_area plan.header p l x y ≡ true → x < shown_columns plan.header p → y < shown_rows plan.header p
     → given plan.header bytes p x y ≡ defined plan p x y
 unfolding plane_differences is_in
 agrees_in_area plan bytes n l p e x y inside c r =
@@ -200,7 +202,7 @@ others_hold q l leaves outside some =
 
 -- a visible place in one of the leaves' areas agrees where no leaf has an entry
 agrees_at : (plan : PlanValue) (bytes : List ℕ) (n : ℕ) (leaves : List LeafValue) (p x y : ℕ) → leaves_differences plan bytes n leaves ≡ [] → p < 3 →
-    x < plane_width plan.header p → y < plane_height plan.header p
+    x < shown_columns plan.header p → y < shown_rows plan.header p
     → 0 < count_by (λ (l : LeafValue). in_area plan.header p l x y) leaves → given plan.header bytes p x y ≡ defined plan p x y
 agrees_at plan bytes n [] p x y e few c r some = absurd (omega (arith, some))
 agrees_at plan bytes n (l ∷ leaves) p x y e few c r some =
@@ -262,16 +264,22 @@ same_exactly plan bytes valid len all =
     let value = plan_value plan in
     let h = value.header in
     let spelled = given_bytes h bytes len all in
+    let read = kept_frame value plan.spelled in
     let own : Component → ℕ → ℕ → ℕ = λ k x y. given h bytes (number k) x y in
     let right : Component → ℕ → ℕ → ℕ = λ k x y. sample_of (slow_walk value k x y) in (
       λ none. sym spelled ∙ visible_same h own right (λ k x y c r.
-          agrees_at value bytes 0 value.leaves (number k) x y none (few_planes k) c r (omega (arith, has_its_leaf plan valid (number k) x y c r))
+          agrees_at value bytes 0 value.leaves (number k) x y none (few_planes k) c r
+          (omega (
+            arith,
+            has_its_leaf plan valid (number k) x y (omega (arith, c, (columns_shown h (number k) read.width read.shown_width).1))
+                (omega (arith, r, (rows_shown h (number k) read.height read.shown_height).1)),
+          ))
           ∙ ap (λ (j : Component). sample_of (slow_walk value j x y)) (own_number k)),
       λ same.
-          let rows : (k : Component) → by_rows (extent_of h (number k)) (own k) ≡ by_rows (extent_of h (number k)) (right k) =
+          let rows : (k : Component) → by_rows (shown_of h (number k)) (own k) ≡ by_rows (shown_of h (number k)) (right k) =
           same_rows h own right (spelled ∙ same) in
           nothing_of_leaves value bytes 0 value.leaves
-          (λ x y c r. samples_once (extent_of h 0) (own Y) (right Y) (rows Y) x y c r)
-          (λ x y c r. samples_once (extent_of h 1) (own U) (right U) (rows U) x y c r)
-          (λ x y c r. samples_once (extent_of h 2) (own V) (right V) (rows V) x y c r),
+          (λ x y c r. samples_once (shown_of h 0) (own Y) (right Y) (rows Y) x y c r)
+          (λ x y c r. samples_once (shown_of h 1) (own U) (right U) (rows U) x y c r)
+          (λ x y c r. samples_once (shown_of h 2) (own V) (right V) (rows V) x y c r),
     )

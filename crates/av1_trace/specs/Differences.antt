@@ -6,12 +6,12 @@ use Rattle.std.specs.Option.{option_map}
 use Rattle.av1_blocks.specs.Blocks.{block_width, block_height}
 use Rattle.av1_plan.specs.declared.geometry.PlaneArea.{PlaneArea}
 use Rattle.av1_plan.specs.declared.header.Header.{Header}
-use Rattle.av1_plan.specs.Geometry.{covers_plane, plane_area, plane_height, plane_width}
+use Rattle.av1_plan.specs.Geometry.{covers_plane, plane_area, shown_rows, shown_columns}
 use Rattle.av1_plan.specs.Plan.{LeafValue, PlanValue}
 use Rattle.av1_trace.specs.declared.entry.Difference.{Difference}
 use Rattle.av1_trace.specs.Samples.{given, defined}
 
--- ---- visible places
+-- ---- places that are shown
 
 -- a place in a plane
 pub record Place : Type 0 where
@@ -23,11 +23,11 @@ abbrev pub raster : (x columns y rows : ℕ) → List Place
 raster x columns y rows =
     flat_map (λ r. map (λ c. record { x = c; y = r }) (range_with_len x columns)) (range_with_len y rows)
 
--- the visible places of a rectangle of plane p, in raster order
+-- the places of a rectangle of plane p that are shown, in raster order: none where it lies past what is shown
 unfoldable pub visible_places : Header → (p : ℕ) → PlaneArea → List Place
 visible_places h p a =
-    raster a.x (min (a.x + block_width a.size) (plane_width h p) - a.x) a.y
-    (min (a.y + block_height a.size) (plane_height h p) - a.y)
+    raster a.x (min (a.x + block_width a.size) (shown_columns h p) - a.x) a.y
+    (min (a.y + block_height a.size) (shown_rows h p) - a.y)
 
 -- ---- differences
 

@@ -2,7 +2,7 @@
 -- V.
 use Rattle.std.specs.Prelude.{ℕ, zero, suc, ◌+◌, ◌*◌, ◌==◌, List, slice_index, if◌then◌else◌}
 use Rattle.av1_plan.specs.declared.header.Header.{Header}
-use Rattle.av1_plan.specs.Geometry.{plane_len, plane_width}
+use Rattle.av1_plan.specs.Geometry.{plane_len, shown_columns}
 use Rattle.av1_plan.specs.Plan.{PlanValue}
 use Rattle.av1_tile.specs.Edge.{sample_of}
 use Rattle.av1_tile.specs.PlaneBlocks.{component}
@@ -28,7 +28,7 @@ sample_from depth bytes i = if depth == 8 then slice_index bytes i
 
 -- the sample that bytes give at column x of row y of plane p
 abbrev pub given : Header → List ℕ → (p x y : ℕ) → ℕ
-given h bytes p x y = sample_from h.depth bytes (samples_before h p + (y * plane_width h p + x))
+given h bytes p x y = sample_from h.depth bytes (samples_before h p + (y * shown_columns h p + x))
 
 -- the sample there that a plan comes to, by the slow definition
 abbrev pub defined : PlanValue → (p x y : ℕ) → ℕ

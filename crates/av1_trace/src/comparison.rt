@@ -7,7 +7,7 @@ ghost use Rattle.av1_plan.specs.Plan.{leaf_value};
 ghost use Rattle.av1_plan.specs.Validity.{first_fault};
 ghost use Rattle.av1_tile.specs.Output.{planes_of};
 ghost use Rattle.av1_tile.specs.State.{IsSound, ShowsRows, state_header};
-ghost use Rattle.av1_plan.specs.Geometry.{plane_height, plane_width};
+ghost use Rattle.av1_plan.specs.Geometry.{shown_rows, shown_columns};
 ghost use Rattle.av1_trace.specs.Differences.{differences, first_difference, leaf_differences, plane_differences};
 ghost use Rattle.av1_trace.specs.Rows.{AgreeFrom, IsOther};
 ghost use Rattle.av1_trace.specs.Samples.{planes_len, sample_from, sample_len};
@@ -153,8 +153,8 @@ fn first_other<T: Pixel>(
     let header = plan.header();
     let left = usize::from(area.x);
     let top = usize::from(area.y);
-    let right = (left + area.size.width()).min(header.plane_width(p));
-    let bottom = (top + area.size.height()).min(header.plane_height(p));
+    let right = (left + area.size.width()).min(header.shown_columns(p));
+    let bottom = (top + area.size.height()).min(header.shown_rows(p));
     for y in top..bottom {
         if let Some(other) = first_in_row(state, plan, planes, p, y, left, right) {
             return Some(Difference {
@@ -185,8 +185,8 @@ fn first_in_row<T: Pixel>(
     requires shows { ShowsRows T.num (plan_value plan.now) state.now }
     requires whole { length planes.now ≡ planes_len (plan_value plan.now).header }
     requires plane { p < 3 }
-    requires row { y < plane_height (plan_value plan.now).header p }
-    requires columns { right ≤ plane_width (plan_value plan.now).header p }
+    requires row { y < shown_rows (plan_value plan.now).header p }
+    requires columns { right ≤ shown_columns (plan_value plan.now).header p }
     ensures none { IfNone result (AgreeFrom (plan_value plan.now) planes.now p y left right) }
     ensures some { IfSome result (λ other. IsOther (plan_value plan.now) planes.now p y left right other) }
 {

@@ -1,7 +1,7 @@
 //! Samples in the bytes of planes.
 
 ghost use Rattle.std.specs.Prelude.{◌≡◌, ℕ, ◌+◌, ◌*◌, ◌<◌, ◌≤◌, length};
-ghost use Rattle.av1_plan.specs.Geometry.{plane_height, plane_width};
+ghost use Rattle.av1_plan.specs.Geometry.{shown_rows, shown_columns};
 ghost use Rattle.av1_plan.specs.ReadPlans.{IsReadFrame};
 ghost use Rattle.av1_trace.specs.Samples.{given, planes_len, sample_from, sample_len, samples_before};
 
@@ -76,11 +76,11 @@ pub fn given_row<'a>(header: &Header, planes: &'a [u8], p: usize, y: usize) -> &
     requires frame { IsReadFrame header.now }
     requires whole { length planes.now ≡ planes_len header.now }
     requires plane { p < 3 }
-    requires row { y < plane_height header.now p }
-    ensures length { length result.now ≡ sample_len header.now.depth * plane_width header.now p }
-    ensures samples { (x : ℕ) → x < plane_width header.now p → sample_from header.now.depth result.now x ≡ given header.now planes.now p x y }
+    requires row { y < shown_rows header.now p }
+    ensures length { length result.now ≡ sample_len header.now.depth * shown_columns header.now p }
+    ensures samples { (x : ℕ) → x < shown_columns header.now p → sample_from header.now.depth result.now x ≡ given header.now planes.now p x y }
 {
-    let width = header.plane_width(p);
+    let width = header.shown_columns(p);
     sample_run(
         header.depth,
         planes,

@@ -64,6 +64,7 @@ function drawnLines() {
 function edge(pixels, box, colour) {
   const right = Math.min(box.x + box.width, frame.width);
   const bottom = Math.min(box.y + box.height, frame.height);
+  if (box.x >= frame.width) return;
   if (box.y < frame.height) pixels.fill(colour, box.y * frame.width + box.x, box.y * frame.width + right);
   for (let y = box.y; y < bottom; y++) pixels[y * frame.width + box.x] = colour;
 }

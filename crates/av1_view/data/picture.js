@@ -13,7 +13,7 @@ function repaint() {
   picture.width = frame.width;
   picture.height = frame.height;
   const painter = painterOf(frame, state.source, state.component, state.matrix, gainHere());
-  picture.getContext('2d').putImageData(paint(painter, wholeOf(frame), wholeOf(frame)), 0, 0);
+  picture.getContext('2d').putImageData(paint(painter, shownOf(frame), shownOf(frame)), 0, 0);
   showGain();
   showSource();
   redraw();

@@ -203,15 +203,15 @@ function decoded(text) {
 
 // ---- A plan.
 
-// The sides of the planes of a frame, and where each plane begins among its samples.
+// The sides that are shown of the planes of a frame, where each plane begins among its samples, and the sides that are coded: whole 8 by 8.
 function shapeOf(width, height, depth, sampling) {
   const xdec = sampling < 2 ? 1 : 0;
   const ydec = sampling === 0 ? 1 : 0;
-  const widths = [width, width >> xdec, width >> xdec];
-  const heights = [height, height >> ydec, height >> ydec];
+  const widths = [width, width + xdec >> xdec, width + xdec >> xdec];
+  const heights = [height, height + ydec >> ydec, height + ydec >> ydec];
   const sizes = widths.map((side, p) => side * heights[p]);
   return {
-    width, height, depth, sampling, xdecs: [0, xdec, xdec], ydecs: [0, ydec, ydec], widths, heights,
+    width, height, coded: { width: width + 7 & ~7, height: height + 7 & ~7 }, depth, sampling, xdecs: [0, xdec, xdec], ydecs: [0, ydec, ydec], widths, heights,
     starts: [0, sizes[0], sizes[0] + sizes[1]], samples: sizes[0] + 2 * sizes[1], sampleBytes: depth === 8 ? 1 : 2,
   };
 }
@@ -298,7 +298,8 @@ function readLeaves(bytes, view, frame, area, from, first) {
   return { leaves, end: at };
 }
 
-const wholeOf = (frame) => ({ x: 0, y: 0, width: frame.width, height: frame.height });
+const shownOf = (frame) => ({ x: 0, y: 0, width: frame.width, height: frame.height });
+const wholeOf = (frame) => ({ x: 0, y: 0, width: frame.coded.width, height: frame.coded.height });
 const viewOf = (bytes) => new DataView(bytes.buffer, bytes.byteOffset, bytes.byteLength);
 
 // The plan that the bytes spell: its frame, its slots, and its leaves in coding order.
@@ -323,10 +324,10 @@ function areaOf(frame, leaf, p) {
   return { x, y, width, height, wide: Math.min(width, 32), high: Math.min(height, 32) };
 }
 
-// The part of a leaf that lies in the frame.
+// The part of a leaf that is shown: without columns or rows where the leaf lies past what is shown.
 function visibleBox(frame, leaf) {
   const { x, y } = leaf;
-  return { x, y, width: Math.min(leaf.width, frame.width - x), height: Math.min(leaf.height, frame.height - y) };
+  return { x, y, width: Math.max(0, Math.min(leaf.width, frame.width - x)), height: Math.max(0, Math.min(leaf.height, frame.height - y)) };
 }
 
 // The coefficients of a leaf in a plane: block, place and value, and what the place is.
@@ -348,8 +349,8 @@ const coefficientCount = (leaf) => leaf.triples.reduce((sum, t) => sum + t.count
 
 // The number of each luma cell's leaf.
 function cellsOf(plan) {
-  const columns = plan.frame.width / 4;
-  const rows = plan.frame.height / 4;
+  const columns = plan.frame.coded.width / 4;
+  const rows = plan.frame.coded.height / 4;
   const cells = new Uint32Array(columns * rows);
   for (const leaf of plan.leaves) {
     const right = Math.min((leaf.x + leaf.width) / 4, columns);
@@ -1090,6 +1091,7 @@ function drawnLines() {
 function edge(pixels, box, colour) {
   const right = Math.min(box.x + box.width, frame.width);
   const bottom = Math.min(box.y + box.height, frame.height);
+  if (box.x >= frame.width) return;
   if (box.y < frame.height) pixels.fill(colour, box.y * frame.width + box.x, box.y * frame.width + right);
   for (let y = box.y; y < bottom; y++) pixels[y * frame.width + box.x] = colour;
 }
@@ -1417,7 +1419,7 @@ function repaint() {
   picture.width = frame.width;
   picture.height = frame.height;
   const painter = painterOf(frame, state.source, state.component, state.matrix, gainHere());
-  picture.getContext('2d').putImageData(paint(painter, wholeOf(frame), wholeOf(frame)), 0, 0);
+  picture.getContext('2d').putImageData(paint(painter, shownOf(frame), shownOf(frame)), 0, 0);
   showGain();
   showSource();
   redraw();

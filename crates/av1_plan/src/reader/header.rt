@@ -1,6 +1,7 @@
 //! Reading what stands before the reference samples.
 
 use crate::error::PlanError;
+use crate::geometry::coded_side;
 use crate::header::Header;
 use crate::reader::Reader;
 use av1_blocks::FilterMode;
@@ -22,7 +23,10 @@ impl<'a> Reader<'a> {
     {
         let at = self.at;
         let value = self.any_u32()?;
-        if value == u32::from_le_bytes(*b"RPL1") || value == u32::from_le_bytes(*b"RPL2") {
+        if value == u32::from_le_bytes(*b"RPL1")
+            || value == u32::from_le_bytes(*b"RPL2")
+            || value == u32::from_le_bytes(*b"RPL3")
+        {
             Ok(value)
         } else {
             Err(PlanError::Malformed { at })
@@ -38,29 +42,31 @@ impl<'a> Reader<'a> {
         ensures moves { Moves self.old self.new }
     {
         let letters = self.magic()?;
-        Ok(if letters == u32::from_le_bytes(*b"RPL2") {
+        Ok(if letters == u32::from_le_bytes(*b"RPL3") {
+            3
+        } else if letters == u32::from_le_bytes(*b"RPL2") {
             2
         } else {
             1
         })
     }
 
-    /// A side of the frame.
+    /// A side of the frame that is shown, in this version of the grammar.
     #[tactic(auto, using(crate::proofs::Narrow::narrow))]
-    pub fn side(&mut self) -> Result<u16, PlanError>
+    pub fn side(&mut self, version: u8) -> Result<u16, PlanError>
         requires { Fits self.old }
-        ensures read { Gives (λ x. (x, input self.new)) result (read_field (where_ two is_side) (input self.old)) }
+        ensures read { Gives (λ x. (x, input self.new)) result (read_field (where_ two (is_side version)) (input self.old)) }
         ensures told { IfErr result IsAtByte }
         ensures moves { Moves self.old self.new }
         ensures small { IfOk result (λ x. x ≤ 2048) }
-        ensures side { IfOk result IsSide }
+        ensures side { IfOk result (λ x. version ≤ 2 → IsSide x) }
     {
         let at = self.at;
         let value = self.any_u16()?;
-        if value % 8 != 0 || value < 8 || 2048 < value {
-            Err(PlanError::Malformed { at })
-        } else {
+        if (version == 3 || value % 8 == 0) && 1 <= value && value <= 2048 {
             Ok(value)
+        } else {
+            Err(PlanError::Malformed { at })
         }
     }
 
@@ -119,8 +125,8 @@ impl<'a> Reader<'a> {
         ensures moves { Moves self.old self.new }
         ensures small { IfOk result (λ h. (h.width ≤ 2048) × (h.height ≤ 2048) × (h.depth ≤ 12)) }
     {
-        let width = self.side()?;
-        let height = self.side()?;
+        let shown_width = self.side(version)?;
+        let shown_height = self.side(version)?;
         let depth = self.depth()?;
         let sampling = self.byte(0, 2)?;
         let filter = self.byte(0, 3)?;
@@ -130,8 +136,10 @@ impl<'a> Reader<'a> {
         let mask = self.any_byte()?;
         Ok(Header {
             version,
-            width,
-            height,
+            width: coded_side(shown_width),
+            height: coded_side(shown_height),
+            shown_width,
+            shown_height,
             depth,
             sampling,
             filter,

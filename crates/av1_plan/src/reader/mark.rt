@@ -11,7 +11,7 @@ impl Header {
     ghost use Rattle.av1_plan.specs.Grammar.{admits_stripes, is_mark};
 
     /// Whether a node of side `4 << level` may be cut into four leaves that are a quarter as wide or as high: in the
-    /// second version, with a side from 16 to 64, and where it lies in the frame whole.
+    /// second version and the third, with a side from 16 to 64, and where it lies in what is coded whole.
     #[tactic(auto, unfolding(crate::specs::Grammar::admits_stripes))]
     fn admits_stripes(&self, level: u8, x: u16, y: u16) -> bool
         requires level { level ≤ 4 }
@@ -20,7 +20,7 @@ impl Header {
         ensures { result ≡ admits_stripes self.now level x y }
     {
         let side = 2 * half_side(level);
-        self.version == 2 && 2 <= level && x + side <= self.width && y + side <= self.height
+        2 <= self.version && 2 <= level && x + side <= self.width && y + side <= self.height
     }
 
     /// Whether a node of side `4 << level` samples, whose upper left luma sample stands in column `x` and row `y`, may

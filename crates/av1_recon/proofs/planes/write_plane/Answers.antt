@@ -7,7 +7,7 @@ use Rattle.av1_recon.proofs.planes.write_plane.Goals as goal
 pub returns-in_err-write_row-clause-prefix : goal.returns-in_err-write_row-clause-prefix
 returns-in_err-write_row-clause-prefix g c =
     let row = row_is g.T.Pixel.num c.args.header.now c.args.plane.now c.args.p c.loop-y.y c.visible_row.result.now c.visible_row.ensures in
-    AppendsPrefix-row g.T.Pixel.num c.args.header.now c.args.plane.now c.args.p c.loop-y.y c.plane_height-y-end.result _ _ _ c.plane_height-y-end.ensures.value
+    AppendsPrefix-row g.T.Pixel.num c.args.header.now c.args.plane.now c.args.p c.loop-y.y c.shown_rows-y-end.result _ _ _ c.shown_rows-y-end.ensures.value
     c.loop-y-test.true c.loop-y.invariant.so_far
     (subst (AppendsPrefix _ _) row c.write_row.ensures.prefix)
 
@@ -23,8 +23,8 @@ loop-y-preserved g c =
 
 pub returns-clause-whole : goal.returns-clause-whole
 returns-clause-whole g c =
-    let end : c.loop-y.y ≡ c.plane_height-y-end.result = omega (arith, c.loop-y.auto.y-end, c.loop-y-test.false) in
-    subst (Appends _ _) (rows_are_plane g.T.Pixel.num c.args.header.now c.args.plane.now c.args.p c.loop-y.y _ end c.plane_height-y-end.ensures.value)
+    let end : c.loop-y.y ≡ c.shown_rows-y-end.result = omega (arith, c.loop-y.auto.y-end, c.loop-y-test.false) in
+    subst (Appends _ _) (rows_are_plane g.T.Pixel.num c.args.header.now c.args.plane.now c.args.p c.loop-y.y _ end c.shown_rows-y-end.ensures.value)
     c.loop-y.invariant.so_far
 
 pub returns-clause-prefix : goal.returns-clause-prefix

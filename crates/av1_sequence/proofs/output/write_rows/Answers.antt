@@ -19,7 +19,7 @@ returns-in_err-write_row-clause-prefix g c =
     let row =
     row_text g.T.Pixel.num c.args.header.now c.args.p c.args.plane.now c.loop-y.y c.visible_row.result.now c.visible_row.ensures g.T.Pixel.BITS
     c.requires.written in
-    AppendsPrefix-row g.T.Pixel.num c.args.header.now c.args.plane.now c.args.p c.loop-y.y c.plane_height-y-end.result _ _ _ c.plane_height-y-end.ensures.value
+    AppendsPrefix-row g.T.Pixel.num c.args.header.now c.args.plane.now c.args.p c.loop-y.y c.shown_rows-y-end.result _ _ _ c.shown_rows-y-end.ensures.value
     c.loop-y-test.true c.loop-y.invariant.so_far
     (subst (AppendsPrefix _ _) row c.write_row.ensures.prefix)
 
@@ -37,8 +37,8 @@ loop-y-preserved g c =
 
 pub returns-clause-whole : goal.returns-clause-whole
 returns-clause-whole g c =
-    let end : c.loop-y.y ≡ c.plane_height-y-end.result = omega (arith, c.loop-y.auto.y-end, c.loop-y-test.false) in
-    subst (Appends _ _) (rows_are_plane g.T.Pixel.num c.args.header.now c.args.plane.now c.args.p c.loop-y.y _ end c.plane_height-y-end.ensures.value)
+    let end : c.loop-y.y ≡ c.shown_rows-y-end.result = omega (arith, c.loop-y.auto.y-end, c.loop-y-test.false) in
+    subst (Appends _ _) (rows_are_plane g.T.Pixel.num c.args.header.now c.args.plane.now c.args.p c.loop-y.y _ end c.shown_rows-y-end.ensures.value)
     c.loop-y.invariant.so_far
 
 pub returns-clause-prefix : goal.returns-clause-prefix

@@ -9,7 +9,7 @@ returns-clause-stores g c =
     let cfg = new_config c.plane_width.result c.plane_height.result c.xdec-xdec.result c.ydec-ydec.result c.pad_of.result c.pad_of-2.result in
     let of_pixel = g.met.T.Pixel.num_of_pixel in
     let n = c.new.ensures in
-    new_stores g.T.Pixel.num (g.T.Pixel.pixel 0) c.args.header.now c.args.p cfg c.new.result (of_pixel 0) c.plane_width.ensures.value
+    new_stores g.T.Pixel.num (g.T.Pixel.pixel 0) c.args.header.now c.args.p cfg c.new.result c.requires.frame (of_pixel 0) c.plane_width.ensures.value
     c.plane_height.ensures.value c.xdec-xdec.ensures.value c.ydec-ydec.ensures.value n.cfg n.samples n.whole
 
 pub returns-clause-zeros : goal.returns-clause-zeros

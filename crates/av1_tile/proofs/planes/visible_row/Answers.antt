@@ -3,5 +3,5 @@ use Rattle.av1_tile.proofs.planes.visible_row.Goals as goal
 
 pub returns : goal.returns
 returns g c =
-    row_of g.T.Pixel.num c.args.header.now c.args.p c.args.plane.now c.args.y c.run.result.now c.plane_width.result c.requires.place c.requires.in_plane
-    c.plane_width.ensures.value c.run.ensures.value c.run.ensures.len
+    row_of g.T.Pixel.num c.args.header.now c.args.p c.args.plane.now c.args.y c.run.result.now c.shown_columns.result c.requires.place c.requires.in_plane
+    c.shown_columns.ensures.value c.run.ensures.value c.run.ensures.len
