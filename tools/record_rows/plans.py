@@ -67,6 +67,18 @@ def sequence(frames, width=8, height=8, depth=8, sampling=2, count=None):
     return file
 
 
+def shown_sequence(entries, width=8, height=8, depth=8, sampling=2, count=None):
+    """A sequence of the second version: of each entry its kind, and what `sequence` has of a frame, or a slot and which slots then hold its frame too."""
+    file = b"RSQ2" + struct.pack("<HHBBH", width, height, depth, sampling, len(entries) if count is None else count)
+    for kind, *fields in entries:
+        file += bytes([kind, *fields]) if kind == AGAIN else bytes([kind]) + sequence([fields])[FRONT_OF_SEQUENCE:]
+    return file
+
+
+# The kinds of entries, and how many bytes stand before them.
+HIDDEN, SHOWN, AGAIN = range(3)
+FRONT_OF_SEQUENCE = 12
+
 # ---- worked plans
 
 DOWN_TO_4 = b"\3\3\3\3"

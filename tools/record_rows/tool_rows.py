@@ -1,18 +1,18 @@
 """Runs of the tools: grids of tiles, traces, sequences, plans without their coefficients."""
-from plans import (DIRECTIONAL, DOWN_TO_4, FROM_LUMA_420, HALVED, MOVED, ONE_HALF, PLAIN, PLAN, QUARTERS, SINGLE, changed, header, leaf, of_two, planes,
-                   sequence, tiles, trace)
+from plans import (AGAIN, DIRECTIONAL, DOWN_TO_4, FLAT, FROM_LUMA_420, HALVED, HIDDEN, MOVED, ONE_HALF, PLAIN, PLAN, QUARTERS, SHOWN, SINGLE, changed, header,
+                   leaf, of_two, planes, sequence, shown_sequence, tiles, trace)
 from runs import NEVER, TOOLS, WORDS_OF_TOOLS, reads_of
 
 # A leaf of 64x64 from above, one by DC, one from the left, and one from the first slot.
 FROM_ABOVE, BY_DC, FROM_LEFT = (b"\0" + leaf(mode=mode, tx_size=4) for mode in (1, 0, 2))
-AGAIN = b"\0" + leaf(mode=19, vectors=[(1, 0, 0)], tx_size=4)
+SAME_PLACE = b"\0" + leaf(mode=19, vectors=[(1, 0, 0)], tx_size=4)
 BROKEN = b"\0" + leaf(mode=1, step=4, tx_size=4)
 
 TWO_TILES = tiles([FROM_ABOVE, BY_DC])
 PLANES_OF_PLAN = planes(131, 128, 128)
 SAME = trace(PLAN, PLANES_OF_PLAN)
 OTHER = changed(SAME, (91 + 4, 130))
-TWO_FRAMES = sequence([(1, FROM_ABOVE), (0, AGAIN)])
+TWO_FRAMES = sequence([(1, FROM_ABOVE), (0, SAME_PLACE)])
 
 
 def worked_tiles(add):
@@ -59,19 +59,44 @@ def worked_sequences(add):
     of_two_slots = b"\0" + leaf(mode=33, vectors=[(1, 0, 0), (2, 0, 0)], tx_size=4)
     slots = (0, 1, 0, 0, 0, 0, 0)
     cases = [
-        TWO_FRAMES, sequence([(0, FROM_ABOVE), (0, AGAIN)]), sequence([]), sequence([])[:11], sequence([(1, FROM_ABOVE), (0, b"\4"), (0, FROM_ABOVE)]),
-        sequence([(1, FROM_ABOVE), (0, AGAIN + b"x")]), sequence([(1, BROKEN)]) + b"x", sequence([(1, FROM_ABOVE)], count=2), TWO_FRAMES[:-1],
-        sequence([(1, FROM_ABOVE), (2, FROM_LEFT), (0, of_two_slots, slots)]), sequence([(1, AGAIN)]),
-        sequence([(255, FROM_ABOVE), (1, FROM_LEFT), (0, AGAIN)]), sequence([(1, FROM_ABOVE), (255, b"\4"), (0, AGAIN)]),
+        TWO_FRAMES, sequence([(0, FROM_ABOVE), (0, SAME_PLACE)]), sequence([]), sequence([])[:11], sequence([(1, FROM_ABOVE), (0, b"\4"), (0, FROM_ABOVE)]),
+        sequence([(1, FROM_ABOVE), (0, SAME_PLACE + b"x")]), sequence([(1, BROKEN)]) + b"x", sequence([(1, FROM_ABOVE)], count=2), TWO_FRAMES[:-1],
+        sequence([(1, FROM_ABOVE), (2, FROM_LEFT), (0, of_two_slots, slots)]), sequence([(1, SAME_PLACE)]),
+        sequence([(255, FROM_ABOVE), (1, FROM_LEFT), (0, SAME_PLACE)]), sequence([(1, FROM_ABOVE), (255, b"\4"), (0, SAME_PLACE)]),
         sequence([(1, FROM_ABOVE), (0, BROKEN)]), sequence([(1, FROM_ABOVE)], count=0), b"RPL1"]
     fields = ((12, 4), (13, 2), (14, 8), (20, 8), (4, 12), (8, 9), (9, 3), (21, 0), (10, 0), (10, 3), (22, 13))
     cases += [changed(TWO_FRAMES, it) for it in fields]
-    cases += [sequence([(1, FROM_ABOVE), (2, AGAIN), (0, of_two_slots, slots)], 16, 24, depth, sampling)
+    cases += [sequence([(1, FROM_ABOVE), (2, SAME_PLACE), (0, of_two_slots, slots)], 16, 24, depth, sampling)
               for depth in (8, 10, 12) for sampling in range(3)]
     for it in cases:
         add("sequence", it, ("sequence",), out=(2**16, 100, NEVER))
     for count in range(len(TWO_FRAMES)):
         add("sequence, cut", TWO_FRAMES[:count], ("sequence",))
+
+
+def shown_sequences(runs):
+    """Sequences whose frames are shown or not. No oracle reads them: what they write are the planes of their frames' plans, by the oracle, in shown order."""
+    first, flat = (it[len(header()):] for it in (PLAN, FLAT))
+    a, b = (runs.oracle.run((), it)[1] for it in (PLAN, FLAT))
+    right = b"\0" + leaf(mode=19, vectors=[(1, 0, 32)], tx_size=1)
+    odd = b"\3\3\0" + leaf(tx_size=2)
+    cases = [
+        ([(HIDDEN, 1, first), (SHOWN, 2, flat), (AGAIN, 0, 0)], b + a, b""), ([(SHOWN, 1, flat), (AGAIN, 3, 0)], b, b"frame 1 empty slot\n"),
+        ([(SHOWN, 1, first), (SHOWN, 2, flat), (AGAIN, 0, 255), (AGAIN, 7, 0)], a + b + a + a, b""), ([(HIDDEN, 1, flat)], b"", b""), ([], b"", b""),
+        ([(SHOWN, 1, first), (SHOWN, 0, flat), (AGAIN, 0, 0), (SHOWN, 0, flat)], a + b + a + b, b""), ([(3, 1, flat)], b"", b"malformed at 12\n"),
+        ([(AGAIN, 8, 0)], b"", b"malformed at 13\n"), ([(SHOWN, 1, flat), (HIDDEN, 1, b"\0")], b, b"frame 1 malformed at 1\n"),
+        ([(HIDDEN, 255, first), (AGAIN, 7, 1), (HIDDEN, 128, flat), (AGAIN, 7, 0), (AGAIN, 6, 0)], a + b + a, b""),
+        ([(SHOWN, 1, flat), (HIDDEN, 2, b"\0" + leaf(mode=1, step=4, tx_size=4)), (AGAIN, 1, 0)], b, b"frame 1 invalid leaf 0: mode\n"),
+        ([(HIDDEN, 1, flat), (SHOWN, 0, right)], b, b"")]
+    files = [(shown_sequence(entries), planes, line) for entries, planes, line in cases]
+    files += [(shown_sequence([(AGAIN, 1, 0)])[:cut], b"", b"malformed at %d\n" % cut) for cut in (12, 13, 14)]
+    files += [(shown_sequence([(HIDDEN, 255, odd), (SHOWN, 0, odd), (AGAIN, 7, 0)], 9, 9, sampling=0), 2 * 131 * b"\x80", b"")]
+    files += [(shown_sequence([], 0), b"", b"malformed at 4\n"), (shown_sequence([], 8, 2049), b"", b"malformed at 6\n")]
+    files += [(sequence([], 9), b"", b"malformed at 4\n"), (changed(shown_sequence([]), (3, 51)), b"", b"malformed at 0\n")]
+    for file, planes, line in files:
+        runs.oracle.known[("tools", "sequence"), file] = 2 if line else 0, planes, line
+        runs.add("sequence, shown", file, ("sequence",), kind=TOOLS, out=(2**16, 100, NEVER))
+        runs.add("sequence, shown", file, ("sequence",), kind=TOOLS, out=(2**16, 100, 30))
 
 
 def worked_plans(add):
@@ -80,7 +105,7 @@ def worked_plans(add):
     quarters = header(64, 64, magic=b"RPL2") + b"\x08" + leaf(tx_size=18, y=[(0, 0, 5)]) + 3 * leaf(tx_size=18)
     cases = [
         PLAN, PLAIN, HALVED, HALVED[:-1], worse, QUARTERS, quarters, MOVED, of_two(9), of_two(16384), DIRECTIONAL, FROM_LUMA_420, ONE_HALF,
-        ONE_HALF + b"\0", header(mask=1) + planes(10, 128, 128) + AGAIN, b"", changed(PLAN, (19, 1)), changed(PLAN, (34, 16))]
+        ONE_HALF + b"\0", header(mask=1) + planes(10, 128, 128) + SAME_PLACE, b"", changed(PLAN, (19, 1)), changed(PLAN, (34, 16))]
     for it in cases:
         add("bare", it, ("bare",), out=(500, 7, NEVER))
     for count in range(len(PLAN)):
@@ -140,3 +165,4 @@ def record(runs):
         rows(add)
     add("too long", words=("tiles",), piece=2**26 + 1, zeros=2**26 + 1)
     random_files(runs, 64)
+    shown_sequences(runs)
