@@ -246,11 +246,7 @@ module _ {T C : Type 0} {g : _} {ord : _} {eq : _} {partial : _} {coeff : _} (k 
 
   -- ---- a frame that is shown again
 
-  -- a slot that has no place is empty
-  pub slot_empty : (slot : ℕ) → slot < 8 → slice_index_or places slot None ≡ None → slot_of k.slots slot ≡ None
-  slot_empty slot lt at = sym (ap (λ (v : Kept). slot_of v.slots slot) view) ∙ slot_shown g.num h fi places slot lt ∙ ap (shown_in g.num h fi) at
-
-  -- the frame of one that has a place stands in the slots that are said, and is the last one
+  -- the frame of a slot that has a place stands in the slots that are said, and is the last one
   pub slot_again : (slot place refresh : ℕ) → slot < 8 → slice_index_or places slot None ≡ Some place → (h' : Header) (fi' : FrameInvariants T)
       (places' : List (Option ℕ)) → h' ≡ h → fi' ≡ fi
       → ((frame : Frame) → shown_at g.num h fi place ≡ Some frame → slots_shown g.num h' fi' places' ≡ refreshed (slots_shown g.num h fi places) refresh frame)
@@ -302,10 +298,11 @@ pub ready_still_held : {T : Type 0} (num : T → ℕ) (h h' : Header) (o : Optio
 ready_still_held num h h' o e ready planes is = subst (λ (x : Header). AreReady num x planes) (sym e) (ready planes is)
 
 -- a frame that is kept as before
-pub stands_still : {T : Type 0} (num : T → ℕ) (h h' : Header) (fi fi' : FrameInvariants T) (place : ℕ) → h' ≡ h → fi' ≡ fi → IsKeptAt num h fi place →
-    IsKeptAt num h' fi' place
-stands_still {T} num h h' fi fi' place e same stands =
-    subst (λ (x : Header). IsKeptAt num x fi' place) (sym e) (subst (λ (f : FrameInvariants T). IsKeptAt num h f place) (sym same) stands)
+pub stands_still : {T : Type 0} (num : T → ℕ) (h h' : Header) (settings settings' : FrameInvariants T) (place : ℕ) → h' ≡ h → settings' ≡ settings →
+    IsKeptAt num h settings place →
+    IsKeptAt num h' settings' place
+stands_still {T} num h h' settings settings' place e same stands =
+    subst (λ (x : Header). IsKeptAt num x settings' place) (sym e) (subst (λ (f : FrameInvariants T). IsKeptAt num h f place) (sym same) stands)
 
 pub not_apart : {P : Type 0} (place : ℕ) → lasts.At place ≡ lasts.Apart → P
 not_apart place e = absurd cc
@@ -320,27 +317,28 @@ placed_there num h fi a b kept e = subst (IsKeptAt num h fi) (same_place a b e) 
 -- ---- a frame that is shown again
 
 -- the slots once the frame at a place stands in these, too
-pub also_shown : {T : Type 0} (num : T → ℕ) (h : Header) (fi : FrameInvariants T) (places replaced : List (Option ℕ)) (refresh place : ℕ) →
+pub also_shown : {T : Type 0} (num : T → ℕ) (h : Header) (settings : FrameInvariants T) (held replaced : List (Option ℕ)) (refresh place : ℕ) →
     ((s : ℕ) → s < 8 → has_bit refresh s ≡ true → slice_index_or replaced s None ≡ Some place)
-    → ((s : ℕ) → s < 8 → has_bit refresh s ≡ false → slice_index_or replaced s None ≡ slice_index_or places s None)
-    → (frame : Frame) → shown_at num h fi place ≡ Some frame → slots_shown num h fi replaced ≡ refreshed (slots_shown num h fi places) refresh frame
-also_shown num h fi places replaced refresh place new old frame is =
-    by_index-same 8 (λ s. shown_in num h fi (slice_index_or replaced s None))
-    (λ s. if has_bit refresh s then Some frame else slot_of (slots_shown num h fi places) s)
+    → ((s : ℕ) → s < 8 → has_bit refresh s ≡ false → slice_index_or replaced s None ≡ slice_index_or held s None)
+    → (frame : Frame) → shown_at num h settings place ≡ Some frame →
+    slots_shown num h settings replaced ≡ refreshed (slots_shown num h settings held) refresh frame
+also_shown num h settings held replaced refresh place new old frame is =
+    by_index-same 8 (λ s. shown_in num h settings (slice_index_or replaced s None))
+    (λ s. if has_bit refresh s then Some frame else slot_of (slots_shown num h settings held) s)
     (λ s lt. go s lt (has_bit refresh s) refl)
   where
     go : (s : ℕ) → s < 8 → (b : Bool) → has_bit refresh s ≡ b →
-        shown_in num h fi (slice_index_or replaced s None) ≡ (if b then Some frame else slot_of (slots_shown num h fi places) s)
-    go s lt true e = ap (shown_in num h fi) (new s lt e) ∙ is
-    go s lt false e = ap (shown_in num h fi) (old s lt e) ∙ sym (slot_shown num h fi places s lt)
+        shown_in num h settings (slice_index_or replaced s None) ≡ (if b then Some frame else slot_of (slots_shown num h settings held) s)
+    go s lt true e = ap (shown_in num h settings) (new s lt e) ∙ is
+    go s lt false e = ap (shown_in num h settings) (old s lt e) ∙ sym (slot_shown num h settings held s lt)
 
--- and the frames at their places
-pub also_kept : {T : Type 0} (num : T → ℕ) (h : Header) (fi : FrameInvariants T) (places replaced : List (Option ℕ)) (refresh place : ℕ) →
-    KeepsFrames num h fi places → IsKeptAt num h fi place → length replaced ≡ 8
+-- and the frames at their held
+pub also_kept : {T : Type 0} (num : T → ℕ) (h : Header) (settings : FrameInvariants T) (held replaced : List (Option ℕ)) (refresh place : ℕ) →
+    KeepsFrames num h settings held → IsKeptAt num h settings place → length replaced ≡ 8
     → ((s : ℕ) → s < 8 → has_bit refresh s ≡ true → slice_index_or replaced s None ≡ Some place)
-    → ((s : ℕ) → s < 8 → has_bit refresh s ≡ false → slice_index_or replaced s None ≡ slice_index_or places s None)
-    → KeepsFrames num h fi replaced
-also_kept num h fi places replaced refresh place keeps stands eight new old = record {
+    → ((s : ℕ) → s < 8 → has_bit refresh s ≡ false → slice_index_or replaced s None ≡ slice_index_or held s None)
+    → KeepsFrames num h settings replaced
+also_kept num h settings held replaced refresh place keeps stands eight new old = record {
   frame = keeps.frame;
   depth = keeps.depth;
   count = keeps.count;
@@ -349,6 +347,6 @@ also_kept num h fi places replaced refresh place keeps stands eight new old = re
   again = keeps.again;
 }
   where
-    go : (s q : ℕ) → s < 8 → (b : Bool) → has_bit refresh s ≡ b → slice_index_or replaced s None ≡ Some q → IsKeptAt num h fi q
-    go s q lt true e is = subst (IsKeptAt num h fi) (same_Some _ _ (sym (new s lt e) ∙ is)) stands
+    go : (s q : ℕ) → s < 8 → (b : Bool) → has_bit refresh s ≡ b → slice_index_or replaced s None ≡ Some q → IsKeptAt num h settings q
+    go s q lt true e is = subst (IsKeptAt num h settings) (same_Some _ _ (sym (new s lt e) ∙ is)) stands
     go s q lt false e is = keeps.kept s q lt (sym (old s lt e) ∙ is)

@@ -1,6 +1,6 @@
 -- What showing the entries of a sequence says, from what showing each of them says.
 use Rattle.std.proofs.Common.{◌≡◌, ◌≢◌, ℕ, ◌+◌, ◌<◌, ◌≤◌, List, [], ◌∷◌, ◌++◌, length, take, map, All, Option, Some, Ok, Err, refl, sym, ap, subst, ◌∙◌}
-use Rattle.std.proofs.Common.{append-nil, arith, get_or, Bool, true, false, None, if◌then◌else◌}
+use Rattle.std.proofs.Common.{append-nil, arith, get_or, Bool, true, false, if◌then◌else◌}
 use Rattle.std.specs.Prelude.{slice_get, IsErrAnd, IfErr}
 use Rattle.std.specs.List.{flat_map}
 use Rattle.std.specs.Option.{option_map}
@@ -25,7 +25,6 @@ use Rattle.av1_tile.specs.PlaneBlocks.{shown_of, number}
 use Rattle.av1_tile.specs.Reference.{slow_walk}
 use Rattle.av1_sequence.specs.declared.error.FrameError.{FrameError}
 use Rattle.av1_sequence.specs.declared.error.FrameError.TheVariants as frame_errors
-use Rattle.av1_sequence.specs.declared.error.FrameFault.TheVariants as faults
 use Rattle.av1_sequence.specs.declared.error.SequenceError.{SequenceError}
 use Rattle.av1_sequence.specs.declared.error.SequenceError.TheVariants as errors
 use Rattle.av1_sequence.specs.declared.file.Entry.{Entry}
@@ -34,11 +33,11 @@ use Rattle.av1_sequence.specs.Errors.{frame_error}
 use Rattle.av1_sequence.specs.File.{IsReadEntry, entry_value}
 use Rattle.av1_sequence.specs.Files.{Answer, AreShown, IsFirstRefused, Lead, TakesEntry, beginning}
 use Rattle.av1_sequence.specs.Frames.{frame_header, frame_of, frame_references}
-use Rattle.av1_sequence.specs.Grammar.{EntryValue, FileValue, FrameValue, again, coded}
+use Rattle.av1_sequence.specs.Grammar.{EntryValue, FileValue, FrameValue, coded}
 use Rattle.av1_sequence.specs.Kept.{Kept}
-use Rattle.av1_sequence.specs.Outcomes.{Accepts, IsValidFrame, Refuses, shown_again}
+use Rattle.av1_sequence.specs.Outcomes.{Accepts, IsValidFrame, Refuses}
 use Rattle.av1_sequence.specs.Output.{frame_text}
-use Rattle.av1_sequence.specs.Slots.{Frame, slot_of}
+use Rattle.av1_sequence.specs.Slots.{Frame}
 use Rattle.av1_sequence.specs.Tasks.{IsBeforeFrames, IsTaken, Shows, ShowsEntry, cause_of}
 use Rattle.av1_sequence.proofs.Running.{lead_more}
 
@@ -81,14 +80,6 @@ coded_taken k k' shown f a =
     ap (λ (h : Header). frame_text h (frame_of a.plan)) frames ∙ text_of_frame k f.head f.part a.plan a.frame in
     (frame_of a.plan, last, (a.plan, a.frame, a.kept, ap (λ (l : List ℕ). if shown then l else []) same))
 
--- the frame of a slot was shown again
-pub again_taken : (k k' : Kept) (slot refresh : ℕ) → (frame : Frame) × (slot_of k.slots slot ≡ Some frame) × (k' ≡ shown_again k refresh frame) →
-    IsTaken k (again slot refresh) true k'
-again_taken k k' slot refresh (frame, at, is) =
-    let last : k'.last ≡ Some frame = ap (λ (s : Kept). s.last) is in
-    let frames : k'.frames ≡ k.frames = ap (λ (s : Kept). s.frames) is in
-    (frame, last, (frame, at, is, ap (λ (h : Header). frame_text h frame) frames))
-
 refuses_frame : (k k' : Kept) (index : ℕ) (shown : Bool) (f : FrameValue) (error : FrameError) (a : Option (List ℕ)) → Refuses k f.head f.part error →
     ShowsEntry k index (coded shown f) (Err (frame_error index error)) k' a a
 refuses_frame k k' index shown f frame_errors.TooLarge a why = (refl, why, Appends-nil a)
@@ -101,28 +92,6 @@ pub refused_frame : (k k' : Kept) (index : ℕ) (shown : Bool) (f : FrameValue) 
     e ≡ frame_error index error → Refuses k f.head f.part error → ShowsEntry k index (coded shown f) (Err e) k' a a
 refused_frame k k' index shown f error e a is why =
     subst (λ (x : SequenceError). ShowsEntry k index (coded shown f) (Err x) k' a a) (sym is) (refuses_frame k k' index shown f error a why)
-
--- a slot was empty
-pub empty_frame : (k k' : Kept) (index slot refresh : ℕ) (e : SequenceError) (a : Option (List ℕ)) → e ≡ errors.Frame index faults.EmptySlot →
-    slot_of k.slots slot ≡ None → ShowsEntry k index (again slot refresh) (Err e) k' a a
-empty_frame k k' index slot refresh e a is none =
-    subst (λ (x : SequenceError). ShowsEntry k index (again slot refresh) (Err x) k' a a) (sym is) (refl, none, Appends-nil a)
-
--- which blames no write, either
-pub no_write_either : {X : Type 0} (index : ℕ) (e : SequenceError) → e ≡ errors.Frame index faults.EmptySlot → cause_of e ≡ write_failed → X
-no_write_either index e is h =
-    let clash : refused ≡ write_failed = sym (ap cause_of is) ∙ h in
-    absurd cc
-
--- a refusal blames no write
-pub no_write : {X : Type 0} (index : ℕ) (error : FrameError) (e : SequenceError) → e ≡ frame_error index error → cause_of e ≡ write_failed → X
-no_write {X} index error e is h = blames error (sym (ap cause_of is) ∙ h)
-  where
-    blames : (error : FrameError) → cause_of (frame_error index error) ≡ write_failed → X
-    blames frame_errors.TooLarge clash = absurd cc
-    blames (frame_errors.Malformed at) clash = absurd cc
-    blames (frame_errors.Invalid leaf kind) clash = absurd cc
-    blames frame_errors.Memory clash = absurd cc
 
 -- an answer blames what its error does
 pub blamed_by : (answer : Answer) (e : SequenceError) → IsErrAnd answer (λ d. d ≡ e) → cause_of e ≡ write_failed →
@@ -137,12 +106,7 @@ blames_too (Ok d) e is h = absurd is
 blames_too (Err d) e is h = sym (ap cause_of is) ∙ h
 
 module _ (k k' : Kept) (index : ℕ) (e : EntryValue) (a b : Option (List ℕ)) where
-  -- it was accepted, and is shown, and written
-  pub entry_written : IsTaken k e true k' → ((frame : Frame) → k'.last ≡ Some frame → Appends a b (frame_text k'.frames frame)) →
-      ShowsEntry k index e (Ok tt) k' a b
-  entry_written (frame, last, taken) written = (frame_text k'.frames frame, taken, written frame last)
-
-  -- it couldn't be written
+  -- it was accepted, and is shown, and couldn't be written
   pub entry_unwritten : (answer : Answer) → IsErrAnd answer (λ x. x ≡ errors.WriteFault) → IsTaken k e true k' →
       ((frame : Frame) → k'.last ≡ Some frame → AppendsPrefix a b (frame_text k'.frames frame)) → ShowsEntry k index e answer k' a b
   entry_unwritten answer err (frame, last, taken) prefix =
@@ -152,11 +116,6 @@ module _ (k k' : Kept) (index : ℕ) (e : EntryValue) (a b : Option (List ℕ)) 
   -- it isn't shown
   pub entry_hidden : IsTaken k e false k' → ShowsEntry k index e (Ok tt) k' a a
   entry_hidden (frame, last, taken) = ([], taken, Appends-nil a)
-
-  -- it was refused
-  pub entry_refused : (answer : Answer) (x : SequenceError) → IsErrAnd answer (λ d. d ≡ x) →
-      ((taken : Option (List ℕ)) → ShowsEntry k index e (Err x) k' taken taken) → ShowsEntry k index e answer k' a a
-  entry_refused answer x is refused = subst (λ (r : Answer). ShowsEntry k index e r k' a a) (sym (is_err answer x is)) (refused a)
 
 -- ---- all of them
 

@@ -24,8 +24,8 @@ is_magic v = v == from_le_bytes w32 (codes "RSQ1") || v == from_le_bytes w32 (co
 abbrev pub version_of : ℕ → ℕ
 version_of letters = if letters == from_le_bytes w32 (codes "RSQ2") then 3 else 2
 
-unfoldable pub version : Format ℕ
-version = do
+unfoldable pub plan_version : Format ℕ
+plan_version = do
   letters ← field (where_ four is_magic)
   done (version_of letters)
 
@@ -36,7 +36,7 @@ pub record FrontValue : Type 0 where
 
 unfoldable pub front : Format FrontValue
 front = do
-  version ← version
+  version ← plan_version
   width ← field (where_ two (is_side version))
   height ← field (where_ two (is_side version))
   depth ← field (where_ one is_depth)

@@ -9,7 +9,8 @@ ghost use Rattle.av1_plan.specs.Grammar.{where_};
 ghost use Rattle.av1_plan.specs.Reading.{Gives, input, Fits, Moves};
 ghost use Rattle.av1_sequence.specs.File.{IsReadEntry, IsReadFile, IsReadHead, entry_value, file_value, front_value};
 ghost use Rattle.av1_sequence.specs.Frames.{IsHead};
-ghost use Rattle.av1_sequence.specs.Grammar.{again_head, coded_head, entry_head, front, head, is_magic, kind, read_entries, read_entry, read_file, version};
+ghost use Rattle.av1_sequence.specs.Grammar.{again_head, coded_head, entry_head, front, head, is_magic, kind, read_entries, read_entry, plan_version};
+ghost use Rattle.av1_sequence.specs.Grammar.{read_file};
 ghost use Rattle.av1_sequence.specs.Kept.{AreFrames};
 ghost use Rattle.av1_sequence.specs.Outcomes.{frames_of};
 
@@ -47,10 +48,10 @@ fn magic(reader: &mut Reader<'_>) -> Result<u32, PlanError>
 }
 
 /// The version of plans that the frames have, by the four letters at the front.
-#[tactic(auto, unfolding(crate::specs::Grammar::version))]
-fn version(reader: &mut Reader<'_>) -> Result<u8, PlanError>
+#[tactic(auto, unfolding(crate::specs::Grammar::plan_version))]
+fn plan_version(reader: &mut Reader<'_>) -> Result<u8, PlanError>
     requires { Fits reader.old }
-    ensures read { Gives (λ x. (x, input reader.new)) result (read version (input reader.old)) }
+    ensures read { Gives (λ x. (x, input reader.new)) result (read plan_version (input reader.old)) }
     ensures range { IfOk result (λ x. (2 ≤ x) × (x ≤ 3)) }
     ensures moves { Moves reader.old reader.new }
 {
@@ -70,7 +71,7 @@ fn front(reader: &mut Reader<'_>) -> Result<FileFront, PlanError>
     ensures frames { IfOk result (λ x. AreFrames (frames_of x.version x.width x.height x.depth x.sampling)) }
     ensures moves { Moves reader.old reader.new }
 {
-    let version = version(reader)?;
+    let version = plan_version(reader)?;
     let width = reader.side(version)?;
     let height = reader.side(version)?;
     let depth = reader.depth()?;
