@@ -99,6 +99,18 @@ def of_two(row):
     return changed(REFERRING, (19, 3)) + planes(10, 10, 10) + planes(21, 21, 21) + b"\0" + leaf_of_two
 
 
+# Frames whose sides are no multiples of 8: of one sample, of 9x9 and 65x1, and of 9x8 from a slot that rises along rows.
+ONE_SAMPLE = header(1, 1, sampling=0, magic=b"RPL3") + b"\0" + leaf(tx_size=4)
+NINE_BY_NINE = header(9, 9, sampling=0, magic=b"RPL3") + b"\3\3\0" + leaf(tx_size=2)
+ONE_ROW = header(65, 1, sampling=1, depth=10, magic=b"RPL3") + 2 * (b"\1" + leaf(tx_size=12))
+NINE_FRONT = header(9, 8, mask=1, magic=b"RPL3") + 8 * bytes(range(0, 90, 10)) + planes(128, 128, count=72)
+
+
+def moved(row, col, mode=19):
+    """The frame of 9x8 in one leaf, moved by this vector."""
+    return NINE_FRONT + b"\0" + leaf(mode=mode, vectors=[(1, row, col)], tx_size=4)
+
+
 # Ten leaves of 16x16 in 4:2:0 with all directions but two beside smooth neighbours; and chroma from luma in 4:2:0 and 4:2:2.
 DIRECTIONAL = bytes.fromhex(
     "52504c31100010000800000102030505010206000303030103fd060d000008fe04fe0605020400000d00ffffffff00100023ffffff001800c4ffffff"

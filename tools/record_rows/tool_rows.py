@@ -1,6 +1,6 @@
 """Runs of the tools: grids of tiles, traces, sequences, plans without their coefficients."""
-from plans import (DIRECTIONAL, DOWN_TO_4, FROM_LUMA_420, HALVED, MOVED, ONE_HALF, PLAIN, PLAN, QUARTERS, SINGLE, changed, header, leaf, of_two, planes,
-                   sequence, tiles, trace)
+from plans import (DIRECTIONAL, DOWN_TO_4, FROM_LUMA_420, HALVED, MOVED, NINE_BY_NINE, ONE_HALF, ONE_SAMPLE, PLAIN, PLAN, QUARTERS, SINGLE, changed,
+                   header, leaf, moved, of_two, planes, sequence, tiles, trace)
 from runs import NEVER, TOOLS, WORDS_OF_TOOLS, reads_of
 
 # A leaf of 64x64 from above, one by DC, one from the left, and one from the first slot.
@@ -52,6 +52,25 @@ def worked_traces(add):
         add("trace, cut", SAME[:count], ("trace",))
     for place in range(91, len(SAME), 5):
         add("trace, one sample", changed(SAME, (place, 255 - SAME[place])), ("trace",))
+
+
+def any_sides(add):
+    """Traces and plans of frames whose sides are no multiples of 8; grids and sequences, which have none."""
+    shown = 8 * bytes([40, 50, 60, 70, 80, 80, 80, 80, 80]) + planes(128, 128, count=72)
+    nine = trace(moved(0, 32), shown)
+    front = len(nine) - len(shown)
+    at_the_side = trace(NINE_BY_NINE, planes(128, count=131))
+    for it in (nine, nine[:-1], nine + b"\0", at_the_side, trace(NINE_BY_NINE, planes(128, count=130)), trace(ONE_SAMPLE, b"\x80\x80\x7f")):
+        add("trace, any sides", it, ("trace",), out=(2000, 100, NEVER))
+    for place in (0, 8, 9, 71, 72, 80, 143, 144, 215):
+        add("trace, any sides, one sample", changed(nine, (front + place, 1)), ("trace",))
+    for place in (8, 80, 81, 85, 105, 106, 130):
+        add("trace, any sides, one sample", changed(at_the_side, (8 + len(NINE_BY_NINE) + place, 1)), ("trace",))
+    for it in (ONE_SAMPLE, NINE_BY_NINE, moved(3, 5), moved(16384, 0), b"RPL3" + PLAN[4:], changed(ONE_SAMPLE, (3, 0x32))):
+        add("bare, any sides", it, ("bare",), out=(500, 7, NEVER))
+    for place in (4, 6):
+        add("tiles, any sides", changed(TWO_TILES, (place, 9)), ("tiles",))
+        add("sequence, any sides", changed(TWO_FRAMES, (place, 9)), ("sequence",))
 
 
 def worked_sequences(add):
@@ -132,11 +151,21 @@ def random_files(runs, count):
                     runs.add(name, file, (word,), kind=TOOLS, piece=4096, out=(2**20, 4096, NEVER))
 
 
+def random_sides(runs, count):
+    """Random traces of the third version, and plans without their coefficients."""
+    for seed in range(count):
+        for word, kind in (("trace", "randomtrace"), ("bare", "random")):
+            file = runs.oracle.made(kind, str(seed), "magic=3", f"maxside={[16, 24, 40][seed % 3]}", f"mask={seed % 2}", f"filter={seed % 2}", "depth=10")
+            if len(file) < 8_000:
+                runs.add(kind + " of any sides", file, (word,), kind=TOOLS, piece=4096, out=(2**20, 4096, NEVER))
+
+
 def record(runs):
     def add(*call, **more):
         runs.add(*call, kind=TOOLS, **more)
 
-    for rows in (worked_tiles, worked_traces, worked_sequences, worked_plans, faults):
+    for rows in (worked_tiles, worked_traces, worked_sequences, worked_plans, faults, any_sides):
         rows(add)
     add("too long", words=("tiles",), piece=2**26 + 1, zeros=2**26 + 1)
     random_files(runs, 64)
+    random_sides(runs, 24)
