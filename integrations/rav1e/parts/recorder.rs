@@ -103,15 +103,15 @@ pub fn edge_filter() -> bool {
 }
 
 /// Whether plans are of versions 1 and 2, whose sides are multiples of 8, in place of version 3.
-fn earlier_versions() -> bool {
+pub fn earlier_versions() -> bool {
   setting("RECORD_EARLIER_VERSIONS").is_some()
 }
 
-/// Which short filter stands for `filter` along sides up to 4, 0 the regular one and 1 the smooth one: rav1e's choice, or
-/// with RECORD_SHORT_AS_AV1 that of AV1, which takes the regular one for the sharp filter.
+/// Which short filter stands for `filter` along sides up to 4, 0 the regular one and 1 the smooth one: AV1's choice, which is
+/// the regular one for the sharp filter; with plans of versions 1 and 2 that of rav1e, unless RECORD_SHORT_AS_AV1 is set.
 pub fn short_filter(filter: usize) -> usize {
   static AS_AV1: OnceLock<bool> = OnceLock::new();
-  if *AS_AV1.get_or_init(|| setting("RECORD_SHORT_AS_AV1").is_some()) {
+  if *AS_AV1.get_or_init(|| !earlier_versions() || setting("RECORD_SHORT_AS_AV1").is_some()) {
     filter & 1
   } else {
     filter.min(1)
