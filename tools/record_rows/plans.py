@@ -67,6 +67,36 @@ def sequence(frames, width=8, height=8, depth=8, sampling=2, count=None):
     return file
 
 
+def shown_sequence(entries, width=8, height=8, depth=8, sampling=2, count=None):
+    """A sequence of the second version: of each entry its kind, and what `sequence` has of a frame, or a slot and which slots then hold its frame too."""
+    file = b"RSQ2" + struct.pack("<HHBBH", width, height, depth, sampling, len(entries) if count is None else count)
+    for kind, *fields in entries:
+        file += bytes([kind, *fields]) if kind == AGAIN else bytes([kind]) + sequence([fields])[FRONT_OF_SEQUENCE:]
+    return file
+
+
+# The kinds of entries, and how many bytes stand before them.
+HIDDEN, SHOWN, AGAIN = range(3)
+FRONT_OF_SEQUENCE = 12
+
+
+def with_entries(file, seed):
+    """A sequence of the second version like this one of the first: of sides that are coded alike, with frames that aren't shown and slots that are
+    shown again, mostly some that are filled, and with the regular filter in place of the sharp one."""
+    width, height, depth, sampling, count = struct.unpack_from("<HHBBH", file, 4)
+    them, held, at = [], set(), 12
+    for frame in range(count):
+        length, = struct.unpack_from("<I", file, at + 10)
+        filter = 0 if file[at] == 2 else file[at]
+        them.append(bytes([SHOWN if (seed + frame) % 3 else HIDDEN, filter]) + file[at + 1:at + 14 + length])
+        held |= {slot for slot in range(8) if file[at + 9] >> slot & 1}
+        if (seed + frame) % 2 and held:
+            slots = sorted(held) if seed % 8 else range(8)
+            them.append(bytes([AGAIN, slots[(seed + frame) % len(slots)], (37 * seed + 11 * frame) % 256 if seed % 3 else 0]))
+        at += 14 + length
+    return b"RSQ2" + struct.pack("<HHBBH", width - seed % 8, height - seed // 8 % 8, depth, sampling, len(them)) + b"".join(them)
+
+
 # ---- worked plans
 
 DOWN_TO_4 = b"\3\3\3\3"

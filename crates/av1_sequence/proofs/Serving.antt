@@ -43,8 +43,8 @@ mask_is h slots head s lt = bit_is (is_read head.slots slots) s lt
 -- the header of a frame's plan lies in its ranges
 pub read_header : (h : Header) (slots : Slots) (head : FrameHead) → AreFrames h → IsHead head → IsReadFrame (frame_header h slots head)
 read_header h slots head is own_head = record {
-  least_version = omega arith;
-  most_version = omega arith;
+  least_version = is.least_version;
+  most_version = is.most_version;
   width = is.width;
   height = is.height;
   shown_width = is.shown_width;
