@@ -25,8 +25,8 @@ extern "C" {
 
 /* The version of this header. As long as major is 0, archives of one minor version go with its headers, and no others. */
 #define AV1_C_VERSION_MAJOR 0
-#define AV1_C_VERSION_MINOR 2
-#define AV1_C_VERSION_PATCH 1
+#define AV1_C_VERSION_MINOR 3
+#define AV1_C_VERSION_PATCH 0
 #define AV1_C_VERSION (AV1_C_VERSION_MAJOR * 65536u + AV1_C_VERSION_MINOR * 256u + AV1_C_VERSION_PATCH)
 
 /* The version of the archive that is linked, made up in the same way. */

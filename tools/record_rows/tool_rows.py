@@ -1,6 +1,6 @@
 """Runs of the tools: grids of tiles, traces, sequences, plans without their coefficients."""
-from plans import (AGAIN, DIRECTIONAL, DOWN_TO_4, FLAT, FROM_LUMA_420, HALVED, HIDDEN, MOVED, ONE_HALF, PLAIN, PLAN, QUARTERS, SHOWN, SINGLE, changed, header,
-                   leaf, of_two, planes, sequence, shown_sequence, tiles, trace)
+from plans import (AGAIN, DIRECTIONAL, DOWN_TO_4, FLAT, FROM_LUMA_420, HALVED, HIDDEN, MOVED, NINE_BY_NINE, ONE_HALF, ONE_SAMPLE, PLAIN, PLAN, QUARTERS,
+                   SHOWN, SINGLE, changed, header, leaf, moved, of_two, planes, sequence, shown_sequence, tiles, trace, with_entries)
 from runs import NEVER, TOOLS, WORDS_OF_TOOLS, reads_of
 
 # A leaf of 64x64 from above, one by DC, one from the left, and one from the first slot.
@@ -54,6 +54,25 @@ def worked_traces(add):
         add("trace, one sample", changed(SAME, (place, 255 - SAME[place])), ("trace",))
 
 
+def any_sides(add):
+    """Traces and plans of frames whose sides are no multiples of 8; grids and sequences, which have none."""
+    shown = 8 * bytes([40, 50, 60, 70, 80, 80, 80, 80, 80]) + planes(128, 128, count=72)
+    nine = trace(moved(0, 32), shown)
+    front = len(nine) - len(shown)
+    at_the_side = trace(NINE_BY_NINE, planes(128, count=131))
+    for it in (nine, nine[:-1], nine + b"\0", at_the_side, trace(NINE_BY_NINE, planes(128, count=130)), trace(ONE_SAMPLE, b"\x80\x80\x7f")):
+        add("trace, any sides", it, ("trace",), out=(2000, 100, NEVER))
+    for place in (0, 8, 9, 71, 72, 80, 143, 144, 215):
+        add("trace, any sides, one sample", changed(nine, (front + place, 1)), ("trace",))
+    for place in (8, 80, 81, 85, 105, 106, 130):
+        add("trace, any sides, one sample", changed(at_the_side, (8 + len(NINE_BY_NINE) + place, 1)), ("trace",))
+    for it in (ONE_SAMPLE, NINE_BY_NINE, moved(3, 5), moved(16384, 0), b"RPL3" + PLAN[4:], changed(ONE_SAMPLE, (3, 0x32))):
+        add("bare, any sides", it, ("bare",), out=(500, 7, NEVER))
+    for place in (4, 6):
+        add("tiles, any sides", changed(TWO_TILES, (place, 9)), ("tiles",))
+        add("sequence, any sides", changed(TWO_FRAMES, (place, 9)), ("sequence",))
+
+
 def worked_sequences(add):
     """Sequences: frames from those before, empty slots, refused frames behind accepted ones, heads that are refused."""
     of_two_slots = b"\0" + leaf(mode=33, vectors=[(1, 0, 0), (2, 0, 0)], tx_size=4)
@@ -74,29 +93,37 @@ def worked_sequences(add):
         add("sequence, cut", TWO_FRAMES[:count], ("sequence",))
 
 
-def shown_sequences(runs):
-    """Sequences whose frames are shown or not. No oracle reads them: what they write are the planes of their frames' plans, by the oracle, in shown order."""
+def shown_sequences(add):
+    """Sequences whose frames are shown or not: slots that are shown again, empty ones, frames of any sides, heads that are refused."""
     first, flat = (it[len(header()):] for it in (PLAN, FLAT))
-    a, b = (runs.oracle.run((), it)[1] for it in (PLAN, FLAT))
-    right = b"\0" + leaf(mode=19, vectors=[(1, 0, 32)], tx_size=1)
-    odd = b"\3\3\0" + leaf(tx_size=2)
+    odd, right = b"\3\3\0" + leaf(tx_size=2), b"\0" + leaf(mode=19, vectors=[(1, 0, 32)], tx_size=1)
+    slant, broken = (b"\0" + leaf(mode=mode, step=step, tx_size=4) for mode, step in ((3, 0), (1, 4)))
+    kept = shown_sequence([(HIDDEN, 1, first), (SHOWN, 2, flat), (AGAIN, 0, 0)])
     cases = [
-        ([(HIDDEN, 1, first), (SHOWN, 2, flat), (AGAIN, 0, 0)], b + a, b""), ([(SHOWN, 1, flat), (AGAIN, 3, 0)], b, b"frame 1 empty slot\n"),
-        ([(SHOWN, 1, first), (SHOWN, 2, flat), (AGAIN, 0, 255), (AGAIN, 7, 0)], a + b + a + a, b""), ([(HIDDEN, 1, flat)], b"", b""), ([], b"", b""),
-        ([(SHOWN, 1, first), (SHOWN, 0, flat), (AGAIN, 0, 0), (SHOWN, 0, flat)], a + b + a + b, b""), ([(3, 1, flat)], b"", b"malformed at 12\n"),
-        ([(AGAIN, 8, 0)], b"", b"malformed at 13\n"), ([(SHOWN, 1, flat), (HIDDEN, 1, b"\0")], b, b"frame 1 malformed at 1\n"),
-        ([(HIDDEN, 255, first), (AGAIN, 7, 1), (HIDDEN, 128, flat), (AGAIN, 7, 0), (AGAIN, 6, 0)], a + b + a, b""),
-        ([(SHOWN, 1, flat), (HIDDEN, 2, b"\0" + leaf(mode=1, step=4, tx_size=4)), (AGAIN, 1, 0)], b, b"frame 1 invalid leaf 0: mode\n"),
-        ([(HIDDEN, 1, flat), (SHOWN, 0, right)], b, b"")]
-    files = [(shown_sequence(entries), planes, line) for entries, planes, line in cases]
-    files += [(shown_sequence([(AGAIN, 1, 0)])[:cut], b"", b"malformed at %d\n" % cut) for cut in (12, 13, 14)]
-    files += [(shown_sequence([(HIDDEN, 255, odd), (SHOWN, 0, odd), (AGAIN, 7, 0)], 9, 9, sampling=0), 2 * 131 * b"\x80", b"")]
-    files += [(shown_sequence([], 0), b"", b"malformed at 4\n"), (shown_sequence([], 8, 2049), b"", b"malformed at 6\n")]
-    files += [(sequence([], 9), b"", b"malformed at 4\n"), (changed(shown_sequence([]), (3, 51)), b"", b"malformed at 0\n")]
-    for file, planes, line in files:
-        runs.oracle.known[("tools", "sequence"), file] = 2 if line else 0, planes, line
-        runs.add("sequence, shown", file, ("sequence",), kind=TOOLS, out=(2**16, 100, NEVER))
-        runs.add("sequence, shown", file, ("sequence",), kind=TOOLS, out=(2**16, 100, 30))
+        [(SHOWN, 1, flat), (AGAIN, 3, 0)], [(SHOWN, 1, first), (SHOWN, 2, flat), (AGAIN, 0, 255), (AGAIN, 7, 0)], [(HIDDEN, 1, flat)], [],
+        [(SHOWN, 1, first), (SHOWN, 0, flat), (AGAIN, 0, 0), (SHOWN, 0, flat)], [(3, 1, flat)], [(AGAIN, 8, 0)], [(AGAIN, 0, 0)],
+        [(SHOWN, 1, flat), (HIDDEN, 1, b"\0")], [(HIDDEN, 255, first), (AGAIN, 7, 1), (HIDDEN, 128, flat), (AGAIN, 7, 0), (AGAIN, 6, 0)],
+        [(SHOWN, 1, flat), (HIDDEN, 2, broken), (AGAIN, 1, 0)], [(SHOWN, 1, flat), (AGAIN, 1, 0), (SHOWN, 0, broken)], [(HIDDEN, 1, flat), (SHOWN, 0, right)],
+        [(SHOWN, 1, first), (AGAIN, 0, 2), (SHOWN, 0, SAME_PLACE, (1,) * 7)]]
+    files = [kept, *map(shown_sequence, cases), shown_sequence([(HIDDEN, 255, odd), (SHOWN, 0, odd), (AGAIN, 7, 0)], 9, 9, sampling=0)]
+    files += [shown_sequence([(AGAIN, 1, 0)])[:cut] for cut in (12, 13, 14)]
+    files += [shown_sequence([(SHOWN, 0, flat)], *sides) for sides in ((1, 1), (7, 8), (9, 8), (0, 8), (8, 0), (8, 2049), (2049, 8))]
+    files += [shown_sequence([(kind, 1, slant), (SHOWN, 0, right), (AGAIN, 0, 0)], 9, 13, depth, sampling)
+              for kind in (HIDDEN, SHOWN) for depth in (8, 10, 12) for sampling in range(3)]
+    files += [sequence([], 9), changed(kept, (3, 0x31)), changed(kept, (3, 0x33)), changed(TWO_FRAMES, (3, 0x32)), kept + b"\0"]
+    files += [shown_sequence([(SHOWN, 1, first), (AGAIN, 0, 0)], count=count) for count in (1, 3)]
+    for file in files:
+        add("sequence, shown", file, ("sequence",), out=(2**16, 100, NEVER))
+        add("sequence, shown", file, ("sequence",), out=(2**16, 100, 30))
+    for place in range(12, 17):
+        for value in (1, 2, 3, 8, 255):
+            add("sequence, shown, field", changed(kept, (place, value)), ("sequence",), out=(2**16, 100, NEVER))
+    for count in range(0, len(kept), 3):
+        add("sequence, shown, cut", kept[:count], ("sequence",))
+    for call in (0, 1, 7, 8, 23, 24, 25, 47, 48, 49):
+        add("sequence, shown, write", kept, ("sequence",), out=(4096, 8, call))
+    for room in (0, 8, 191, 192, 200, 383, 384):
+        add("sequence, shown, room", kept, ("sequence",), out=(room, 100, NEVER))
 
 
 def worked_plans(add):
@@ -157,12 +184,30 @@ def random_files(runs, count):
                     runs.add(name, file, (word,), kind=TOOLS, piece=4096, out=(2**20, 4096, NEVER))
 
 
+def random_sides(runs, count):
+    """Random traces of the third version, and plans without their coefficients."""
+    for seed in range(count):
+        for word, kind in (("trace", "randomtrace"), ("bare", "random")):
+            file = runs.oracle.made(kind, str(seed), "magic=3", f"maxside={[16, 24, 40][seed % 3]}", f"mask={seed % 2}", f"filter={seed % 2}", "depth=10")
+            if len(file) < 8_000:
+                runs.add(kind + " of any sides", file, (word,), kind=TOOLS, piece=4096, out=(2**20, 4096, NEVER))
+
+
+def random_entries(runs, count):
+    """Random sequences whose frames are shown or not."""
+    for seed in range(count):
+        file = runs.oracle.made("randomsequence", str(seed), f"maxside={[16, 24, 40][seed % 3]}", "maxcoef=100000")
+        if len(file) < 8_000:
+            runs.add("randomsequence, shown", with_entries(file, seed), ("sequence",), kind=TOOLS, piece=4096, out=(2**20, 4096, NEVER))
+
+
 def record(runs):
     def add(*call, **more):
         runs.add(*call, kind=TOOLS, **more)
 
-    for rows in (worked_tiles, worked_traces, worked_sequences, worked_plans, faults):
+    for rows in (worked_tiles, worked_traces, worked_sequences, worked_plans, faults, any_sides, shown_sequences):
         rows(add)
     add("too long", words=("tiles",), piece=2**26 + 1, zeros=2**26 + 1)
     random_files(runs, 64)
-    shown_sequences(runs)
+    random_sides(runs, 24)
+    random_entries(runs, 64)

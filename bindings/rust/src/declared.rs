@@ -52,7 +52,7 @@ holds!(sys::INVALID_MODE == 3);
 holds!(sys::INVALID_VECTOR == 4);
 holds!(sys::MISSING_REFERENCE == 5);
 holds!(sys::INVALID_COEFFICIENT == 6);
-holds!(crate::VERSION == 513);
+holds!(crate::VERSION == 768);
 
 holds!(size_of::<sys::TransformScratch>() == 24576);
 
