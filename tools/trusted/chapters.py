@@ -80,7 +80,7 @@ CHAPTERS = [
      Prediction from one reference or two: the filters (Subpel_Filters), the block inter prediction process with its
      two roundings, the motion vector scaling process at a scale of one, and the average of two predictions. References
      are the plan's own planes; a place outside of them reads the nearest visible sample. Along sides up to 4 the sharp
-     filter is rav1e's, and [not AV1's](DIFFERENCES.md#where-plans-arent-av1).""",
+     filter is AV1's in the third version, and before it rav1e's, which [isn't](DIFFERENCES.md#where-plans-arent-av1).""",
      "av1_blocks/Filters av1_frame/Slices av1_inter/Filters av1_inter/Motion av1_inter/Reference "
      "av1_inter/Prediction av1_references/References"),
     ("Transforms", """

@@ -192,10 +192,10 @@ def differing_everywhere(plan, planes):
 
 
 
-def sharp(filter_number=2, column=8):
+def sharp(filter_number=2, column=8, version=1):
     """One leaf of 8x8 in 4:2:0 from a reference whose U has a stripe, by this filter and a vector of so many eighths to the right."""
     stripe = bytes([0, 128, 0, 0])
-    header = b"RPL1" + struct.pack("<HHBBBB", 8, 8, 8, 0, filter_number, 0) + bytes(7) + b"\1"
+    header = b"RPL%d" % version + struct.pack("<HHBBBB", 8, 8, 8, 0, filter_number, 0) + bytes(7) + b"\1"
     return header + bytes([128]) * 64 + 4 * stripe + bytes([128]) * 16 + bytes([3, 3, 3, 0, 19, 1]) + struct.pack("<hh", 0, column) + bytes([1]) + bytes(8)
 
 

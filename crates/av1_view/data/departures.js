@@ -1,12 +1,12 @@
-// ---- Leaves that depart from AV1: by rav1e's rule, which plans follow, their samples can be others than AV1's.
+// ---- Leaves that depart from AV1: by rav1e's rule, which plans follow there, their samples can be others than AV1's.
 
 const SHORT_FILTER = 'the sharp filter along a short side: rav1e takes the smooth filter of four weights there, AV1 the regular one';
 const WRAPPED_IDENTITY = 'an identity wraps: along rows it passes 32 bits, where rav1e wraps and AV1 does not';
 const IDENTITY_ALONG_ROWS = ['IDTX', 'V_DCT', 'V_ADST', 'V_FLIPADST'];
 
-// Chroma has a side of 4 where a side of 8 is halved, and is filtered along it where the vector has a fraction there, in 1/16 of a sample.
+// Up to version 2. Chroma has a side of 4 where a side of 8 is halved, and is filtered along it where the vector has a fraction there, in 1/16 of a sample.
 function meetsShortFilter(frame, leaf) {
-  if (frame.filter !== SHARP || !leaf.motions) return false;
+  if (frame.version > 2 || frame.filter !== SHARP || !leaf.motions) return false;
   const narrow = frame.xdecs[1] === 1 && leaf.width === 8;
   const low = frame.ydecs[1] === 1 && leaf.height === 8;
   return leaf.motions.some((m) => (narrow && (m.column & 15) !== 0) || (low && (m.row & 15) !== 0));
