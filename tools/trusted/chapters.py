@@ -87,7 +87,7 @@ CHAPTERS = [
      The residue of a transform block: the 2D inverse transform process over the inverse DCT, ADST, identity and
      Walsh-Hadamard processes, step by step with every rounding and clamp, as butterflies and not as sums of
      cosines. Sums of products wrap at 32 bits, as in a release build of rav1e; in identities at depth 12 that
-     [isn't AV1's](DIFFERENCES.md#where-plans-arent-av1).""",
+     [isn't AV1's](DIFFERENCES.md#where-plans-arent-av1), so that in the third version those along rows don't.""",
      "av1_dct/Arithmetic av1_dct/Operations av1_dct/Cosine av1_itx/Adst av1_itx/Identity av1_itx/Walsh "
      "av1_itx/Kinds av1_itx/Networks av1_itx/Residue"),
     ("Steps and the canvas", """

@@ -149,7 +149,7 @@ def departures(browser, pages, checks, options):
         ("sharp to the left", plans.sharp(2, -9), [0]), ("sharp as in AV1", plans.sharp(2, 8, 3), []), ("identity of 4", plans.identity(370703), [0]), ("small identity of 4", plans.identity(370702), []),
         ("negative identity of 4", plans.identity(-370704), [0]), ("small negative identity of 4", plans.identity(-370703), []),
         ("identity of columns", plans.identity(370703, 11), []), ("identity of 16", plans.identity(185352, 9, 16), [0]),
-        ("small identity of 16", plans.identity(185351, 9, 16), []),
+        ("small identity of 16", plans.identity(185351, 9, 16), []), ("identity of 16 as in AV1", plans.identity(185352, 9, 16, 3), []),
     ])
 
 

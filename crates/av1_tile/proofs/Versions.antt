@@ -1,5 +1,6 @@
 -- The planes of a plan are the same in each version by whose rules its frame goes: else no step of the slow definition reads the version.
-use Rattle.std.proofs.Common.{ℕ, zero, suc, ◌≡◌, ◌≢◌, ◌≤◌, ◌==◌, ◌++◌, if◌then◌else◌, Bool, true, false, Some, ℤ, List, [], ◌∷◌, refl, ap, sym, ◌∙◌, arith}
+use Rattle.std.proofs.Common.{ℕ, zero, suc, ◌≡◌, ◌≢◌, ◌≤◌, ◌==◌, ◌++◌, if◌then◌else◌, Bool, true, false, Some, option_map, ℤ, List, [], ◌∷◌, refl, ap, sym}
+use Rattle.std.proofs.Common.{◌∙◌, arith}
 use Rattle.std.specs.List.{fold, flat_map}
 use mathlib.Core.Path.{fun_ext}
 use Rattle.av1_blocks.specs.declared.mc.FilterMode.{FilterMode}
@@ -12,7 +13,10 @@ use Rattle.av1_frame.specs.Areas.{VisibleArea}
 use Rattle.av1_inter.specs.Filters.{mode_along}
 use Rattle.av1_inter.specs.Prediction.{compound_prediction, single_prediction}
 use Rattle.av1_inter.specs.Reference.{vector_of, reference_of as reference_in}
+use Rattle.av1_itx.specs.Residue.{residue_by}
+use Rattle.av1_itx.proofs.NoWrap.{shallow_residue}
 use Rattle.av1_plan.specs.declared.header.Header.{Header}
+use Rattle.av1_plan.specs.declared.leaf.Triple.{Triple}
 use Rattle.av1_plan.specs.Geometry.{xdec, ydec, plane_width, plane_height, carries_chroma, covers_plane, plane_place, plane_size, plane_tx_size, plane_area}
 use Rattle.av1_plan.specs.Geometry.{follows_av1, has_block, transform_block, shown_columns, shown_rows}
 use Rattle.av1_plan.specs.Plan.{LeafValue, PlanValue}
@@ -25,7 +29,7 @@ use Rattle.av1_tile.specs.Canvas.{Component, Y, U, V, Canvas, blank, drawn, with
 use Rattle.av1_tile.specs.Edge.{sample_of}
 use Rattle.av1_tile.specs.Output.{visible, planes_of}
 use Rattle.av1_tile.specs.PlaneBlocks.{number, plane_block}
-use Rattle.av1_tile.specs.Reference.{by_prediction, predicted, slow_in, slow_step, slow_walk}
+use Rattle.av1_tile.specs.Reference.{added, block_residue, by_prediction, coefficients, predicted, slow_in, slow_step, slow_walk}
 use Rattle.av1_tile.specs.Steps.{Step, predict, add, PlaneStep, steps_at, steps_of, component_steps, leaf_steps, steps_after, steps}
 use Rattle.av1_tile.specs.Versions.{AgreesIn, EarlierKeepFilter, EarlyAgree, ElsewhereAgree, VersionsShowTheSame}
 
@@ -97,11 +101,19 @@ module _ (n : ℕ) (plan : PlanValue) (agrees : AgreesIn n plan.header) where
   predicted_same canvas U block a r k = prediction_same U block.prediction a _ _ r k
   predicted_same canvas V block a r k = prediction_same V block.prediction a _ _ r k
 
+  residue_same : (block : PlaneBlock) (triples : List Triple) (m r k : ℕ)
+      → block_residue (follows_av1 (header_in n plan.header)) plan.header.depth block triples m r k
+      ≡ block_residue (follows_av1 plan.header) plan.header.depth block triples m r k
+  unfolding block_residue
+  residue_same block triples m r k = agrees.residue block.area.tx_size block.tx_type (coefficients block.area.tx_size m triples) r k
+
   written_same : (canvas : Canvas) (c : Component) (s : Step) → slow_in (plan_in n plan) canvas c s ≡ slow_in plan canvas c s
   unfolding slow_in
   written_same canvas c (predict block m a) =
       ap (λ (f : ℕ → ℕ → ℕ). drawn a (λ r k _. Some (f r k)) (canvas c)) (fun_ext (λ r. fun_ext (λ k. predicted_same canvas c block a r k)))
-  written_same canvas c (add block triples m a) = refl
+  written_same canvas c (add block triples m a) =
+      ap (λ (f : ℕ → ℕ → ℤ). drawn a (λ r k o. option_map (λ v. added plan.header.depth v (f r k)) o) (canvas c))
+      (fun_ext (λ r. fun_ext (λ k. residue_same block triples m r k)))
 
   step_same : (canvas : Canvas) (s : PlaneStep) → slow_step (plan_in n plan) canvas s ≡ slow_step plan canvas s
   unfolding slow_step
@@ -147,9 +159,13 @@ earlier_versions_keep_the_short_filter h few side = ap (λ (b : Bool). mode_alon
 pub versions_agree_early : EarlyAgree
 versions_agree_early version h few own = record {
   filter = λ side. ap (λ (b : Bool). mode_along b h.filter side) (not_third version few ∙ sym (not_third h.version own));
+  residue = λ size type cs r c. ap (λ (b : Bool). residue_by b size type h.depth cs r c) (not_third version few ∙ sym (not_third h.version own));
 }
 
 pub versions_agree_elsewhere : ElsewhereAgree
-versions_agree_elsewhere version h other = record {
+versions_agree_elsewhere version h other shallow = record {
   filter = λ side. stays (follows_av1 (header_in version h)) h.filter side other ∙ sym (stays (follows_av1 h) h.filter side other);
+  residue = λ size type cs r c.
+      shallow_residue (follows_av1 (header_in version h)) size type h.depth cs r c shallow
+      ∙ sym (shallow_residue (follows_av1 h) size type h.depth cs r c shallow);
 }

@@ -19,7 +19,7 @@ pub fn versions_agree_early()
     ensures { EarlyAgree }
 {}
 
-/// A law: a frame whose filter isn't the sharp one goes by the same rules in each version.
+/// A law: a frame whose filter isn't the sharp one, and whose depth isn't 12, goes by the same rules in each version.
 pub fn versions_agree_elsewhere()
     ensures { ElsewhereAgree }
 {}

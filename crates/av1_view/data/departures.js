@@ -4,9 +4,9 @@ const SHORT_FILTER = 'the sharp filter along a short side: rav1e takes the smoot
 const WRAPPED_IDENTITY = 'an identity wraps: along rows it passes 32 bits, where rav1e wraps and AV1 does not';
 const IDENTITY_ALONG_ROWS = ['IDTX', 'V_DCT', 'V_ADST', 'V_FLIPADST'];
 
-// Up to version 2. Chroma has a side of 4 where a side of 8 is halved, and is filtered along it where the vector has a fraction there, in 1/16 of a sample.
+// Chroma has a side of 4 where a side of 8 is halved, and is filtered along it where the vector has a fraction there, in 1/16 of a sample.
 function meetsShortFilter(frame, leaf) {
-  if (frame.version > 2 || frame.filter !== SHARP || !leaf.motions) return false;
+  if (frame.filter !== SHARP || !leaf.motions) return false;
   const narrow = frame.xdecs[1] === 1 && leaf.width === 8;
   const low = frame.ydecs[1] === 1 && leaf.height === 8;
   return leaf.motions.some((m) => (narrow && (m.column & 15) !== 0) || (low && (m.row & 15) !== 0));
@@ -27,8 +27,9 @@ function wrapsIn(plan, leaf, p) {
   });
 }
 
-// Why a leaf departs, or nothing.
+// Why a leaf departs, or nothing. In version 3 none does.
 function departureOf(plan, leaf) {
+  if (plan.frame.version > 2) return null;
   if (meetsShortFilter(plan.frame, leaf)) return SHORT_FILTER;
   if (plan.frame.depth === 12 && leaf.triples.some((t, p) => t.count > 0 && wrapsIn(plan, leaf, p))) return WRAPPED_IDENTITY;
   return null;

@@ -27,7 +27,7 @@ pub fn are_planes(bytes: &[u8]) -> bool {
 /// What a plan comes to.
 pub fn planes_of(alloc: Global, bytes: &[u8]) -> Result<Vec<u8>, Fail> {
     let mut source = SliceSource::new(bytes, 65536, &[]);
-    let mut sink = MemSink::new(alloc, 1000, 65536, &[])?;
+    let mut sink = MemSink::new(alloc, 2000, 65536, &[])?;
     let Ok(()) = reconstruct_plan(alloc, &mut source, &mut sink) else {
         return Err(Fail::new("the plan is reconstructed"));
     };
