@@ -25,8 +25,8 @@ extern "C" {
 
 /* The version of this header. As long as major is 0, archives of one minor version go with its headers, and no others. */
 #define AV1_C_VERSION_MAJOR 0
-#define AV1_C_VERSION_MINOR 2
-#define AV1_C_VERSION_PATCH 1
+#define AV1_C_VERSION_MINOR 3
+#define AV1_C_VERSION_PATCH 0
 #define AV1_C_VERSION (AV1_C_VERSION_MAJOR * 65536u + AV1_C_VERSION_MINOR * 256u + AV1_C_VERSION_PATCH)
 
 /* The version of the archive that is linked, made up in the same way. */
@@ -72,6 +72,7 @@ enum {
     AV1_TOO_LONG_PART = 30,   /* a part comes to a plan of more than 2^26 bytes */
     AV1_MALFORMED_PART = 31,  /* a part is no plan, or no leaves of one */
     AV1_INVALID_PART = 32,    /* a leaf of a part is refused */
+    AV1_EMPTY_SLOT = 33,      /* a part shows the frame of a slot again that is empty */
     /* of calls of a builder: */
     AV1_NOT_NOW = 40,         /* a plan in the making asks for another kind of field next */
     AV1_NOT_ADMITTED = 41,    /* an argument has a value that is not admitted here */
@@ -115,7 +116,7 @@ uint32_t av1_reconstruct_plan(const uint8_t *bytes, size_t bytes_len, uint8_t *r
 
 /* What bytes that hold plans as parts are refused for. It is written by a call that answers AV1_MALFORMED or a status of a part, and by no other. */
 typedef struct {
-    uint32_t part; /* the status of a part: the first tile or frame that is refused, counted from 0; 0 for the plan of a trace; else 0 */
+    uint32_t part; /* the status of a part: the first tile or entry that is refused, counted from 0; 0 for the plan of a trace; else 0 */
     uint32_t at;   /* AV1_MALFORMED, AV1_MALFORMED_PART: the byte, in the latter case of the part, at which the field at fault begins; else 0 */
     uint32_t leaf; /* AV1_INVALID_PART: the first leaf of the part that is refused, counted from 0 in coding order; else 0 */
     uint32_t kind; /* AV1_INVALID_PART: why; else 0 */
@@ -129,9 +130,10 @@ typedef struct {
  * from the heap while it runs, and gives all of it back. */
 uint32_t av1_reconstruct_tiles(const uint8_t *bytes, size_t bytes_len, uint8_t *room, size_t room_len, size_t *written, av1_part_refusal *refusal);
 
-/* Reconstructs a sequence of frames, each predicted from those before it, and writes the visible planes of all, one frame behind the other. Its
- * parts are its frames. Where one is refused, nothing is written of those before it, either.
- * Answers as av1_reconstruct_tiles, or AV1_TOO_LONG_PART: the plan of a frame with its references would have more than 2^26 bytes. */
+/* Reconstructs a sequence of frames, each predicted from those before it, and writes the visible planes of all that are shown, one frame behind
+ * the other. Its parts are its entries. Where one is refused, nothing is written of those before it, either.
+ * Answers as av1_reconstruct_tiles, or AV1_TOO_LONG_PART: the plan of a frame with its references would have more than 2^26 bytes; or
+ * AV1_EMPTY_SLOT: a slot whose frame is to be shown again is empty. */
 uint32_t av1_reconstruct_sequence(const uint8_t *bytes, size_t bytes_len, uint8_t *room, size_t room_len, size_t *written,
                                   av1_part_refusal *refusal);
 

@@ -187,6 +187,37 @@ static void bytes_of_a_moved_leaf(void) {
     CHECK(memcmp(room + 20 + PLANES, spelled, sizeof spelled) == 0);
 }
 
+/* A frame of 9x8 in the third version: what its leaf reads right of the last column that is shown, the ninth, is that one. */
+static void a_frame_of_any_sides(void) {
+    enum { WIDTH = 9, SHOWN = 8 * WIDTH };
+    static const uint8_t first_row[WIDTH] = {40, 50, 60, 70, 80, 80, 80, 80, 80};
+    const av1_leaf moved = {.first = {.col = 32, .reference = 1}, .mode = 19, .chroma = 1, .tx_size = 4};
+    av1_plan_header odd = header;
+    av1_builder builder;
+    uint16_t ramp[SHOWN], flat[SHOWN];
+    uint8_t room[300], planes[3 * SHOWN];
+    size_t len, wanted, written;
+    av1_refusal refusal;
+    for (int i = 0; i < SHOWN; i++) {
+        ramp[i] = 10 * (i % WIDTH);
+        flat[i] = 128;
+    }
+    odd.width = WIDTH;
+    odd.mask = 1;
+    odd.version = 2;
+    CHECK(av1_builder_begin(&odd, &builder, room, sizeof room) == AV1_NOT_ADMITTED);
+    odd.version = 3;
+    CHECK(av1_builder_begin(&odd, &builder, room, sizeof room) == AV1_DONE && memcmp(room, "RPL3", 4) == 0);
+    CHECK(av1_builder_reference(&builder, room, sizeof room, ramp, SHOWN - 1, flat, SHOWN, flat, SHOWN) == AV1_NOT_ADMITTED);
+    CHECK(av1_builder_reference(&builder, room, sizeof room, ramp, SHOWN, flat, SHOWN, flat, SHOWN) == AV1_DONE);
+    CHECK(av1_builder_mark(&builder, room, sizeof room, 0) == AV1_DONE);
+    CHECK(av1_builder_leaf(&builder, room, sizeof room, &moved, NULL, 0, NULL, 0, NULL, 0) == AV1_DONE);
+    CHECK(av1_builder_finish(&builder, room, sizeof room, &len) == AV1_DONE);
+    CHECK(av1_planes_len(room, len, &wanted, &refusal) == AV1_DONE && wanted == sizeof planes);
+    CHECK(av1_reconstruct_plan(room, len, planes, sizeof planes, &written, &refusal) == AV1_DONE && written == sizeof planes);
+    for (int i = 0; i < 3 * SHOWN; i++) CHECK(planes[i] == (i < SHOWN ? first_row[i % WIDTH] : 128));
+}
+
 int main(void) {
     bytes_of_a_leaf();
     bytes_of_four_leaves();
@@ -195,5 +226,6 @@ int main(void) {
     planes_come_first();
     refused_builders();
     a_builder_is_come_back_to();
+    a_frame_of_any_sides();
     return 0;
 }

@@ -102,7 +102,7 @@ static struct left call(reconstruct with, const uint8_t *bytes, size_t len, size
     CHECK(left.status == AV1_DONE ? left.written <= room_len : left.written == 77);
     size_t written = left.status == AV1_DONE ? left.written : 0;
     CHECK(all_filled(left.room + written, ROOM - written));
-    int tells = left.status == AV1_MALFORMED || (AV1_TOO_LONG_PART <= left.status && left.status <= AV1_INVALID_PART);
+    int tells = left.status == AV1_MALFORMED || (AV1_TOO_LONG_PART <= left.status && left.status <= AV1_EMPTY_SLOT);
     CHECK(tells || same_refusal(left.refusal, untold));
     return left;
 }
@@ -182,6 +182,29 @@ static void traces(const text *plan, const text *planes) {
     CHECK(found == 77 && all_filled((const uint8_t *)room, sizeof room));
 }
 
+/* The plan as a frame that isn't shown, which slot 0 holds then, and a slot that is shown again. The frames are of the third version. */
+static text hidden_of(const text *plan, uint8_t slot) {
+    text sequence = {{0}, 0};
+    put(&sequence, "RSQ2", 4);
+    put(&sequence, plan->at + 4, 6);
+    put(&sequence, "\2\0", 2);
+    put(&sequence, "\0\0\0\0\0\0\0\0\0\0\1", 11);
+    put_part(&sequence, plan->at + HEADER, plan->len - HEADER);
+    put(&sequence, "\2", 1);
+    put(&sequence, &slot, 1);
+    put(&sequence, "\0", 1);
+    return sequence;
+}
+
+/* What is written is the frame that is shown again, and nothing where the slot is empty. */
+static void shown_again(const text *plan, const text *planes) {
+    text again = hidden_of(plan, 0), empty = hidden_of(plan, 1);
+    whole_and_cut(av1_reconstruct_sequence, &again, planes, 1);
+    struct left left = call(av1_reconstruct_sequence, empty.at, empty.len, ROOM);
+    av1_part_refusal entry = {1, 0, 0, 0};
+    CHECK(left.status == AV1_EMPTY_SLOT && same_refusal(left.refusal, entry));
+}
+
 int main(int count, char **words) {
     CHECK(count == 3);
     text plan = read_file(words[1]), planes = read_file(words[2]);
@@ -190,6 +213,7 @@ int main(int count, char **words) {
     size_t part = plan.len - HEADER;
     whole_and_cut(av1_reconstruct_tiles, &grid, &planes, 1);
     whole_and_cut(av1_reconstruct_sequence, &sequence, &planes, 2);
+    shown_again(&plan, &planes);
     traces(&plan, &planes);
     long_bytes(av1_reconstruct_tiles);
     long_bytes(av1_reconstruct_sequence);

@@ -67,6 +67,36 @@ def sequence(frames, width=8, height=8, depth=8, sampling=2, count=None):
     return file
 
 
+def shown_sequence(entries, width=8, height=8, depth=8, sampling=2, count=None):
+    """A sequence of the second version: of each entry its kind, and what `sequence` has of a frame, or a slot and which slots then hold its frame too."""
+    file = b"RSQ2" + struct.pack("<HHBBH", width, height, depth, sampling, len(entries) if count is None else count)
+    for kind, *fields in entries:
+        file += bytes([kind, *fields]) if kind == AGAIN else bytes([kind]) + sequence([fields])[FRONT_OF_SEQUENCE:]
+    return file
+
+
+# The kinds of entries, and how many bytes stand before them.
+HIDDEN, SHOWN, AGAIN = range(3)
+FRONT_OF_SEQUENCE = 12
+
+
+def with_entries(file, seed):
+    """A sequence of the second version like this one of the first: of sides that are coded alike, with frames that aren't shown and slots that are
+    shown again, mostly some that are filled, and with the regular filter in place of the sharp one."""
+    width, height, depth, sampling, count = struct.unpack_from("<HHBBH", file, 4)
+    them, held, at = [], set(), 12
+    for frame in range(count):
+        length, = struct.unpack_from("<I", file, at + 10)
+        filter = 0 if file[at] == 2 else file[at]
+        them.append(bytes([SHOWN if (seed + frame) % 3 else HIDDEN, filter]) + file[at + 1:at + 14 + length])
+        held |= {slot for slot in range(8) if file[at + 9] >> slot & 1}
+        if (seed + frame) % 2 and held:
+            slots = sorted(held) if seed % 8 else range(8)
+            them.append(bytes([AGAIN, slots[(seed + frame) % len(slots)], (37 * seed + 11 * frame) % 256 if seed % 3 else 0]))
+        at += 14 + length
+    return b"RSQ2" + struct.pack("<HHBBH", width - seed % 8, height - seed // 8 % 8, depth, sampling, len(them)) + b"".join(them)
+
+
 # ---- worked plans
 
 DOWN_TO_4 = b"\3\3\3\3"
@@ -97,6 +127,18 @@ def of_two(row):
     """A plan of slots of 10 and of 21, and a leaf from both by a first vector of this row."""
     leaf_of_two = leaf(mode=33, vectors=[(1, row, 0), (2, 0, 0)], tx_size=4)
     return changed(REFERRING, (19, 3)) + planes(10, 10, 10) + planes(21, 21, 21) + b"\0" + leaf_of_two
+
+
+# Frames whose sides are no multiples of 8: of one sample, of 9x9 and 65x1, and of 9x8 from a slot that rises along rows.
+ONE_SAMPLE = header(1, 1, sampling=0, magic=b"RPL3") + b"\0" + leaf(tx_size=4)
+NINE_BY_NINE = header(9, 9, sampling=0, magic=b"RPL3") + b"\3\3\0" + leaf(tx_size=2)
+ONE_ROW = header(65, 1, sampling=1, depth=10, magic=b"RPL3") + 2 * (b"\1" + leaf(tx_size=12))
+NINE_FRONT = header(9, 8, mask=1, magic=b"RPL3") + 8 * bytes(range(0, 90, 10)) + planes(128, 128, count=72)
+
+
+def moved(row, col, mode=19):
+    """The frame of 9x8 in one leaf, moved by this vector."""
+    return NINE_FRONT + b"\0" + leaf(mode=mode, vectors=[(1, row, col)], tx_size=4)
 
 
 # Ten leaves of 16x16 in 4:2:0 with all directions but two beside smooth neighbours; and chroma from luma in 4:2:0 and 4:2:2.

@@ -1,6 +1,7 @@
 """Runs of the program on worked plans, whole, broken, cut and in pieces."""
-from plans import (DIRECTIONAL, DOWN_TO_4, FLAT, FROM_LUMA_420, FROM_LUMA_422, HALVED, HALVED_QUARTERS, LIFTED, MOVED, ONE_HALF, PLAIN, PLAN,
-                   QUARTERS, REFERRING, SINGLE, SMALL_QUARTERS, WIDE, changed, header, leaf, of_two, planes)
+from plans import (DIRECTIONAL, DOWN_TO_4, FLAT, FROM_LUMA_420, FROM_LUMA_422, HALVED, HALVED_QUARTERS, LIFTED, MOVED, NINE_BY_NINE, ONE_HALF,
+                   ONE_ROW, ONE_SAMPLE, PLAIN, PLAN, QUARTERS, REFERRING, SINGLE, SMALL_QUARTERS, WIDE, changed, header, leaf, moved, of_two,
+                   planes)
 from runs import NEVER
 
 # Where fields stand: of the header, of a plan of one leaf, and of the first leaf of the plan of four.
@@ -200,8 +201,54 @@ def random_plans(runs):
                 runs.add(kind, plan, piece=4096, out=(2**20, 65536, NEVER))
 
 
+def sides(add):
+    """Frames of any sides: worked plans, vectors that lead past a side, and sides that a version doesn't admit."""
+    quarters = header(61, 57, magic=b"RPL3") + b"\x08" + 4 * leaf(tx_size=18)
+    cases = (
+        ONE_SAMPLE, NINE_BY_NINE, ONE_ROW, b"RPL3" + PLAN[4:], b"RPL3" + HALVED_QUARTERS[4:], b"RPL3" + FROM_LUMA_420[4:], b"RPL3" + DIRECTIONAL[4:],
+        quarters, changed(quarters, (HEIGHT, 56)), changed(quarters, (3, 0x32)), changed(NINE_BY_NINE, (WIDTH, 8)), changed(NINE_BY_NINE, (HEIGHT, 17)))
+    for it in cases:
+        add("sides", it, out=(12288, 100, NEVER))
+    for lower, upper in ((0, 0), (1, 8), (0, 8), (9, 0), (255, 255)):
+        for place in (WIDTH, HEIGHT):
+            add("sides, a side", changed(ONE_SAMPLE, (place, lower), (place + 1, upper)), out=(12288, 100, NEVER))
+    for version in b"124":
+        add("sides, an earlier version", changed(ONE_SAMPLE, (3, version)))
+        add("sides, an earlier version", changed(moved(0, 32), (3, version)))
+    for row, col in ((0, 32), (0, 0), (0, 8), (0, 4), (3, 5), (32, 0), (-32, -32), (0, 72), (0, 16383), (16383, -16383), (16384, 0), (0, 16384)):
+        for filter in (0, 1, 3):
+            add("sides, vector", changed(moved(row, col), (10, filter)))
+    for count in (*range(0, 24), 91, 92, 163, 164, 235, 236, 237, 240):
+        add("sides, cut", moved(0, 32)[:count])
+    for room in (0, 8, 9, 80, 81, 105, 106, 130, 131):
+        add("sides, room", NINE_BY_NINE, out=(room, 7, NEVER))
+    for call in range(20):
+        add("sides, write", NINE_BY_NINE, out=(131, 7, call))
+
+
+# Filters that are the same by rav1e and by AV1 along short sides.
+ALIKE = (0, 1, 3)
+
+
+def plans_of_any_sides(runs):
+    """Random plans of the third version, of every sampling and depth, good and broken: those of which rav1e's code and AV1 say the same. So leaves that are
+    refused for their mode, as some with a side of 4 are, stay out, and at depth 12 coefficients that may wrap in an identity."""
+    kinds = [(sampling, depth) for sampling in range(3) for depth in (8, 10, 12)]
+    for seed in range(198):
+        sampling, depth = kinds[seed % len(kinds)]
+        options = [f"samp={sampling}", f"depth={depth}", "magic=3", f"maxside={24 if seed < 189 else 136}", f"filter={ALIKE[seed % 7 % 3]}"]
+        options += [f"mask={MASKS[seed % len(MASKS)]}"] + ["maxcoef=100000"] * (depth == 12)
+        for kind in ("random", "randombad"):
+            plan = runs.oracle.made(kind, str(seed), *options)
+            status, _, line = runs.oracle.run((), plan)
+            may_wrap = kind == "randombad" and depth == 12 and status == 0
+            if len(plan) < 40_000 and not line.endswith(b"mode\n") and not may_wrap:
+                runs.add(kind + " of any sides", plan, piece=4096, out=(2**20, 65536, NEVER))
+
+
 def record(runs):
-    for rows in (one_leaf, four_leaves, frames, references, refusals, faults, lines, made):
+    for rows in (one_leaf, four_leaves, frames, references, refusals, faults, lines, made, sides):
         rows(runs.add)
     runs.add("too long", piece=2**26 + 1, zeros=2**26 + 1)
     random_plans(runs)
+    plans_of_any_sides(runs)

@@ -59,7 +59,8 @@ def reads_of(count, piece):
 def rows_of_planes(front, output):
     """Planes as they are written: frame after frame, row by row, by the sides that stand in a file's front."""
     width, height, depth, sampling = struct.unpack_from("<HHBB", front, 4)
-    sides = [(width, height)] + 2 * [(width >> (sampling < 2), height >> (sampling == 0))]
+    xdec, ydec = int(sampling < 2), int(sampling == 0)
+    sides = [(width, height)] + 2 * [(width + xdec >> xdec, height + ydec >> ydec)]
     at = 0
     while at < len(output):
         for columns, rows in sides:

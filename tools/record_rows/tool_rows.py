@@ -1,18 +1,18 @@
 """Runs of the tools: grids of tiles, traces, sequences, plans without their coefficients."""
-from plans import (DIRECTIONAL, DOWN_TO_4, FROM_LUMA_420, HALVED, MOVED, ONE_HALF, PLAIN, PLAN, QUARTERS, SINGLE, changed, header, leaf, of_two, planes,
-                   sequence, tiles, trace)
+from plans import (AGAIN, DIRECTIONAL, DOWN_TO_4, FLAT, FROM_LUMA_420, HALVED, HIDDEN, MOVED, NINE_BY_NINE, ONE_HALF, ONE_SAMPLE, PLAIN, PLAN, QUARTERS,
+                   SHOWN, SINGLE, changed, header, leaf, moved, of_two, planes, sequence, shown_sequence, tiles, trace, with_entries)
 from runs import NEVER, TOOLS, WORDS_OF_TOOLS, reads_of
 
 # A leaf of 64x64 from above, one by DC, one from the left, and one from the first slot.
 FROM_ABOVE, BY_DC, FROM_LEFT = (b"\0" + leaf(mode=mode, tx_size=4) for mode in (1, 0, 2))
-AGAIN = b"\0" + leaf(mode=19, vectors=[(1, 0, 0)], tx_size=4)
+SAME_PLACE = b"\0" + leaf(mode=19, vectors=[(1, 0, 0)], tx_size=4)
 BROKEN = b"\0" + leaf(mode=1, step=4, tx_size=4)
 
 TWO_TILES = tiles([FROM_ABOVE, BY_DC])
 PLANES_OF_PLAN = planes(131, 128, 128)
 SAME = trace(PLAN, PLANES_OF_PLAN)
 OTHER = changed(SAME, (91 + 4, 130))
-TWO_FRAMES = sequence([(1, FROM_ABOVE), (0, AGAIN)])
+TWO_FRAMES = sequence([(1, FROM_ABOVE), (0, SAME_PLACE)])
 
 
 def worked_tiles(add):
@@ -54,24 +54,76 @@ def worked_traces(add):
         add("trace, one sample", changed(SAME, (place, 255 - SAME[place])), ("trace",))
 
 
+def any_sides(add):
+    """Traces and plans of frames whose sides are no multiples of 8; grids and sequences, which have none."""
+    shown = 8 * bytes([40, 50, 60, 70, 80, 80, 80, 80, 80]) + planes(128, 128, count=72)
+    nine = trace(moved(0, 32), shown)
+    front = len(nine) - len(shown)
+    at_the_side = trace(NINE_BY_NINE, planes(128, count=131))
+    for it in (nine, nine[:-1], nine + b"\0", at_the_side, trace(NINE_BY_NINE, planes(128, count=130)), trace(ONE_SAMPLE, b"\x80\x80\x7f")):
+        add("trace, any sides", it, ("trace",), out=(2000, 100, NEVER))
+    for place in (0, 8, 9, 71, 72, 80, 143, 144, 215):
+        add("trace, any sides, one sample", changed(nine, (front + place, 1)), ("trace",))
+    for place in (8, 80, 81, 85, 105, 106, 130):
+        add("trace, any sides, one sample", changed(at_the_side, (8 + len(NINE_BY_NINE) + place, 1)), ("trace",))
+    for it in (ONE_SAMPLE, NINE_BY_NINE, moved(3, 5), moved(16384, 0), b"RPL3" + PLAN[4:], changed(ONE_SAMPLE, (3, 0x32))):
+        add("bare, any sides", it, ("bare",), out=(500, 7, NEVER))
+    for place in (4, 6):
+        add("tiles, any sides", changed(TWO_TILES, (place, 9)), ("tiles",))
+        add("sequence, any sides", changed(TWO_FRAMES, (place, 9)), ("sequence",))
+
+
 def worked_sequences(add):
     """Sequences: frames from those before, empty slots, refused frames behind accepted ones, heads that are refused."""
     of_two_slots = b"\0" + leaf(mode=33, vectors=[(1, 0, 0), (2, 0, 0)], tx_size=4)
     slots = (0, 1, 0, 0, 0, 0, 0)
     cases = [
-        TWO_FRAMES, sequence([(0, FROM_ABOVE), (0, AGAIN)]), sequence([]), sequence([])[:11], sequence([(1, FROM_ABOVE), (0, b"\4"), (0, FROM_ABOVE)]),
-        sequence([(1, FROM_ABOVE), (0, AGAIN + b"x")]), sequence([(1, BROKEN)]) + b"x", sequence([(1, FROM_ABOVE)], count=2), TWO_FRAMES[:-1],
-        sequence([(1, FROM_ABOVE), (2, FROM_LEFT), (0, of_two_slots, slots)]), sequence([(1, AGAIN)]),
-        sequence([(255, FROM_ABOVE), (1, FROM_LEFT), (0, AGAIN)]), sequence([(1, FROM_ABOVE), (255, b"\4"), (0, AGAIN)]),
+        TWO_FRAMES, sequence([(0, FROM_ABOVE), (0, SAME_PLACE)]), sequence([]), sequence([])[:11], sequence([(1, FROM_ABOVE), (0, b"\4"), (0, FROM_ABOVE)]),
+        sequence([(1, FROM_ABOVE), (0, SAME_PLACE + b"x")]), sequence([(1, BROKEN)]) + b"x", sequence([(1, FROM_ABOVE)], count=2), TWO_FRAMES[:-1],
+        sequence([(1, FROM_ABOVE), (2, FROM_LEFT), (0, of_two_slots, slots)]), sequence([(1, SAME_PLACE)]),
+        sequence([(255, FROM_ABOVE), (1, FROM_LEFT), (0, SAME_PLACE)]), sequence([(1, FROM_ABOVE), (255, b"\4"), (0, SAME_PLACE)]),
         sequence([(1, FROM_ABOVE), (0, BROKEN)]), sequence([(1, FROM_ABOVE)], count=0), b"RPL1"]
     fields = ((12, 4), (13, 2), (14, 8), (20, 8), (4, 12), (8, 9), (9, 3), (21, 0), (10, 0), (10, 3), (22, 13))
     cases += [changed(TWO_FRAMES, it) for it in fields]
-    cases += [sequence([(1, FROM_ABOVE), (2, AGAIN), (0, of_two_slots, slots)], 16, 24, depth, sampling)
+    cases += [sequence([(1, FROM_ABOVE), (2, SAME_PLACE), (0, of_two_slots, slots)], 16, 24, depth, sampling)
               for depth in (8, 10, 12) for sampling in range(3)]
     for it in cases:
         add("sequence", it, ("sequence",), out=(2**16, 100, NEVER))
     for count in range(len(TWO_FRAMES)):
         add("sequence, cut", TWO_FRAMES[:count], ("sequence",))
+
+
+def shown_sequences(add):
+    """Sequences whose frames are shown or not: slots that are shown again, empty ones, frames of any sides, heads that are refused."""
+    first, flat = (it[len(header()):] for it in (PLAN, FLAT))
+    odd, right = b"\3\3\0" + leaf(tx_size=2), b"\0" + leaf(mode=19, vectors=[(1, 0, 32)], tx_size=1)
+    slant, broken = (b"\0" + leaf(mode=mode, step=step, tx_size=4) for mode, step in ((3, 0), (1, 4)))
+    kept = shown_sequence([(HIDDEN, 1, first), (SHOWN, 2, flat), (AGAIN, 0, 0)])
+    cases = [
+        [(SHOWN, 1, flat), (AGAIN, 3, 0)], [(SHOWN, 1, first), (SHOWN, 2, flat), (AGAIN, 0, 255), (AGAIN, 7, 0)], [(HIDDEN, 1, flat)], [],
+        [(SHOWN, 1, first), (SHOWN, 0, flat), (AGAIN, 0, 0), (SHOWN, 0, flat)], [(3, 1, flat)], [(AGAIN, 8, 0)], [(AGAIN, 0, 0)],
+        [(SHOWN, 1, flat), (HIDDEN, 1, b"\0")], [(HIDDEN, 255, first), (AGAIN, 7, 1), (HIDDEN, 128, flat), (AGAIN, 7, 0), (AGAIN, 6, 0)],
+        [(SHOWN, 1, flat), (HIDDEN, 2, broken), (AGAIN, 1, 0)], [(SHOWN, 1, flat), (AGAIN, 1, 0), (SHOWN, 0, broken)], [(HIDDEN, 1, flat), (SHOWN, 0, right)],
+        [(SHOWN, 1, first), (AGAIN, 0, 2), (SHOWN, 0, SAME_PLACE, (1,) * 7)]]
+    files = [kept, *map(shown_sequence, cases), shown_sequence([(HIDDEN, 255, odd), (SHOWN, 0, odd), (AGAIN, 7, 0)], 9, 9, sampling=0)]
+    files += [shown_sequence([(AGAIN, 1, 0)])[:cut] for cut in (12, 13, 14)]
+    files += [shown_sequence([(SHOWN, 0, flat)], *sides) for sides in ((1, 1), (7, 8), (9, 8), (0, 8), (8, 0), (8, 2049), (2049, 8))]
+    files += [shown_sequence([(kind, 1, slant), (SHOWN, 0, right), (AGAIN, 0, 0)], 9, 13, depth, sampling)
+              for kind in (HIDDEN, SHOWN) for depth in (8, 10, 12) for sampling in range(3)]
+    files += [sequence([], 9), changed(kept, (3, 0x31)), changed(kept, (3, 0x33)), changed(TWO_FRAMES, (3, 0x32)), kept + b"\0"]
+    files += [shown_sequence([(SHOWN, 1, first), (AGAIN, 0, 0)], count=count) for count in (1, 3)]
+    for file in files:
+        add("sequence, shown", file, ("sequence",), out=(2**16, 100, NEVER))
+        add("sequence, shown", file, ("sequence",), out=(2**16, 100, 30))
+    for place in range(12, 17):
+        for value in (1, 2, 3, 8, 255):
+            add("sequence, shown, field", changed(kept, (place, value)), ("sequence",), out=(2**16, 100, NEVER))
+    for count in range(0, len(kept), 3):
+        add("sequence, shown, cut", kept[:count], ("sequence",))
+    for call in (0, 1, 7, 8, 23, 24, 25, 47, 48, 49):
+        add("sequence, shown, write", kept, ("sequence",), out=(4096, 8, call))
+    for room in (0, 8, 191, 192, 200, 383, 384):
+        add("sequence, shown, room", kept, ("sequence",), out=(room, 100, NEVER))
 
 
 def worked_plans(add):
@@ -80,7 +132,7 @@ def worked_plans(add):
     quarters = header(64, 64, magic=b"RPL2") + b"\x08" + leaf(tx_size=18, y=[(0, 0, 5)]) + 3 * leaf(tx_size=18)
     cases = [
         PLAN, PLAIN, HALVED, HALVED[:-1], worse, QUARTERS, quarters, MOVED, of_two(9), of_two(16384), DIRECTIONAL, FROM_LUMA_420, ONE_HALF,
-        ONE_HALF + b"\0", header(mask=1) + planes(10, 128, 128) + AGAIN, b"", changed(PLAN, (19, 1)), changed(PLAN, (34, 16))]
+        ONE_HALF + b"\0", header(mask=1) + planes(10, 128, 128) + SAME_PLACE, b"", changed(PLAN, (19, 1)), changed(PLAN, (34, 16))]
     for it in cases:
         add("bare", it, ("bare",), out=(500, 7, NEVER))
     for count in range(len(PLAN)):
@@ -132,11 +184,30 @@ def random_files(runs, count):
                     runs.add(name, file, (word,), kind=TOOLS, piece=4096, out=(2**20, 4096, NEVER))
 
 
+def random_sides(runs, count):
+    """Random traces of the third version, and plans without their coefficients."""
+    for seed in range(count):
+        for word, kind in (("trace", "randomtrace"), ("bare", "random")):
+            file = runs.oracle.made(kind, str(seed), "magic=3", f"maxside={[16, 24, 40][seed % 3]}", f"mask={seed % 2}", f"filter={seed % 2}", "depth=10")
+            if len(file) < 8_000:
+                runs.add(kind + " of any sides", file, (word,), kind=TOOLS, piece=4096, out=(2**20, 4096, NEVER))
+
+
+def random_entries(runs, count):
+    """Random sequences whose frames are shown or not."""
+    for seed in range(count):
+        file = runs.oracle.made("randomsequence", str(seed), f"maxside={[16, 24, 40][seed % 3]}", "maxcoef=100000")
+        if len(file) < 8_000:
+            runs.add("randomsequence, shown", with_entries(file, seed), ("sequence",), kind=TOOLS, piece=4096, out=(2**20, 4096, NEVER))
+
+
 def record(runs):
     def add(*call, **more):
         runs.add(*call, kind=TOOLS, **more)
 
-    for rows in (worked_tiles, worked_traces, worked_sequences, worked_plans, faults):
+    for rows in (worked_tiles, worked_traces, worked_sequences, worked_plans, faults, any_sides, shown_sequences):
         rows(add)
     add("too long", words=("tiles",), piece=2**26 + 1, zeros=2**26 + 1)
     random_files(runs, 64)
+    random_sides(runs, 24)
+    random_entries(runs, 64)

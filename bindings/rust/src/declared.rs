@@ -42,6 +42,7 @@ holds!(sys::INVALID == 5);
 holds!(sys::TOO_LONG_PART == 30);
 holds!(sys::MALFORMED_PART == 31);
 holds!(sys::INVALID_PART == 32);
+holds!(sys::EMPTY_SLOT == 33);
 holds!(sys::NOT_NOW == 40);
 holds!(sys::NOT_ADMITTED == 41);
 holds!(sys::BAD_STATE == 42);
@@ -51,7 +52,7 @@ holds!(sys::INVALID_MODE == 3);
 holds!(sys::INVALID_VECTOR == 4);
 holds!(sys::MISSING_REFERENCE == 5);
 holds!(sys::INVALID_COEFFICIENT == 6);
-holds!(crate::VERSION == 513);
+holds!(crate::VERSION == 768);
 
 holds!(size_of::<sys::TransformScratch>() == 24576);
 

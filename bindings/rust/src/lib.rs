@@ -123,6 +123,11 @@ pub enum Error {
         /// Why.
         kind: InvalidKind,
     },
+    /// A part of a sequence shows the frame of a slot again, and the slot is empty.
+    EmptySlot {
+        /// The first part that is refused, counted from 0.
+        part: u32,
+    },
     /// No size has this number, or no block has such a side.
     BadSize,
     /// No type has this number, or the size has no such type.
@@ -193,6 +198,7 @@ impl fmt::Display for Error {
             Error::InvalidPart { part, leaf, kind } => {
                 write!(f, "part {part}: invalid leaf {leaf}: {kind}")
             }
+            Error::EmptySlot { part } => write!(f, "part {part}: empty slot"),
             Error::BadSize => f.write_str("bad size"),
             Error::BadType => f.write_str("bad type"),
             Error::BadDepth => f.write_str("bad depth"),

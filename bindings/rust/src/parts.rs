@@ -17,6 +17,7 @@ fn answer(status: u32, refusal: &sys::PartRefusal) -> Result<(), Error> {
             leaf: refusal.leaf,
             kind: kind_of(refusal.kind),
         }),
+        sys::EMPTY_SLOT => Err(Error::EmptySlot { part }),
         _ => told(status),
     }
 }
@@ -62,9 +63,9 @@ plane_calls!(
 plane_calls!(
     av1_reconstruct_sequence,
     reconstruct_sequence,
-    /// Reconstructs the frames of a sequence, each predicted from those before it. The visible planes of all, one frame behind the other,
+    /// Reconstructs the frames of a sequence, each predicted from those before it. The visible planes of all that are shown, one frame behind the other,
     ,
-    /// `TooLong`, then `Malformed`, then `TooLongPart`, `MalformedPart` or `InvalidPart`, whose part is a frame, then `RoomTooSmall`.
+    /// `TooLong`, then `Malformed`, then `TooLongPart`, `MalformedPart`, `InvalidPart` or `EmptySlot`, whose part is an entry, then `RoomTooSmall`.
 );
 
 /// The first visible sample of a leaf in a plane that is not the one that the plan comes to.

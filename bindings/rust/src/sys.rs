@@ -28,6 +28,7 @@ pub const BAD_PAD: u32 = 17;
 pub const TOO_LONG_PART: u32 = 30;
 pub const MALFORMED_PART: u32 = 31;
 pub const INVALID_PART: u32 = 32;
+pub const EMPTY_SLOT: u32 = 33;
 pub const NOT_NOW: u32 = 40;
 pub const NOT_ADMITTED: u32 = 41;
 pub const BAD_STATE: u32 = 42;

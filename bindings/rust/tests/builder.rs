@@ -213,3 +213,49 @@ fn planes_and_a_moved_leaf_are_spelled() {
         Ok(&[front(2, 1), planes, vec![0], leaf.to_vec()].concat()[..])
     );
 }
+
+#[test]
+fn a_frame_of_any_sides_shows_them() {
+    // 9 columns of 8 rows, in luma 0, 10 .. 80 each.
+    let ramp: Vec<u16> = (0..72).map(|place| 10 * (place % 9)).collect();
+    let flat = [128; 72];
+    let odd = Header {
+        width: 9,
+        version: 3,
+        ..header(1)
+    };
+    let moved = Leaf {
+        mode: 19,
+        first: Motion {
+            row: 0,
+            col: 32,
+            reference: 1,
+        },
+        tx_size: 4,
+        ..middle()
+    };
+    let mut room = [9; 300];
+    let earlier = Header { version: 2, ..odd };
+    assert_eq!(
+        PlanBuilder::new(&earlier, &mut room).err(),
+        Some(BuildError::NotAdmitted)
+    );
+    let mut builder = PlanBuilder::new(&odd, &mut room).expect("the header is admitted");
+    assert_eq!(
+        builder.reference(&ramp[1..], &flat, &flat),
+        Err(BuildError::NotAdmitted)
+    );
+    assert_eq!(builder.reference(&ramp, &flat, &flat), Ok(()));
+    assert_eq!(builder.mark(0), Ok(()));
+    assert_eq!(builder.leaf(&moved, &[], &[], &[]), Ok(()));
+    let plan = builder.finish().expect("all fields are given");
+    assert!(plan.starts_with(b"RPL3\x09\0\x08\0"));
+    let mut planes = [0; 216];
+    assert_eq!(reconstruct_plan(plan, &mut planes), Ok(216));
+    assert!(
+        planes[..72]
+            .chunks(9)
+            .all(|row| row == [40, 50, 60, 70, 80, 80, 80, 80, 80])
+    );
+    assert!(planes[72..].iter().all(|sample| *sample == 128));
+}

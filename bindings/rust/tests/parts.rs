@@ -76,6 +76,25 @@ fn refused_bytes_leave_the_room_alone() {
     assert!(room.iter().all(|byte| *byte == 9));
 }
 
+// The plan as a frame that isn't shown, which slot 0 holds then, and a slot that is shown again.
+fn hidden(plan: &[u8], slot: u8) -> Vec<u8> {
+    let head = [0, 0, 0, 0, 0, 0, 0, 0, 0, 0, 1];
+    let entries = [&head[..], &part(plan), &[2, slot, 0]].concat();
+    [b"RSQ2", &plan[4..10], &[2, 0], &entries].concat()
+}
+
+#[test]
+fn a_frame_is_shown_again() {
+    let (plan, planes) = worked_plan();
+    let mut room = vec![9; 2 * planes.len()];
+    let written = reconstruct_sequence(&hidden(&plan, 0), &mut room);
+    assert_eq!(written, Ok(planes.len()));
+    assert_eq!(room[..planes.len()], planes);
+    let fault = Error::EmptySlot { part: 1 };
+    assert_eq!(reconstruct_sequence(&hidden(&plan, 1), &mut room), Err(fault));
+    assert_eq!(fault.to_string(), "part 1: empty slot");
+}
+
 #[test]
 fn a_trace_tells_where_its_planes_differ() {
     let (plan, mut planes) = worked_plan();

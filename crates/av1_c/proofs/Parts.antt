@@ -7,7 +7,7 @@ use Rattle.av1_c.specs.PartFaults.{part_status, part_told}
 use Rattle.av1_c.specs.Parts.{IsPartCause, PartsOutcome, PutsPlanes, status_of_parts}
 use Rattle.av1_c.specs.Plans.{AreWritten}
 use Rattle.av1_c.specs.declared.part_fault.PartFault.{PartFault}
-use Rattle.av1_c.specs.declared.part_fault.PartFault.TheVariants.{InvalidPart, Malformed, MalformedPart, Memory, RoomTooSmall, TooLong, TooLongPart}
+use Rattle.av1_c.specs.declared.part_fault.PartFault.TheVariants.{EmptySlot, InvalidPart, Malformed, MalformedPart, Memory, RoomTooSmall, TooLong, TooLongPart}
 use Rattle.av1_c.specs.declared.part_fault.PartRefusal.{PartRefusal}
 use Rattle.av1_c.specs.declared.status.TheConstants.{OUT_OF_MEMORY}
 use Rattle.av1_c.proofs.Statuses.{by_length}
@@ -97,3 +97,4 @@ module _ (ComesTo : PartsOutcome → Type 0) (one : ComesToOne ComesTo) (room : 
       refuses_for refusal' (MalformedPart part at) status comes is told (λ e. cc) (λ e. cc) (λ e. cc)
   refuses refusal' (InvalidPart part leaf kind) status comes is told =
       refuses_for refusal' (InvalidPart part leaf kind) status comes is told (λ e. cc) (λ e. cc) (λ e. cc)
+  refuses refusal' (EmptySlot part) status comes is told = refuses_for refusal' (EmptySlot part) status comes is told (λ e. cc) (λ e. cc) (λ e. cc)

@@ -15,7 +15,7 @@ use Rattle.av1_c.specs.PartFaults.{part_status, part_told, trace_fault}
 use Rattle.av1_c.specs.TraceCalls.{IsTraceCause, ListsDifferences, TraceComesTo, TraceOutcome, difference_numbers, listed, status_of_trace}
 use Rattle.av1_c.specs.declared.differences.TraceDifference.{TraceDifference}
 use Rattle.av1_c.specs.declared.part_fault.PartFault.{PartFault}
-use Rattle.av1_c.specs.declared.part_fault.PartFault.TheVariants.{InvalidPart, Malformed, MalformedPart, Memory, RoomTooSmall, TooLong, TooLongPart}
+use Rattle.av1_c.specs.declared.part_fault.PartFault.TheVariants.{EmptySlot, InvalidPart, Malformed, MalformedPart, Memory, RoomTooSmall, TooLong, TooLongPart}
 use Rattle.av1_c.specs.declared.part_fault.PartRefusal.{PartRefusal}
 use Rattle.av1_c.specs.declared.status.TheConstants.{OUT_OF_MEMORY}
 
@@ -115,3 +115,4 @@ module _ (bytes : List ℕ) (room : List TraceDifference) (found : ℕ) (refusal
       lists_none refusal' (MalformedPart part at) status comes is told (λ e. cc) (λ e. cc)
   refuses_trace refusal' (InvalidPart part leaf kind) status comes is told =
       lists_none refusal' (InvalidPart part leaf kind) status comes is told (λ e. cc) (λ e. cc)
+  refuses_trace refusal' (EmptySlot part) status cause is told = absurd cause

@@ -14,21 +14,22 @@ use Rattle.av1_calls.specs.declared.status.TheConstants.{ROOM_TOO_SMALL}
 use Rattle.av1_c.specs.Faults.{kind_number}
 use Rattle.av1_c.specs.declared.part_fault.PartFault.{PartFault}
 use Rattle.av1_c.specs.declared.part_fault.PartFault.TheVariants.{Memory, RoomTooSmall, TooLong, Malformed, TooLongPart}
-use Rattle.av1_c.specs.declared.part_fault.PartFault.TheVariants.{MalformedPart, InvalidPart}
+use Rattle.av1_c.specs.declared.part_fault.PartFault.TheVariants.{MalformedPart, InvalidPart, EmptySlot}
 use Rattle.av1_c.specs.declared.part_fault.PartRefusal.{PartRefusal}
 use Rattle.av1_c.specs.declared.status.TheConstants.{OUT_OF_MEMORY, TOO_LONG, MALFORMED}
-use Rattle.av1_c.specs.declared.status.TheConstants.{TOO_LONG_PART, MALFORMED_PART, INVALID_PART}
+use Rattle.av1_c.specs.declared.status.TheConstants.{TOO_LONG_PART, MALFORMED_PART, INVALID_PART, EMPTY_SLOT}
 
 -- a part is refused that is a plan, or the leaves of one
 abbrev pub in_part : ℕ → PlanRefusal → PartFault
 in_part part (refusals.Malformed at) = MalformedPart part at
 in_part part (refusals.Invalid leaf kind) = InvalidPart part leaf kind
 
--- a part is refused that is a frame of a sequence
+-- a part is refused that is an entry of a sequence
 abbrev pub frame_fault : ℕ → FrameFault → PartFault
 frame_fault part frames.TooLarge = TooLongPart part
 frame_fault part (frames.Malformed at) = MalformedPart part at
 frame_fault part (frames.Invalid leaf kind) = InvalidPart part leaf kind
+frame_fault part frames.EmptySlot = EmptySlot part
 
 -- an error of a grid of tiles
 abbrev pub tiles_fault : TilesError → PartFault
@@ -66,6 +67,7 @@ part_status (Malformed at) = MALFORMED
 part_status (TooLongPart part) = TOO_LONG_PART
 part_status (MalformedPart part at) = MALFORMED_PART
 part_status (InvalidPart part leaf kind) = INVALID_PART
+part_status (EmptySlot part) = EMPTY_SLOT
 
 -- this field is at fault, of a part or of all
 abbrev pub field_of : (part at : ℕ) → PartRefusal
@@ -80,3 +82,4 @@ part_told (Malformed at) before = field_of 0 at
 part_told (TooLongPart part) before = field_of part 0
 part_told (MalformedPart part at) before = field_of part at
 part_told (InvalidPart part leaf kind) before = record { part = part; at = 0; leaf = leaf; kind = kind_number kind }
+part_told (EmptySlot part) before = field_of part 0

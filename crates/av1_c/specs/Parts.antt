@@ -5,7 +5,7 @@ use Rattle.av1_c.specs.PartFaults.{part_status, part_told}
 use Rattle.av1_c.specs.Plans.{AreWritten}
 use Rattle.av1_c.specs.declared.part_fault.PartFault.{PartFault}
 use Rattle.av1_c.specs.declared.part_fault.PartFault.TheVariants.{Memory, RoomTooSmall, TooLong, Malformed, TooLongPart}
-use Rattle.av1_c.specs.declared.part_fault.PartFault.TheVariants.{MalformedPart, InvalidPart}
+use Rattle.av1_c.specs.declared.part_fault.PartFault.TheVariants.{MalformedPart, InvalidPart, EmptySlot}
 use Rattle.av1_c.specs.declared.part_fault.PartRefusal.{PartRefusal}
 use Rattle.av1_c.specs.declared.status.TheConstants.{OUT_OF_MEMORY}
 
@@ -49,3 +49,4 @@ IsPartCause ComesTo room (Malformed at) = ComesTo (Err (Malformed at))
 IsPartCause ComesTo room (TooLongPart part) = ComesTo (Err (TooLongPart part))
 IsPartCause ComesTo room (MalformedPart part at) = ComesTo (Err (MalformedPart part at))
 IsPartCause ComesTo room (InvalidPart part leaf kind) = ComesTo (Err (InvalidPart part leaf kind))
+IsPartCause ComesTo room (EmptySlot part) = ComesTo (Err (EmptySlot part))

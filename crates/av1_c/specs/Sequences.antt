@@ -5,7 +5,7 @@ use Rattle.av1_sequence.specs.declared.error.SequenceError.{SequenceError}
 use Rattle.av1_c.specs.PartFaults.{sequence_fault}
 use Rattle.av1_c.specs.Parts.{PartsOutcome}
 
--- the planes of all of its frames, or why they are refused
+-- the planes of the frames that it shows, or why they are refused
 abbrev pub SequenceComesTo : List ℕ → PartsOutcome → Type 0
 SequenceComesTo bytes (Ok planes) = (done : Unit {0}) × HasOutcome bytes planes (Ok done)
 SequenceComesTo bytes (Err fault) =

@@ -8,7 +8,7 @@ use Rattle.av1_c.specs.PartFaults.{part_status, part_told, trace_fault}
 use Rattle.av1_c.specs.declared.differences.TraceDifference.{TraceDifference}
 use Rattle.av1_c.specs.declared.part_fault.PartFault.{PartFault}
 use Rattle.av1_c.specs.declared.part_fault.PartFault.TheVariants.{Memory, RoomTooSmall, TooLong, Malformed, TooLongPart}
-use Rattle.av1_c.specs.declared.part_fault.PartFault.TheVariants.{MalformedPart, InvalidPart}
+use Rattle.av1_c.specs.declared.part_fault.PartFault.TheVariants.{MalformedPart, InvalidPart, EmptySlot}
 use Rattle.av1_c.specs.declared.part_fault.PartRefusal.{PartRefusal}
 use Rattle.av1_c.specs.declared.status.TheConstants.{OUT_OF_MEMORY}
 
@@ -73,3 +73,4 @@ IsTraceCause bytes (Malformed at) = TraceComesTo bytes (Err (Malformed at))
 IsTraceCause bytes (TooLongPart part) = ⊥
 IsTraceCause bytes (MalformedPart part at) = TraceComesTo bytes (Err (MalformedPart part at))
 IsTraceCause bytes (InvalidPart part leaf kind) = TraceComesTo bytes (Err (InvalidPart part leaf kind))
+IsTraceCause bytes (EmptySlot part) = ⊥

@@ -75,9 +75,9 @@ pub use reconstruct::av1_reconstruct_plan;
 pub use row_calls::{av1_load_rows_8, av1_load_rows_16, av1_store_rows_8, av1_store_rows_16};
 pub use sequence::av1_reconstruct_sequence;
 pub use status::{
-    BAD_STATE, INVALID, INVALID_BLOCK_SIZE, INVALID_COEFFICIENT, INVALID_MODE, INVALID_PART,
-    INVALID_TRANSFORM, INVALID_VECTOR, MALFORMED, MALFORMED_PART, MISSING_REFERENCE, NOT_ADMITTED,
-    NOT_NOW, OUT_OF_MEMORY, TOO_LONG, TOO_LONG_PART,
+    BAD_STATE, EMPTY_SLOT, INVALID, INVALID_BLOCK_SIZE, INVALID_COEFFICIENT, INVALID_MODE,
+    INVALID_PART, INVALID_TRANSFORM, INVALID_VECTOR, MALFORMED, MALFORMED_PART, MISSING_REFERENCE,
+    NOT_ADMITTED, NOT_NOW, OUT_OF_MEMORY, TOO_LONG, TOO_LONG_PART,
 };
 pub use tiles::av1_reconstruct_tiles;
 pub use transform_calls::{

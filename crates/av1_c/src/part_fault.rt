@@ -4,7 +4,7 @@ ghost use Rattle.av1_c.specs.PartFaults.{field_of, frame_fault, in_part, part_st
 
 use crate::fault::kind_number;
 use crate::status::{
-    INVALID_PART, MALFORMED, MALFORMED_PART, OUT_OF_MEMORY, TOO_LONG, TOO_LONG_PART,
+    EMPTY_SLOT, INVALID_PART, MALFORMED, MALFORMED_PART, OUT_OF_MEMORY, TOO_LONG, TOO_LONG_PART,
 };
 use av1_calls::ROOM_TOO_SMALL;
 use av1_plan::InvalidKind;
@@ -42,6 +42,10 @@ pub enum PartFault {
         leaf: u32,
         kind: InvalidKind,
     },
+    /// A part of a sequence shows the frame of a slot again, and the slot is empty.
+    EmptySlot {
+        part: u32,
+    },
 }
 
 /// What bytes that hold plans as parts are refused for. What is not told is 0.
@@ -69,7 +73,7 @@ fn in_part(part: u32, refusal: PlanRefusal) -> PartFault
     }
 }
 
-// Why a part is refused that is a frame of a sequence.
+// Why a part is refused that is an entry of a sequence.
 fn frame_fault(part: u32, fault: FrameFault) -> PartFault
     ensures { result ≡ frame_fault part fault }
 {
@@ -77,6 +81,7 @@ fn frame_fault(part: u32, fault: FrameFault) -> PartFault
         FrameFault::TooLarge => PartFault::TooLongPart { part },
         FrameFault::Malformed { at } => PartFault::MalformedPart { part, at },
         FrameFault::Invalid { leaf, kind } => PartFault::InvalidPart { part, leaf, kind },
+        FrameFault::EmptySlot => PartFault::EmptySlot { part },
     }
 }
 
@@ -168,6 +173,10 @@ impl PartFault {
                     kind: kind_number(kind),
                 };
                 INVALID_PART
+            }
+            PartFault::EmptySlot { part } => {
+                *refusal = field_of(part, 0);
+                EMPTY_SLOT
             }
         }
     }

@@ -12,12 +12,12 @@ use av1_sequence::reconstruct_sequence;
 use av1_streams::SliceSource;
 use std::alloc::Global;
 
-/// The planes of all frames of the sequence that these bytes are.
+/// The planes of all frames that the sequence shows that these bytes are.
 ///
 /// # Errors
 ///
-/// `TooLong`, then `Malformed`, then `TooLongPart`, `MalformedPart` or `InvalidPart`. `Memory` may stand in place of
-/// any of them.
+/// `TooLong`, then `Malformed`, then `TooLongPart`, `MalformedPart`, `InvalidPart` or `EmptySlot`. `Memory` may stand
+/// in place of any of them.
 fn sequence_planes(alloc: Global, bytes: &[u8]) -> Result<Vec<u8>, PartFault>
     ensures found { IfOk result (λ planes. SequenceComesTo bytes.now (Ok planes.items)) }
     ensures refused { IfErr result (λ fault. (room : ℕ) → IsPartCause (SequenceComesTo bytes.now) room fault) }
@@ -28,8 +28,8 @@ fn sequence_planes(alloc: Global, bytes: &[u8]) -> Result<Vec<u8>, PartFault>
     Ok(sink.into_bytes())
 }
 
-/// Writes the planes of all frames of the sequence that these bytes are to the front of the buffer, and says how many
-/// bytes they have.
+/// Writes the planes of all frames that the sequence shows that these bytes are to the front of the buffer, and says
+/// how many bytes they have.
 ///
 /// # Errors
 ///
@@ -44,11 +44,12 @@ fn sequence_into(alloc: Global, bytes: &[u8], room: &mut [u8]) -> Result<usize, 
 }
 
 /// Reconstructs the frames of the sequence that these bytes are, one after the other, and writes the visible planes of
-/// each to the front of `room`, one frame behind the other.
+/// each that is shown to the front of `room`, one frame behind the other.
 ///
-/// As [`av1_reconstruct_tiles`], but that a part is a frame, and `TOO_LONG_PART` says that the plan of frame
-/// `refusal.part` with its references would have more than 2^26 bytes. Where a frame is refused, nothing is written of
-/// those before it, either.
+/// As [`av1_reconstruct_tiles`], but that a part is an entry: a frame, of which `TOO_LONG_PART` says that the plan with
+/// its references would have more than 2^26 bytes, or the frame of a slot shown again, of which `EMPTY_SLOT` says that
+/// the slot is empty. `refusal.part` is its number. Where an entry is refused, nothing is written of those before it,
+/// either.
 #[unsafe(no_mangle)]
 pub extern "C" fn av1_reconstruct_sequence(
     alloc: Global,

@@ -22,6 +22,9 @@ pub const MALFORMED_PART: u32 = 31;
 /// A leaf of a part is refused.
 pub const INVALID_PART: u32 = 32;
 
+/// A part shows the frame of a slot again that is empty.
+pub const EMPTY_SLOT: u32 = 33;
+
 /// A plan in the making asks for another kind of field next.
 pub const NOT_NOW: u32 = 40;
 

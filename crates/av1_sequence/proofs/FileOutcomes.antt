@@ -20,7 +20,7 @@ data Shape : Type 0 where
 abbrev IsShape : List ℕ → (written : List ℕ) → Shape → Type 0
 IsShape bytes written long = (max_plan_bytes < length bytes) × (written ≡ [])
 IsShape bytes written (broken at) = (length bytes ≤ max_plan_bytes) × (read_file bytes ≡ Err at) × (written ≡ [])
-IsShape bytes written (file f end) = AreFile bytes f × Runs (beginning f) f.parts written end
+IsShape bytes written (file f end) = AreFile bytes f × Runs (beginning f) f.entries written end
 
 abbrev pub answer_of : End → Answer
 answer_of accepted_all = Ok tt
@@ -32,7 +32,7 @@ judged (broken at) = Err (errors.Malformed at)
 judged (file f end) = answer_of end
 
 -- the frames of a sequence come to this end
-pub of_run : (bytes written : List ℕ) (f : FileValue) → AreFile bytes f → (end : End) → Runs (beginning f) f.parts written end →
+pub of_run : (bytes written : List ℕ) (f : FileValue) → AreFile bytes f → (end : End) → Runs (beginning f) f.entries written end →
     HasOutcome bytes written (answer_of end)
 of_run bytes written f is accepted_all run = (f, is, run)
 of_run bytes written f is (refused_at i fault) run = (f, is, run)
@@ -58,8 +58,8 @@ one_shape bytes written others (file f e) long p q = not_both_ways (length bytes
 one_shape bytes written others (file f e) (broken d) (is, run) (short, q, none) = absurd (clash f d (sym is.read ∙ q))
 one_shape bytes written others (file f e) (file g d) (is, run) (also, other) =
     let same : g ≡ f = ok_is g f (sym also.read ∙ is.read) in
-    let there : Runs (beginning f) f.parts others d = subst (λ (v : FileValue). Runs (beginning v) v.parts others d) same other in
-    let (ends, writes) = one_run (beginning f) f.parts written others e d run there in
+    let there : Runs (beginning f) f.entries others d = subst (λ (v : FileValue). Runs (beginning v) v.entries others d) same other in
+    let (ends, writes) = one_run (beginning f) f.entries written others e d run there in
     (ap answer_of ends, writes)
 
 -- bytes have one outcome, of which one list of bytes is written
@@ -75,7 +75,7 @@ of_reading : (bytes : List ℕ) → AreBytes bytes → length bytes ≤ max_plan
 of_reading bytes fits short (Err at) e = ([], (Err (errors.Malformed at), (short, e, refl)))
 of_reading bytes fits short (Ok f) e =
     let is : AreFile bytes f = record { fits = fits; short = short; read = e } in
-    let (written, (end, run)) = some_run (beginning f) f.parts (parts_fit bytes f is) in
+    let (written, (end, run)) = some_run (beginning f) f.entries (parts_fit bytes f is) in
     (written, (answer_of end, of_run bytes written f is end run))
 
 -- bytes have some outcome

@@ -1,5 +1,6 @@
 -- What a call does with a frame, seen from what the sequence keeps in memory.
-use Rattle.std.proofs.Common.{ℕ, ◌+◌, ◌*◌, ◌/◌, ◌<◌, ◌≤◌, ◌≡◌, ◌∙◌, ◌^◌, false, Bool, List, [], length, Option, Some, None, Result, Ok, Err, refl, ap, sym}
+use Rattle.std.proofs.Common.{ℕ, ◌+◌, ◌*◌, ◌/◌, ◌<◌, ◌≤◌, ◌≡◌, ◌∙◌, ◌^◌, true, false, Bool, List, [], length, Option, Some, None, Result, Ok, Err, refl, ap}
+use Rattle.std.proofs.Common.{sym}
 use Rattle.std.proofs.Common.{subst, slice_index_or, if◌then◌else◌, IfSome}
 use Rattle.std.specs.Prelude.{OnOk}
 use Rattle.std.specs.Option.{option_map}
@@ -28,9 +29,9 @@ use Rattle.av1_sequence.specs.declared.last.Last.{Last}
 use Rattle.av1_sequence.specs.declared.last.Last.TheVariants as lasts
 use Rattle.av1_sequence.specs.declared.sequence.SequenceOf.TheInside.{Inside}
 use Rattle.av1_sequence.specs.Frames.{IsFramePlan, IsHead, frame_header, frame_of, frame_references, most_bytes, plan_bytes}
-use Rattle.av1_sequence.specs.Kept.{AreReady, IsKeptAt, Kept, plane_shown, planes_shown, shown_at, shown_in, slots_shown}
+use Rattle.av1_sequence.specs.Kept.{AreReady, IsKeptAt, KeepsFrames, Kept, plane_shown, planes_shown, shown_at, shown_in, slots_shown}
 use Rattle.av1_sequence.specs.Last.{last_shown}
-use Rattle.av1_sequence.specs.Outcomes.{Accepts, Refuses, RefusesPart, accepted, plan_over}
+use Rattle.av1_sequence.specs.Outcomes.{Accepts, Refuses, RefusesPart, accepted, plan_over, shown_again}
 use Rattle.av1_sequence.specs.Output.{IsWritable}
 use Rattle.av1_sequence.specs.Slots.{Frame, Slots, count_of, has_bit, is_read, refreshed, row_in, slot_of}
 use Rattle.av1_sequence.proofs.Answered.{accepts, part_text, refused_part}
@@ -55,6 +56,11 @@ none_replaced f refresh frame none =
 
 abbrev kept_of : Header → Slots → Option Frame → Kept
 kept_of h slots last = record { frames = h; slots = slots; last = last }
+
+kept_same : (h1 : Header) (s1 : Slots) (l1 : Option Frame) (h2 : Header) (s2 : Slots) (l2 : Option Frame) → h1 ≡ h2 → s1 ≡ s2 → l1 ≡ l2 →
+    kept_of h1 s1 l1 ≡ kept_of h2 s2 l2
+kept_same h1 s1 l1 h2 s2 l2 a b c = ap (λ (x : Header). kept_of x s1 l1) a ∙ ap (λ (x : Slots). kept_of h2 x l1) b
+    ∙ ap (λ (x : Option Frame). kept_of h2 s2 x) c
 
 abbrev seen : {T : Type 0} → (T → ℕ) → Header → FrameInvariants T → List (Option ℕ) → Option Frame → Kept
 seen num h fi places last = record { frames = h; slots = slots_shown num h fi places; last = last }
@@ -172,12 +178,7 @@ module _ {T C : Type 0} {g : _} {ord : _} {eq : _} {partial : _} {coeff : _} (k 
     result_is : (h' : Header) (slots' : Slots) (last' : Option Frame) (plan : PlanValue) → h' ≡ k.frames →
         slots' ≡ refreshed k.slots head.refresh (frame_of plan) → last' ≡ Some (frame_of plan)
         → record { frames = h'; slots = slots'; last = last' } ≡ accepted k head plan
-    result_is h' slots' last' plan a b c = go h' slots' last' k.frames (refreshed k.slots head.refresh (frame_of plan)) (Some (frame_of plan)) a b c
-      where
-        go : (h1 : Header) (s1 : Slots) (l1 : Option Frame) (h2 : Header) (s2 : Slots) (l2 : Option Frame) → h1 ≡ h2 → s1 ≡ s2 → l1 ≡ l2 →
-            kept_of h1 s1 l1 ≡ kept_of h2 s2 l2
-        go h1 s1 l1 h2 s2 l2 a b c = ap (λ (x : Header). kept_of x s1 l1) a ∙ ap (λ (x : Slots). kept_of h2 x l1) b
-            ∙ ap (λ (x : Option Frame). kept_of h2 s2 x) c
+    result_is h' slots' last' plan a b c = kept_same h' slots' last' k.frames (refreshed k.slots head.refresh (frame_of plan)) (Some (frame_of plan)) a b c
 
     -- a frame that replaces no slot
     pub apart_accepted : (ls : List LeafValue) (h' : Header) (set : FrameInvariants T) (places' : List (Option ℕ)) (q : Planes T) → head.refresh ≡ 0 → h' ≡ h →
@@ -243,6 +244,25 @@ module _ {T C : Type 0} {g : _} {ord : _} {eq : _} {partial : _} {coeff : _} (k 
       (ap Some (row_is (planes_shown g.num h t.y t.u t.v) shows)
       ∙ sym (ap (option_map (row_of h p y)) (slot_shown g.num h fi places slot lt ∙ ap (shown_in g.num h fi) at ∙ shows)))
 
+  -- ---- a frame that is shown again
+
+  -- the frame of a slot that has a place stands in the slots that are said, and is the last one
+  pub slot_again : (slot place refresh : ℕ) → slot < 8 → slice_index_or places slot None ≡ Some place → (h' : Header) (fi' : FrameInvariants T)
+      (places' : List (Option ℕ)) → h' ≡ h → fi' ≡ fi
+      → ((frame : Frame) → shown_at g.num h fi place ≡ Some frame → slots_shown g.num h' fi' places' ≡ refreshed (slots_shown g.num h fi places) refresh frame)
+      → (frame : Frame) × (slot_of k.slots slot ≡ Some frame) × (seen g.num h' fi' places' (shown_at g.num h' fi' place) ≡ shown_again k refresh frame)
+  slot_again slot place refresh lt at h' fi' places' h_is fi_is slots_are =
+      let (t, t_is) = filled_planes (slice_index_or fi.slots place None) (s.pictures.keeps.kept slot place lt at).filled in
+      let frame = planes_shown g.num h t.y t.u t.v in
+      let here : shown_at g.num h fi place ≡ Some frame = ap (option_map (λ (t : Slot T). planes_shown g.num h t.y t.u t.v)) t_is in
+      let last' : shown_at g.num h' fi' place ≡ Some frame =
+      ap (λ (x : Header). shown_at g.num x fi' place) h_is ∙ ap (λ (f : FrameInvariants T). shown_at g.num h f place) fi_is ∙ here in (
+        frame,
+        sym (ap (λ (v : Kept). slot_of v.slots slot) view) ∙ slot_shown g.num h fi places slot lt ∙ ap (shown_in g.num h fi) at ∙ here,
+        kept_same h' (slots_shown g.num h' fi' places') (shown_at g.num h' fi' place) k.frames (refreshed k.slots refresh frame) (Some frame)
+            (h_is ∙ header_seen) (slots_are frame here ∙ ap (λ (ss : Slots). refreshed ss refresh frame) slots_seen) last',
+      )
+
 -- the last frame, where it stands apart
 pub last_apart : {T : Type 0} (num : T → ℕ) (h : Header) (fi : FrameInvariants T) (apart : Option (Planes T)) (l : Last) (planes : Planes T) →
     l ≡ lasts.Apart → apart ≡ Some planes →
@@ -272,6 +292,18 @@ pub ready_again : {T : Type 0} (num : T → ℕ) (h h' : Header) (o : Option (Pl
 ready_again num h h' None e ready planes is = absurd cc
 ready_again num h h' (Some q) e ready planes is = ready_held num h h' q e ready planes is
 
+-- planes that stood ready before
+pub ready_still_held : {T : Type 0} (num : T → ℕ) (h h' : Header) (o : Option (Planes T)) → h' ≡ h →
+    ((planes : Planes T) → o ≡ Some planes → AreReady num h planes) → (planes : Planes T) → o ≡ Some planes → AreReady num h' planes
+ready_still_held num h h' o e ready planes is = subst (λ (x : Header). AreReady num x planes) (sym e) (ready planes is)
+
+-- a frame that is kept as before
+pub stands_still : {T : Type 0} (num : T → ℕ) (h h' : Header) (settings settings' : FrameInvariants T) (place : ℕ) → h' ≡ h → settings' ≡ settings →
+    IsKeptAt num h settings place →
+    IsKeptAt num h' settings' place
+stands_still {T} num h h' settings settings' place e same stands =
+    subst (λ (x : Header). IsKeptAt num x settings' place) (sym e) (subst (λ (f : FrameInvariants T). IsKeptAt num h f place) (sym same) stands)
+
 pub not_apart : {P : Type 0} (place : ℕ) → lasts.At place ≡ lasts.Apart → P
 not_apart place e = absurd cc
 
@@ -281,3 +313,40 @@ same_place a b e = cc
 pub placed_there : {T : Type 0} (num : T → ℕ) (h : Header) (fi : FrameInvariants T) (a b : ℕ) → IsKeptAt num h fi a → lasts.At a ≡ lasts.At b →
     IsKeptAt num h fi b
 placed_there num h fi a b kept e = subst (IsKeptAt num h fi) (same_place a b e) kept
+
+-- ---- a frame that is shown again
+
+-- the slots once the frame at a place stands in these, too
+pub also_shown : {T : Type 0} (num : T → ℕ) (h : Header) (settings : FrameInvariants T) (held replaced : List (Option ℕ)) (refresh place : ℕ) →
+    ((s : ℕ) → s < 8 → has_bit refresh s ≡ true → slice_index_or replaced s None ≡ Some place)
+    → ((s : ℕ) → s < 8 → has_bit refresh s ≡ false → slice_index_or replaced s None ≡ slice_index_or held s None)
+    → (frame : Frame) → shown_at num h settings place ≡ Some frame →
+    slots_shown num h settings replaced ≡ refreshed (slots_shown num h settings held) refresh frame
+also_shown num h settings held replaced refresh place new old frame is =
+    by_index-same 8 (λ s. shown_in num h settings (slice_index_or replaced s None))
+    (λ s. if has_bit refresh s then Some frame else slot_of (slots_shown num h settings held) s)
+    (λ s lt. go s lt (has_bit refresh s) refl)
+  where
+    go : (s : ℕ) → s < 8 → (b : Bool) → has_bit refresh s ≡ b →
+        shown_in num h settings (slice_index_or replaced s None) ≡ (if b then Some frame else slot_of (slots_shown num h settings held) s)
+    go s lt true e = ap (shown_in num h settings) (new s lt e) ∙ is
+    go s lt false e = ap (shown_in num h settings) (old s lt e) ∙ sym (slot_shown num h settings held s lt)
+
+-- and the frames at their held
+pub also_kept : {T : Type 0} (num : T → ℕ) (h : Header) (settings : FrameInvariants T) (held replaced : List (Option ℕ)) (refresh place : ℕ) →
+    KeepsFrames num h settings held → IsKeptAt num h settings place → length replaced ≡ 8
+    → ((s : ℕ) → s < 8 → has_bit refresh s ≡ true → slice_index_or replaced s None ≡ Some place)
+    → ((s : ℕ) → s < 8 → has_bit refresh s ≡ false → slice_index_or replaced s None ≡ slice_index_or held s None)
+    → KeepsFrames num h settings replaced
+also_kept num h settings held replaced refresh place keeps stands eight new old = record {
+  frame = keeps.frame;
+  depth = keeps.depth;
+  count = keeps.count;
+  eight = eight;
+  kept = λ s q lt is. go s q lt (has_bit refresh s) refl is;
+  again = keeps.again;
+}
+  where
+    go : (s q : ℕ) → s < 8 → (b : Bool) → has_bit refresh s ≡ b → slice_index_or replaced s None ≡ Some q → IsKeptAt num h settings q
+    go s q lt true e is = subst (IsKeptAt num h settings) (same_Some _ _ (sym (new s lt e) ∙ is)) stands
+    go s q lt false e is = keeps.kept s q lt (sym (old s lt e) ∙ is)

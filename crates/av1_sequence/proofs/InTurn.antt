@@ -81,7 +81,7 @@ answers_of : (bytes : List ℕ) (f : FileValue) → AreFile bytes f → (answer 
 answers_of bytes f is (Ok done) a b (written, lead, appended) = (written, (f, is, lead), appended)
 answers_of bytes f is (Err (errors.Frame i fault)) a b (written, first, appended) = (written, (f, is, first), appended)
 answers_of bytes f is (Err errors.WriteFault) a b (written, (n, shown), prefix) =
-    let (rest, (end, run)) = some_after (beginning f) f.parts n written shown.kept (parts_fit bytes f is) shown.lead in
+    let (rest, (end, run)) = some_after (beginning f) f.entries n written shown.kept (parts_fit bytes f is) shown.lead in
     (written ++ rest, (answer_of end, of_run bytes (written ++ rest) f is end run, AppendsPrefix-first a b written rest (written ++ rest) refl prefix))
 answers_of bytes f is (Err errors.Memory) a b (written, shown, appended) = (written, inr (f, is, shown), appended)
 answers_of bytes f is (Err errors.ReadFault) a b shows = absurd shows

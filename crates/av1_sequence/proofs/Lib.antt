@@ -11,7 +11,7 @@ pub mod Sizes
 pub mod KeptRows
 pub mod Framed
 pub mod Calling
-pub mod ReadFrames
+pub mod ReadEntries
 pub mod Written
 pub mod Parts
 pub mod Running

@@ -1,5 +1,5 @@
 -- Frames that are kept at places serve the plan of the next frame, once its references name these places.
-use Rattle.std.proofs.Common.{ℕ, zero, suc, ◌-◌, ◌<◌, ◌≡◌, ◌∙◌, true, false, Bool, List, [], length, get_or, Option, Some, None, refl, ap, sym, subst}
+use Rattle.std.proofs.Common.{ℕ, zero, suc, ◌-◌, ◌<◌, ◌≡◌, ◌∙◌, true, Bool, List, [], length, get_or, Option, Some, None, refl, ap, sym, subst}
 use Rattle.std.proofs.Common.{arith, inl, inr}
 use Rattle.std.proofs.Common.{slice_index, slice_index_or, is_some, replicate, if◌then◌else◌, ltb}
 use Rattle.std.specs.Prelude.{◌&&◌, unwrap_or}
@@ -17,7 +17,7 @@ use Rattle.av1_frame.specs.Frames.{plane_of, slot_plane}
 use Rattle.av1_inter.specs.Reference.{slot_of as place_named}
 use Rattle.av1_lists.proofs.Lists.{get_or-by_index}
 use Rattle.av1_plan.specs.declared.header.Header.{Header}
-use Rattle.av1_plan.specs.Geometry.{has_slot}
+use Rattle.av1_plan.specs.Geometry.{follows_av1, has_slot}
 use Rattle.av1_plan.specs.Plan.{LeafValue, PlanValue, carried_plane}
 use Rattle.av1_plan.specs.ReadPlans.{IsReadFrame}
 use Rattle.av1_plan.specs.Validity.{has_reference}
@@ -44,8 +44,8 @@ mask_is h slots head s lt = bit_is (is_read head.slots slots) s lt
 -- the header of a frame's plan lies in its ranges
 pub read_header : (h : Header) (slots : Slots) (head : FrameHead) → AreFrames h → IsHead head → IsReadFrame (frame_header h slots head)
 read_header h slots head is own_head = record {
-  least_version = omega arith;
-  most_version = omega arith;
+  least_version = is.least_version;
+  most_version = is.most_version;
   width = is.width;
   height = is.height;
   shown_width = is.shown_width;
@@ -80,7 +80,7 @@ chosen b o e = rw e refl
 module _ {T : Type 0} (num : T → ℕ) (h : Header) (fi new : FrameInvariants T) (places : List (Option ℕ)) (head : FrameHead)
     (keeps : KeepsFrames num h fi places) (is : IsHead head)
     (leaves : List LeafValue)
-    (kept : new.slots ≡ fi.slots) (depth : new.bit_depth ≡ fi.bit_depth) (filter : new.default_filter ≡ head.filter) (short : new.short_by_av1 ≡ false)
+    (kept : new.slots ≡ fi.slots) (depth : new.bit_depth ≡ fi.bit_depth) (filter : new.default_filter ≡ head.filter) (short : new.short_by_av1 ≡ follows_av1 h)
     (named : (i place : ℕ) → i < 7 → slice_index_or places (slice_index head.slots i) None ≡ Some place → slice_index new.ref_frames i ≡ place) where
   abbrev slots : Slots
   slots = slots_shown num h fi places
@@ -204,7 +204,7 @@ keeps_none num h fi places is depth empty none = record {
 -- the settings serve a plan with this header and these references
 pub serves_plan : {T : Type 0} (num : T → ℕ) (h : Header) (fi new : FrameInvariants T) (places : List (Option ℕ)) (head : FrameHead) →
     KeepsFrames num h fi places → IsHead head →
-    new.slots ≡ fi.slots → new.bit_depth ≡ fi.bit_depth → new.default_filter ≡ head.filter → new.short_by_av1 ≡ false
+    new.slots ≡ fi.slots → new.bit_depth ≡ fi.bit_depth → new.default_filter ≡ head.filter → new.short_by_av1 ≡ follows_av1 h
     → ((i place : ℕ) → i < 7 → slice_index_or places (slice_index head.slots i) None ≡ Some place → slice_index new.ref_frames i ≡ place)
     → (plan : PlanValue) → plan.header ≡ frame_header h (slots_shown num h fi places) head →
     plan.references ≡ frame_references (slots_shown num h fi places) head →

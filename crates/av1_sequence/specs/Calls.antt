@@ -1,61 +1,67 @@
--- What lists of calls come to: a frame that is refused leaves nothing behind, and the slots are those of the accepted
--- frames alone.
-use Rattle.std.specs.Prelude.{◌≡◌, List, [], ◌∷◌, ℕ, Option, Some, Result, Ok, Err}
+-- What lists of calls come to: a frame that is refused leaves nothing behind, and the slots are those of the frames
+-- alone that are accepted or shown again.
+use Rattle.std.specs.Prelude.{◌≡◌, Bool, true, false, List, [], ◌∷◌, ℕ, Option, Some, None, Result, Ok, Err}
 use Rattle.std.specs.List.{fold}
 use Rattle.av1_plan.specs.Plan.{PlanValue}
 use Rattle.av1_sequence.specs.declared.error.FrameError.{FrameError}
 use Rattle.av1_sequence.specs.declared.head.FrameHead.{FrameHead}
 use Rattle.av1_sequence.specs.Frames.{frame_of}
 use Rattle.av1_sequence.specs.Kept.{Kept}
-use Rattle.av1_sequence.specs.Outcomes.{Accepts, IsValidFrame, Refuses, accepted}
-use Rattle.av1_sequence.specs.Slots.{Frame, Slots, refreshed}
+use Rattle.av1_sequence.specs.Outcomes.{Accepts, IsValidFrame, Refuses, accepted, shown_again}
+use Rattle.av1_sequence.specs.Slots.{Frame, Slots, refreshed, slot_of}
 
--- a call with a frame, and its answer
-pub record Call : Type 0 where
-  pub head : FrameHead
-  pub part : List ℕ
-  pub answer : Result (Unit {0}) FrameError
+-- a call, with a frame or with a slot that is to be shown again, and its answer
+pub data Call : Type 0 where
+  frame_call : FrameHead → (part : List ℕ) → (answer : Result (Unit {0}) FrameError) → Call
+  slot_call : (slot refresh : ℕ) → (answer : Bool) → Call
 
--- what a call with this answer does: it accepts the frame, or all is as it was and there is a reason
-abbrev pub Does : Kept → FrameHead → (part : List ℕ) → Result (Unit {0}) FrameError → Kept → Type 0
-Does k head part (Ok done) k' = Accepts k head part k'
-Does k head part (Err e) k' = (k' ≡ k) × Refuses k head part e
+-- what a call with this answer does: it accepts the frame or shows the slot again, or all is as it was and there is a
+-- reason
+abbrev pub Does : Kept → Call → Kept → Type 0
+Does k (frame_call head part (Ok done)) k' = Accepts k head part k'
+Does k (frame_call head part (Err e)) k' = (k' ≡ k) × Refuses k head part e
+Does k (slot_call slot refresh true) k' = (frame : Frame) × (slot_of k.slots slot ≡ Some frame) ×
+    (k' ≡ shown_again k refresh frame)
+Does k (slot_call slot refresh false) k' = (k' ≡ k) × (slot_of k.slots slot ≡ None)
 
 -- and calls one after the other
 abbrev pub DoInTurn : Kept → List Call → Kept → Type 0
 DoInTurn k [] k' = k' ≡ k
-DoInTurn k (c ∷ calls) k' = (m : Kept) × Does k c.head c.part c.answer m × DoInTurn m calls k'
+DoInTurn k (c ∷ calls) k' = (m : Kept) × Does k c m × DoInTurn m calls k'
 
--- a frame that was accepted
+-- a frame that was accepted or shown again, and the slots that it then stands in
 pub record TakenFrame : Type 0 where
-  pub head : FrameHead
-  pub plan : PlanValue
+  pub refresh : ℕ
+  pub frame : Frame
 
--- the slots once a frame was accepted
+-- the slots once it was
 abbrev pub slots_after : Slots → TakenFrame → Slots
-slots_after slots f = refreshed slots f.head.refresh (frame_of f.plan)
+slots_after slots f = refreshed slots f.refresh f.frame
 
 -- the last frame then
 abbrev pub last_after : Option Frame → TakenFrame → Option Frame
-last_after last f = Some (frame_of f.plan)
+last_after last f = Some f.frame
 
--- what a call with this answer adds to the frames that are accepted: its own where it was accepted, with its valid plan
--- over what is kept
-abbrev pub Adds : Kept → Call → Result (Unit {0}) FrameError → (later : Kept → List TakenFrame → Type 0) →
-    List TakenFrame → Type 0
-Adds k c (Err e) later frames = later k frames
-Adds k c (Ok done) later [] = ⊥
-Adds k c (Ok done) later (f ∷ frames) = (f.head ≡ c.head) × IsValidFrame k c.head c.part f.plan ×
-    later (accepted k c.head f.plan) frames
+-- what a call adds to the frames that are taken: the frame of its valid plan over what is kept where it was accepted,
+-- and that of the slot where it was shown again
+abbrev pub Adds : Kept → Call → (later : Kept → List TakenFrame → Type 0) → List TakenFrame → Type 0
+Adds k (frame_call head part (Err e)) later frames = later k frames
+Adds k (frame_call head part (Ok done)) later [] = ⊥
+Adds k (frame_call head part (Ok done)) later (f ∷ frames) = (plan : PlanValue) × IsValidFrame k head part plan ×
+    (f ≡ record { refresh = head.refresh; frame = frame_of plan }) × later (accepted k head plan) frames
+Adds k (slot_call slot refresh false) later frames = later k frames
+Adds k (slot_call slot refresh true) later [] = ⊥
+Adds k (slot_call slot refresh true) later (f ∷ frames) = (f.refresh ≡ refresh) ×
+    (slot_of k.slots slot ≡ Some f.frame) × later (shown_again k refresh f.frame) frames
 
--- these are the frames that calls accept, in their order
+-- these are the frames that calls take, in their order
 abbrev pub AreTaken : Kept → List Call → List TakenFrame → Type 0
 AreTaken k [] [] = Unit {0}
 AreTaken k [] (f ∷ frames) = ⊥
-AreTaken k (c ∷ calls) frames = Adds k c c.answer (λ m later. AreTaken m calls later) frames
+AreTaken k (c ∷ calls) frames = Adds k c (λ m later. AreTaken m calls later) frames
 
--- After any list of calls the slots are those before, replaced by the accepted frames one after the other, and the last
--- frame is the last of these.
+-- After any list of calls the slots are those before, replaced by the frames that are taken, one after the other, and
+-- the last frame is the last of these.
 abbrev pub AcceptedAloneCount : Type 0
 AcceptedAloneCount =
     (k k' : Kept) (calls : List Call) → DoInTurn k calls k'

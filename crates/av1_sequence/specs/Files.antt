@@ -1,60 +1,74 @@
--- What the bytes of a sequence of frames come to: the planes of its frames, one after the other, up to the first that
--- is refused.
+-- What the bytes of a sequence of frames come to: the planes of its frames that are shown, one after the other, up to
+-- the first entry that is refused.
 use Rattle.std.specs.Prelude.{◌≡◌, ◌⊎◌, ℕ, ◌<◌, ◌≤◌, List, [], ◌∷◌, ◌++◌, length, take, Some, Result, Ok, Err}
-use Rattle.std.specs.Prelude.{slice_get}
+use Rattle.std.specs.Prelude.{slice_get, None, if◌then◌else◌}
 use Rattle.av1_plan.specs.Plan.{PlanValue}
 use Rattle.av1_streams.specs.Streams.{AreBytes, max_plan_bytes}
 use Rattle.av1_tile.specs.Output.{planes_of}
-use Rattle.av1_sequence.specs.declared.error.FrameError.{FrameError}
 use Rattle.av1_sequence.specs.declared.error.FrameError.TheVariants as frame_errors
 use Rattle.av1_sequence.specs.declared.error.FrameFault.{FrameFault}
 use Rattle.av1_sequence.specs.declared.error.FrameFault.TheVariants as faults
 use Rattle.av1_sequence.specs.declared.error.SequenceError.{SequenceError}
 use Rattle.av1_sequence.specs.declared.error.SequenceError.TheVariants as errors
-use Rattle.av1_sequence.specs.Grammar.{FileValue, FrameValue, read_file}
+use Rattle.av1_sequence.specs.Grammar.{EntryValue, FileValue, again, coded, read_file}
 use Rattle.av1_sequence.specs.Kept.{Kept}
-use Rattle.av1_sequence.specs.Outcomes.{IsValidFrame, Refuses, accepted, new_sequence}
+use Rattle.av1_sequence.specs.Outcomes.{IsValidFrame, Refuses, accepted, empty_sequence, shown_again}
+use Rattle.av1_sequence.specs.Output.{frame_text}
+use Rattle.av1_sequence.specs.Slots.{Frame, slot_of}
 
 -- what a call answers
 abbrev pub Answer : Type 0
 Answer = Result (Unit {0}) SequenceError
 
--- ---- frames
+-- ---- entries
 
--- Frames are accepted one after the other, from what is kept on: these bytes are those of their planes, and this is
--- kept then.
-abbrev pub Lead : Kept → List FrameValue → (written : List ℕ) → Kept → Type 0
+-- An entry is accepted: these bytes are written of it, and this is kept then. Of a frame that isn't shown nothing is
+-- written, and the frame of a slot that is shown again is written as the slot holds it. (AV1 specification: output
+-- process.)
+abbrev pub TakesEntry : Kept → EntryValue → (written : List ℕ) → Kept → Type 0
+TakesEntry k (coded shown f) written k' = (plan : PlanValue) × IsValidFrame k f.head f.part plan ×
+    (k' ≡ accepted k f.head plan) × (written ≡ (if shown then planes_of plan else []))
+TakesEntry k (again slot refresh) written k' = (frame : Frame) × (slot_of k.slots slot ≡ Some frame) ×
+    (k' ≡ shown_again k refresh frame) × (written ≡ frame_text k.frames frame)
+
+-- Entries are accepted one after the other, from what is kept on: these bytes are written of them, and this is kept
+-- then.
+abbrev pub Lead : Kept → List EntryValue → (written : List ℕ) → Kept → Type 0
 Lead k [] written k' = (written ≡ []) × (k' ≡ k)
-Lead k (f ∷ frames) written k' =
-    (plan : PlanValue) × IsValidFrame k f.head f.part plan ×
-    ((rest : List ℕ) × Lead (accepted k f.head plan) frames rest k' × (written ≡ planes_of plan ++ rest))
+Lead k (e ∷ entries) written k' = (one : List ℕ) × ((m : Kept) × TakesEntry k e one m ×
+    ((rest : List ℕ) × Lead m entries rest k' × (written ≡ one ++ rest)))
 
--- the refusal of a frame
-abbrev pub error_of : FrameFault → FrameError
-error_of faults.TooLarge = frame_errors.TooLarge
-error_of (faults.Malformed at) = frame_errors.Malformed at
-error_of (faults.Invalid leaf kind) = frame_errors.Invalid leaf kind
+-- why an entry is refused: a frame as its call is, and the frame of a slot where the slot is empty
+abbrev pub RefusesEntry : Kept → EntryValue → FrameFault → Type 0
+RefusesEntry k (coded shown f) faults.TooLarge = Refuses k f.head f.part frame_errors.TooLarge
+RefusesEntry k (coded shown f) (faults.Malformed at) = Refuses k f.head f.part (frame_errors.Malformed at)
+RefusesEntry k (coded shown f) (faults.Invalid leaf kind) = Refuses k f.head f.part (frame_errors.Invalid leaf kind)
+RefusesEntry k (coded shown f) faults.EmptySlot = ⊥
+RefusesEntry k (again slot refresh) faults.TooLarge = ⊥
+RefusesEntry k (again slot refresh) (faults.Malformed at) = ⊥
+RefusesEntry k (again slot refresh) (faults.Invalid leaf kind) = ⊥
+RefusesEntry k (again slot refresh) faults.EmptySlot = slot_of k.slots slot ≡ None
 
--- The first n frames are accepted, and these are the bytes of their planes.
-pub record AreShown (k : Kept) (frames : List FrameValue) (n : ℕ) (written : List ℕ) : Type 0 where
-  pub within : n ≤ length frames
+-- The first n entries are accepted, and these bytes are written of them.
+pub record AreShown (k : Kept) (entries : List EntryValue) (n : ℕ) (written : List ℕ) : Type 0 where
+  pub within : n ≤ length entries
   pub kept : Kept
-  pub lead : Lead k (take n frames) written kept
+  pub lead : Lead k (take n entries) written kept
 
--- Frame i is the first that is refused, and why; these are the bytes of the planes of those before it.
-pub record IsFirstRefused (k : Kept) (frames : List FrameValue) (i : ℕ) (fault : FrameFault)
+-- Entry i is the first that is refused, and why; these bytes are written of those before it.
+pub record IsFirstRefused (k : Kept) (entries : List EntryValue) (i : ℕ) (fault : FrameFault)
     (written : List ℕ) : Type 0 where
   pub kept : Kept
-  pub before : Lead k (take i frames) written kept
-  pub frame : FrameValue
-  pub at : slice_get frames i ≡ Some frame
-  pub refused : Refuses kept frame.head frame.part (error_of fault)
+  pub before : Lead k (take i entries) written kept
+  pub entry : EntryValue
+  pub at : slice_get entries i ≡ Some entry
+  pub refused : RefusesEntry kept entry fault
 
 -- ---- bytes
 
--- a sequence of the sides, depth and sampling of a file, to which no frame was given yet
+-- a sequence of the frames of a file, to which none was given yet
 abbrev pub beginning : FileValue → Kept
-beginning f = new_sequence f.frames.width f.frames.height f.frames.depth f.frames.sampling
+beginning f = empty_sequence f.frames
 
 -- bytes that are this sequence, no longer than a plan may be
 pub record AreFile (bytes : List ℕ) (f : FileValue) : Type 0 where
@@ -62,24 +76,24 @@ pub record AreFile (bytes : List ℕ) (f : FileValue) : Type 0 where
   pub short : length bytes ≤ max_plan_bytes
   pub read : read_file bytes ≡ Ok f
 
--- The outcome of bytes, and what is written of them: all frames are accepted, or one is the first that is refused, or
+-- The outcome of bytes, and what is written of them: all entries are accepted, or one is the first that is refused, or
 -- the bytes are no sequence.
 abbrev pub HasOutcome : List ℕ → (written : List ℕ) → Answer → Type 0
 HasOutcome bytes written (Ok done) =
-    (f : FileValue) × AreFile bytes f × ((k : Kept) × Lead (beginning f) f.parts written k)
+    (f : FileValue) × AreFile bytes f × ((k : Kept) × Lead (beginning f) f.entries written k)
 HasOutcome bytes written (Err errors.TooLong) = (max_plan_bytes < length bytes) × (written ≡ [])
 HasOutcome bytes written (Err (errors.Malformed at)) = (length bytes ≤ max_plan_bytes) × (read_file bytes ≡ Err at) ×
     (written ≡ [])
 HasOutcome bytes written (Err (errors.Frame i fault)) =
-    (f : FileValue) × AreFile bytes f × IsFirstRefused (beginning f) f.parts i fault written
+    (f : FileValue) × AreFile bytes f × IsFirstRefused (beginning f) f.entries i fault written
 HasOutcome bytes written (Err errors.ReadFault) = ⊥
 HasOutcome bytes written (Err errors.WriteFault) = ⊥
 HasOutcome bytes written (Err errors.Memory) = ⊥
 
--- these are the bytes of the planes of some first frames, each whole
+-- these are the bytes that are written of some first entries, each whole
 abbrev pub AreWholeFrames : List ℕ → (written : List ℕ) → Type 0
 AreWholeFrames bytes written =
-    (written ≡ []) ⊎ ((f : FileValue) × AreFile bytes f × ((n : ℕ) × AreShown (beginning f) f.parts n written))
+    (written ≡ []) ⊎ ((f : FileValue) × AreFile bytes f × ((n : ℕ) × AreShown (beginning f) f.entries n written))
 
 -- ---- laws
 

@@ -23,11 +23,11 @@ pub record IsHead (head : FrameHead) : Type 0 where
   pub filter : filter_number head.filter < 4
   pub slots : AreSlots head.slots
 
--- The header of a frame's plan: the sides, depth and sampling of the sequence's frames, what the head says, and the
--- slots that it reads.
+-- The header of a frame's plan: the version, sides, depth and sampling of the sequence's frames, what the head says,
+-- and the slots that it reads.
 abbrev pub frame_header : (frames : Header) → Slots → FrameHead → Header
 frame_header frames slots head = record {
-  version = 2;
+  version = frames.version;
   width = frames.width;
   height = frames.height;
   shown_width = frames.shown_width;

@@ -1,6 +1,7 @@
--- The format of a sequence of frames: the sides, depth and sampling of its frames, how many there are, and for each its
--- head and its part. Numbers are little-endian.
-use Rattle.std.specs.Prelude.{codes, zero, suc, ◌==◌, ℕ, Bool, List, [], ◌∷◌, ◌++◌, slice_index_or, Ok}
+-- The format of a sequence of frames: the sides, depth and sampling of its frames, how many entries there are, and for
+-- each its head, and its part where it is a frame. Numbers are little-endian.
+use Rattle.std.specs.Prelude.{codes, zero, suc, ◌==◌, ◌||◌, ℕ, Bool, List, [], ◌∷◌, ◌++◌, slice_index_or, Ok}
+use Rattle.std.specs.Prelude.{if◌then◌else◌}
 use Rattle.std.specs.Int.{w32, from_le_bytes}
 use Rattle.av1_blocks.specs.declared.mc.FilterMode.TheVariants.{REGULAR}
 use Rattle.av1_blocks.specs.declared.mc.TheConstants.FilterMode as filter_modes
@@ -8,27 +9,42 @@ use Rattle.av1_plan.specs.Format.{one, two, four, Format, done, ◌>>=◌, field
 use Rattle.av1_plan.specs.Format.{read_part, start, ended}
 use Rattle.av1_plan.specs.Grammar.{where_, byte_from, is_side, is_depth, slots}
 use Rattle.av1_plan.specs.declared.header.Header.{Header}
+use Rattle.av1_sequence.specs.declared.head.EntryHead.{EntryHead}
+use Rattle.av1_sequence.specs.declared.head.EntryHead.TheVariants as heads
 use Rattle.av1_sequence.specs.declared.head.FrameHead.{FrameHead}
 use Rattle.av1_sequence.specs.Outcomes.{frames_of}
 
--- the four letters at the front
-abbrev pub is_magic : ℕ → Bool
-is_magic v = v == from_le_bytes w32 (codes "RSQ1")
+-- ---- what stands before the entries
 
--- what stands before the frames: a header with their sides, depth and sampling, and how many there are
+-- the four letters at the front: those of one of the two versions
+abbrev pub is_magic : ℕ → Bool
+is_magic v = v == from_le_bytes w32 (codes "RSQ1") || v == from_le_bytes w32 (codes "RSQ2")
+
+-- the version of plans that the frames have, by these letters
+abbrev pub version_of : ℕ → ℕ
+version_of letters = if letters == from_le_bytes w32 (codes "RSQ2") then 3 else 2
+
+unfoldable pub plan_version : Format ℕ
+plan_version = do
+  letters ← field (where_ four is_magic)
+  done (version_of letters)
+
+-- a header with the version, sides, depth and sampling of the frames, and how many entries there are
 pub record FrontValue : Type 0 where
   pub frames : Header
   pub count : ℕ
 
 unfoldable pub front : Format FrontValue
 front = do
-  letters ← field (where_ four is_magic)
-  width ← field (where_ two (is_side 2))
-  height ← field (where_ two (is_side 2))
+  version ← plan_version
+  width ← field (where_ two (is_side version))
+  height ← field (where_ two (is_side version))
   depth ← field (where_ one is_depth)
   sampling ← field (byte_from 0 2)
   count ← field (any two)
-  done (record { frames = frames_of width height depth sampling; count = count })
+  done (record { frames = frames_of version width height depth sampling; count = count })
+
+-- ---- heads
 
 -- the head of a frame
 unfoldable pub head : Format FrameHead
@@ -44,27 +60,65 @@ head = do
     refresh = refresh;
   })
 
+-- of a frame, and whether it is shown
+unfoldable pub coded_head : (shown : Bool) → Format EntryHead
+coded_head shown = do
+  head ← head
+  done (heads.Coded shown head)
+
+-- of the frame of a slot, shown again
+unfoldable pub again_head : Format EntryHead
+again_head = do
+  slot ← field (byte_from 0 7)
+  refresh ← field (any one)
+  done (heads.Again slot refresh)
+
+-- 0 for a frame that isn't shown, 1 for one that is, and 2 for the frame of a slot, shown again. The first version of
+-- sequences, whose plans are of the second, has no such field: each frame is shown.
+unfoldable pub kind : (version : ℕ) → Format ℕ
+kind version = if version == 3 then field (byte_from 0 2) else done 1
+
+-- the head of an entry
+unfoldable pub entry_head : (version : ℕ) → Format EntryHead
+entry_head version = do
+  kind ← kind version
+  if kind == 2 then again_head else coded_head (kind == 1)
+
+-- ---- entries
+
 -- a frame: its head, and the bytes of its part
 pub record FrameValue : Type 0 where
   pub head : FrameHead
   pub part : List ℕ
 
--- a sequence: a header with the sides, depth and sampling of its frames, and these
+-- an entry: a frame, and whether it is shown; or the frame of a slot, shown again, and the slots that then hold it too
+pub data EntryValue : Type 0 where
+  coded : (shown : Bool) → FrameValue → EntryValue
+  again : (slot refresh : ℕ) → EntryValue
+
+-- a sequence: a header with the version, sides, depth and sampling of its frames, and its entries
 pub record FileValue : Type 0 where
   pub frames : Header
-  pub parts : List FrameValue
+  pub entries : List EntryValue
 
--- a frame, of which the part is one field
-unfoldable pub read_frame : Input → Reading (FrameValue × Input)
-read_frame i = on_ok (read head i) (λ h. on_ok (read_part h.1) (λ p. Ok (record { head = h.0; part = p.0 }, p.1)))
+-- what stands behind the head of an entry: the part of a frame, which is one field
+unfoldable pub read_behind : EntryHead → Input → Reading (EntryValue × Input)
+read_behind (heads.Coded shown head) i =
+    on_ok (read_part i) (λ p. Ok (coded shown (record { head = head; part = p.0 }), p.1))
+read_behind (heads.Again slot refresh) i = Ok (again slot refresh, i)
 
--- so many frames, behind those that were read before
-unfoldable pub read_frames : ℕ → List FrameValue × Input → Reading (List FrameValue × Input)
-read_frames zero s = Ok s
-read_frames (suc count) s = on_ok (read_frame s.1) (λ p. read_frames count (s.0 ++ p.0 ∷ [], p.1))
+unfoldable pub read_entry : (version : ℕ) → Input → Reading (EntryValue × Input)
+read_entry version i = on_ok (read (entry_head version) i) (λ h. read_behind h.0 h.1)
+
+-- so many entries, behind those that were read before
+unfoldable pub read_entries : (version count : ℕ) → List EntryValue × Input → Reading (List EntryValue × Input)
+read_entries version zero s = Ok s
+read_entries version (suc count) s =
+    on_ok (read_entry version s.1) (λ p. read_entries version count (s.0 ++ p.0 ∷ [], p.1))
 
 -- the sequence that all of the bytes are, or the place of the first field that is cut, not admitted or left over
 unfoldable pub read_file : List ℕ → Reading FileValue
 read_file bytes =
     on_ok (read front (start bytes))
-    (λ f. on_ok (read_frames f.0.count ([], f.1)) (λ p. ended (record { frames = f.0.frames; parts = p.0 }, p.1)))
+    (λ f. on_ok (read_entries f.0.frames.version f.0.count ([], f.1))
+    (λ p. ended (record { frames = f.0.frames; entries = p.0 }, p.1)))

@@ -18,8 +18,8 @@ use Rattle.av1_tile.specs.PlaneBlocks.{shown_of}
 use Rattle.av1_tile.specs.Walk.{HasPads, HasRoom, StoresAll}
 use Rattle.av1_sequence.specs.Slots.{Frame, Slots}
 
--- What callers see of a sequence: a header with the sides, depth and sampling of its frames, its slots, and the frame
--- that was accepted last.
+-- What callers see of a sequence: a header with the version, sides, depth and sampling of its frames, its slots, and
+-- the frame that was accepted or shown again last.
 pub record Kept : Type 0 where
   pub frames : Header
   pub slots : Slots
@@ -72,12 +72,14 @@ pub record IsKeptAt {T : Type 0} (num : T → ℕ) (h : Header) (fi : FrameInvar
   pub planes : (p : ℕ) (plane : Plane T) → p < 3 → slot_plane fi place p ≡ Some plane →
       HoldsPlane num h p (plane_shown num h p plane) plane
 
--- the sides, depth and sampling of the frames of a sequence
+-- the version, sides, depth and sampling of the frames of a sequence
 pub record AreFrames (h : Header) : Type 0 where
+  pub least_version : 1 ≤ h.version
+  pub most_version : h.version ≤ 3
   pub width : IsSide h.width
   pub height : IsSide h.height
-  pub shown_width : IsShown 2 h.shown_width h.width
-  pub shown_height : IsShown 2 h.shown_height h.height
+  pub shown_width : IsShown h.version h.shown_width h.width
+  pub shown_height : IsShown h.version h.shown_height h.height
   pub depth : is_depth h.depth ≡ true
   pub sampling : h.sampling ≤ 2
 

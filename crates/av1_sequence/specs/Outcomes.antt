@@ -2,6 +2,7 @@
 use Rattle.std.specs.Prelude.{◌≡◌, ℕ, ◌<◌, ◌≤◌, false, List, Some, None, replicate}
 use Rattle.av1_blocks.specs.declared.mc.FilterMode.TheVariants.{REGULAR}
 use Rattle.av1_plan.specs.declared.header.Header.{Header}
+use Rattle.av1_plan.specs.Geometry.{coded_side}
 use Rattle.av1_plan.specs.Grammar.{superblocks}
 use Rattle.av1_plan.specs.Plan.{LeafValue, PlanValue}
 use Rattle.av1_plan.specs.Spelling.{AreText, AreRefused}
@@ -12,7 +13,7 @@ use Rattle.av1_sequence.specs.declared.head.FrameHead.{FrameHead}
 use Rattle.av1_sequence.specs.Frames.{AreNoFramePlan, IsFramePlan, frame_header, frame_of, frame_references, most_bytes}
 use Rattle.av1_sequence.specs.Frames.{plan_bytes}
 use Rattle.av1_sequence.specs.Kept.{Kept}
-use Rattle.av1_sequence.specs.Slots.{refreshed}
+use Rattle.av1_sequence.specs.Slots.{Frame, refreshed}
 
 -- a valid plan of a frame, over the slots that a sequence keeps
 pub record IsValidFrame (k : Kept) (head : FrameHead) (part : List ℕ) (plan : PlanValue) : Type 0 where
@@ -47,13 +48,23 @@ Refuses k head part (errors.Invalid leaf kind) =
     (first_fault plan ≡ Some (record { leaf = leaf; kind = kind }))))
 Refuses k head part errors.Memory = plan_bytes k.frames k.slots head part ≤ most_bytes
 
--- the header of a sequence's frames, of which the sides, the depth and the sampling count
-abbrev pub frames_of : (width height depth sampling : ℕ) → Header
-frames_of width height depth sampling =
+-- a sequence once it has shown the frame of a slot again: it is the last one, and the slots that are said hold it too
+-- (AV1 specification: reference frame loading process)
+abbrev pub shown_again : Kept → (refresh : ℕ) → Frame → Kept
+shown_again k refresh frame = record {
+  frames = k.frames;
+  slots = refreshed k.slots refresh frame;
+  last = Some frame;
+}
+
+-- the header of a sequence's frames, of which the version of plans, the sides that are shown, the depth and the
+-- sampling count
+abbrev pub frames_of : (version width height depth sampling : ℕ) → Header
+frames_of version width height depth sampling =
     record {
-      version = 2;
-      width = width;
-      height = height;
+      version = version;
+      width = coded_side width;
+      height = coded_side height;
       shown_width = width;
       shown_height = height;
       depth = depth;
@@ -64,10 +75,13 @@ frames_of width height depth sampling =
       mask = 0;
     }
 
--- a sequence to which no frame was given yet
+-- a sequence of such frames, to which none was given yet
+abbrev pub empty_sequence : (frames : Header) → Kept
+empty_sequence frames = record { frames = frames; slots = replicate 8 None; last = None }
+
+-- of frames of the second version of plans
 abbrev pub new_sequence : (width height depth sampling : ℕ) → Kept
-new_sequence width height depth sampling =
-    record { frames = frames_of width height depth sampling; slots = replicate 8 None; last = None }
+new_sequence width height depth sampling = empty_sequence (frames_of 2 width height depth sampling)
 
 -- The leaves of a frame as a plan over the slots that a sequence keeps: a word of private contracts.
 abbrev pub plan_over : Kept → FrameHead → List LeafValue → PlanValue

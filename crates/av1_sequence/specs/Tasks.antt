@@ -1,18 +1,19 @@
--- What the call does that reads a sequence of frames and writes the planes of each as soon as it is accepted.
-use Rattle.std.specs.Prelude.{◌≡◌, ◌⊎◌, ℕ, ◌+◌, ◌≤◌, List, [], length, Option, Ok, Err, IsOk, IsErrAnd, IfSome, ⊤}
+-- What the call does that reads a sequence of frames and writes the planes of each that is shown as soon as it is
+-- accepted.
+use Rattle.std.specs.Prelude.{◌≡◌, ◌⊎◌, ℕ, ◌+◌, ◌≤◌, Bool, List, [], length, Option, Some, Ok, Err, IsOk, IsErrAnd}
+use Rattle.std.specs.Prelude.{IfSome, ⊤, if◌then◌else◌}
 use Rattle.std.specs.Io.KnownBytes.{Appends, Consumes, IsAtEnd}
-use Rattle.av1_plan.specs.Plan.{PlanValue}
 use Rattle.av1_streams.specs.Faults.{FaultCounted}
 use Rattle.av1_streams.specs.Streams.{AreBytes, AppendsPrefix, max_plan_bytes}
 use Rattle.av1_streams.specs.Tasks.{Cause, read_failed, too_long, refused, write_failed, no_memory, ErrorLeaves}
-use Rattle.av1_tile.specs.Output.{planes_of}
 use Rattle.av1_sequence.specs.declared.error.SequenceError.{SequenceError}
 use Rattle.av1_sequence.specs.declared.error.SequenceError.TheVariants as errors
-use Rattle.av1_sequence.specs.Files.{Answer, AreShown, AreWholeFrames, HasOutcome, IsFirstRefused, Lead, beginning}
-use Rattle.av1_sequence.specs.Files.{error_of}
-use Rattle.av1_sequence.specs.Grammar.{FileValue, FrameValue}
+use Rattle.av1_sequence.specs.Files.{Answer, AreShown, AreWholeFrames, HasOutcome, IsFirstRefused, Lead, RefusesEntry}
+use Rattle.av1_sequence.specs.Files.{TakesEntry, beginning}
+use Rattle.av1_sequence.specs.Grammar.{EntryValue, FileValue}
 use Rattle.av1_sequence.specs.Kept.{Kept}
-use Rattle.av1_sequence.specs.Outcomes.{IsValidFrame, Refuses, accepted}
+use Rattle.av1_sequence.specs.Output.{frame_text}
+use Rattle.av1_sequence.specs.Slots.{Frame}
 
 -- what an error blames
 abbrev pub cause_of : SequenceError → Cause
@@ -29,7 +30,7 @@ LeavesSource (Ok done) left left' = IsAtEnd left'
 LeavesSource (Err e) left left' = ErrorLeaves (cause_of e) max_plan_bytes left left'
 
 -- What an answer says of bytes that were read and of the sink: after Ok and after a refusal what the outcome writes was
--- appended, after a failed write a prefix of it, and after running out of memory the planes of some first frames, each
+-- appended, after a failed write a prefix of it, and after running out of memory what some first entries write, each
 -- whole. After a failed read the sink is as it was.
 abbrev pub ErrorAnswers : Cause → SequenceError → List ℕ → Option (List ℕ) → Option (List ℕ) → Type 0
 ErrorAnswers too_long e bytes taken taken' = (written : List ℕ) × HasOutcome bytes written (Err e) ×
@@ -104,7 +105,7 @@ pub record AnswersInTurn {S K : Type 0} (left : S → Option (List ℕ)) (source
   -- A refusal exactly where it is the outcome, unless a read or a write failed or memory ran out.
   pub exactly : IfSome (left source) (λ bytes. (written : List ℕ) (outcome : Answer) →
       HasOutcome bytes written outcome → Tells answer outcome)
-  -- Without a fault bytes of which no frame is refused give Ok, or memory ran out.
+  -- Without a fault bytes of which no entry is refused give Ok, or memory ran out.
   pub complete : ¬ FaultCounted (source_faults source) (source_faults source') →
       ¬ FaultCounted (sink_faults sink) (sink_faults sink')
       → IfSome (left source) (λ bytes. (written : List ℕ) (done : Unit {0}) → HasOutcome bytes written (Ok done) →
@@ -112,30 +113,35 @@ pub record AnswersInTurn {S K : Type 0} (left : S → Option (List ℕ)) (source
 
 -- ---- words of private contracts
 
--- What showing the frames of a sequence says of it and of the sink. A failed write says of the frames up to the one
+-- What showing the entries of a sequence says of it and of the sink. A failed write says of the entries up to the one
 -- that it was at.
 abbrev pub Shows : FileValue → Answer → Option (List ℕ) → Option (List ℕ) → Type 0
-Shows f (Ok done) taken taken' = (written : List ℕ) × ((k : Kept) × Lead (beginning f) f.parts written k) ×
+Shows f (Ok done) taken taken' = (written : List ℕ) × ((k : Kept) × Lead (beginning f) f.entries written k) ×
     Appends taken taken' written
 Shows f (Err (errors.Frame i fault)) taken taken' =
-    (written : List ℕ) × IsFirstRefused (beginning f) f.parts i fault written × Appends taken taken' written
+    (written : List ℕ) × IsFirstRefused (beginning f) f.entries i fault written × Appends taken taken' written
 Shows f (Err errors.WriteFault) taken taken' =
-    (written : List ℕ) × ((n : ℕ) × AreShown (beginning f) f.parts n written) × AppendsPrefix taken taken' written
-Shows f (Err errors.Memory) taken taken' = (written : List ℕ) × ((n : ℕ) × AreShown (beginning f) f.parts n written) ×
+    (written : List ℕ) × ((n : ℕ) × AreShown (beginning f) f.entries n written) × AppendsPrefix taken taken' written
+Shows f (Err errors.Memory) taken taken' = (written : List ℕ) × ((n : ℕ) × AreShown (beginning f) f.entries n written) ×
     Appends taken taken' written
 Shows f (Err errors.ReadFault) taken taken' = ⊥
 Shows f (Err errors.TooLong) taken taken' = ⊥
 Shows f (Err (errors.Malformed at)) taken taken' = ⊥
 
--- what showing one frame says, with its number
-abbrev pub ShowsFrame : Kept → (index : ℕ) → FrameValue → Answer → Kept → Option (List ℕ) → Option (List ℕ) → Type 0
-ShowsFrame k index f (Ok done) k' taken taken' = (plan : PlanValue) × IsValidFrame k f.head f.part plan ×
-    (k' ≡ accepted k f.head plan) × Appends taken taken' (planes_of plan)
-ShowsFrame k index f (Err (errors.Frame i fault)) k' taken taken' =
-    (i ≡ index) × Refuses k f.head f.part (error_of fault) × Appends taken taken' []
-ShowsFrame k index f (Err errors.WriteFault) k' taken taken' = (plan : PlanValue) × IsValidFrame k f.head f.part plan ×
-    AppendsPrefix taken taken' (planes_of plan)
-ShowsFrame k index f (Err errors.Memory) k' taken taken' = Appends taken taken' []
-ShowsFrame k index f (Err errors.ReadFault) k' taken taken' = ⊥
-ShowsFrame k index f (Err errors.TooLong) k' taken taken' = ⊥
-ShowsFrame k index f (Err (errors.Malformed at)) k' taken taken' = ⊥
+-- what showing one entry says, with its number
+abbrev pub ShowsEntry : Kept → (index : ℕ) → EntryValue → Answer → Kept → Option (List ℕ) → Option (List ℕ) → Type 0
+ShowsEntry k index e (Ok done) k' taken taken' =
+    (written : List ℕ) × TakesEntry k e written k' × Appends taken taken' written
+ShowsEntry k index e (Err (errors.Frame i fault)) k' taken taken' =
+    (i ≡ index) × RefusesEntry k e fault × Appends taken taken' []
+ShowsEntry k index e (Err errors.WriteFault) k' taken taken' =
+    (written : List ℕ) × TakesEntry k e written k' × AppendsPrefix taken taken' written
+ShowsEntry k index e (Err errors.Memory) k' taken taken' = Appends taken taken' []
+ShowsEntry k index e (Err errors.ReadFault) k' taken taken' = ⊥
+ShowsEntry k index e (Err errors.TooLong) k' taken taken' = ⊥
+ShowsEntry k index e (Err (errors.Malformed at)) k' taken taken' = ⊥
+
+-- an entry was accepted, and of the frame that is then the last one this is written, where it is shown
+abbrev pub IsTaken : Kept → EntryValue → (shown : Bool) → Kept → Type 0
+IsTaken k e shown k' = (frame : Frame) × (k'.last ≡ Some frame) ×
+    TakesEntry k e (if shown then frame_text k'.frames frame else []) k'

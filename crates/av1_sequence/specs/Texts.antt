@@ -1,55 +1,73 @@
 -- How far bytes go along with a sequence of frames: the texts of lists of fields are compared with them, and nothing
 -- here reads.
-use Rattle.std.specs.Prelude.{◌≡◌, ◌⊎◌, zero, suc, ℕ, ◌<◌, ◌^◌, List, [], ◌∷◌, ◌++◌, length, Ok, Err}
+use Rattle.std.specs.Prelude.{◌≡◌, ◌⊎◌, zero, suc, ℕ, ◌<◌, ◌^◌, Bool, List, [], ◌∷◌, ◌++◌, length, Ok, Err, ⊤}
 use Rattle.av1_plan.specs.Parts.{length_text, part_text, IsProperText, IsLongestText}
 use Rattle.av1_plan.specs.Spelling.{IsProper, Spells, text}
 use Rattle.av1_streams.specs.Streams.{AreBytes}
+use Rattle.av1_sequence.specs.declared.head.EntryHead.{EntryHead}
+use Rattle.av1_sequence.specs.declared.head.EntryHead.TheVariants as heads
 use Rattle.av1_sequence.specs.declared.head.FrameHead.{FrameHead}
-use Rattle.av1_sequence.specs.Grammar.{FrontValue, FileValue, FrameValue, front, head, read_file}
+use Rattle.av1_sequence.specs.Grammar.{EntryValue, FileValue, FrontValue, again, coded, entry_head, front, read_file}
 
--- the text of a frame: the fields of its head, and its part behind its length
-pub record IsFrameText (f : FrameValue) (bytes : List ℕ) : Type 0 where
+-- the head of an entry
+abbrev pub head_of : EntryValue → EntryHead
+head_of (coded shown f) = heads.Coded shown f.head
+head_of (again slot refresh) = heads.Again slot refresh
+
+-- the text behind it: the part of a frame, behind its length
+abbrev pub behind_text : EntryValue → List ℕ
+behind_text (coded shown f) = part_text f.part
+behind_text (again slot refresh) = []
+
+-- the length of the part has four bytes
+abbrev pub HasLength : EntryValue → Type 0
+HasLength (coded shown f) = length f.part < 2 ^ 32
+HasLength (again slot refresh) = ⊤
+
+-- the text of an entry, where frames are of this version of plans: the fields of its head, and what stands behind it
+pub record IsEntryText (version : ℕ) (e : EntryValue) (bytes : List ℕ) : Type 0 where
   pub values : List ℕ
-  pub spells : Spells head values f.head
-  pub short : length f.part < 2 ^ 32
-  pub whole : bytes ≡ text head values ++ part_text f.part
+  pub spells : Spells (entry_head version) values (head_of e)
+  pub short : HasLength e
+  pub whole : bytes ≡ text (entry_head version) values ++ behind_text e
 
--- the texts of frames, one after the other
-abbrev pub AreFrameTexts : List FrameValue → List ℕ → Type 0
-AreFrameTexts [] bytes = bytes ≡ []
-AreFrameTexts (f ∷ frames) bytes =
-    (one : List ℕ) × IsFrameText f one × ((rest : List ℕ) × AreFrameTexts frames rest × (bytes ≡ one ++ rest))
+-- the texts of entries, one after the other
+abbrev pub AreEntryTexts : (version : ℕ) → List EntryValue → List ℕ → Type 0
+AreEntryTexts version [] bytes = bytes ≡ []
+AreEntryTexts version (e ∷ entries) bytes =
+    (one : List ℕ) × IsEntryText version e one ×
+    ((rest : List ℕ) × AreEntryTexts version entries rest × (bytes ≡ one ++ rest))
 
--- the text of the first fields of a frame that is not whole: fields of its head, or all of these and the length of its
+-- the text of the first fields of an entry that is not whole: fields of its head, or all of these and the length of its
 -- part
-abbrev pub IsBegun : List ℕ → Type 0
-IsBegun run =
-    ((values : List ℕ) × IsProper head values × (run ≡ text head values))
-    ⊎ ((h : FrameHead) ×
-    ((values : List ℕ) × Spells head values h ×
-    ((len : ℕ) × (len < 2 ^ 32) × (run ≡ text head values ++ length_text len))))
+abbrev pub IsBegun : (version : ℕ) → List ℕ → Type 0
+IsBegun version run =
+    ((values : List ℕ) × IsProper (entry_head version) values × (run ≡ text (entry_head version) values))
+    ⊎ ((shown : Bool) × ((h : FrameHead) ×
+    ((values : List ℕ) × Spells (entry_head version) values (heads.Coded shown h) ×
+    ((len : ℕ) × (len < 2 ^ 32) × (run ≡ text (entry_head version) values ++ length_text len)))))
 
--- the text of the first fields of n frames: no field, or those of a frame that is not whole, or a whole frame and then
--- the first fields of the others
-abbrev pub IsRun : ℕ → List ℕ → Type 0
-IsRun zero run = run ≡ []
-IsRun (suc n) run =
-    IsBegun run ⊎ ((f : FrameValue) ×
-    ((one : List ℕ) × IsFrameText f one × ((more : List ℕ) × IsRun n more × (run ≡ one ++ more))))
+-- the text of the first fields of n entries: no field, or those of an entry that is not whole, or a whole entry and
+-- then the first fields of the others
+abbrev pub IsRun : (version n : ℕ) → List ℕ → Type 0
+IsRun version zero run = run ≡ []
+IsRun version (suc n) run =
+    IsBegun version run ⊎ ((e : EntryValue) ×
+    ((one : List ℕ) × IsEntryText version e one × ((more : List ℕ) × IsRun version n more × (run ≡ one ++ more))))
 
--- the text of the first fields of a sequence: what may stand behind its front are the first fields of its frames
+-- the text of the first fields of a sequence: what may stand behind its front are the first fields of its entries
 abbrev pub IsSequenceRun : List ℕ → Type 0
-IsSequenceRun = IsProperText front (λ f. IsRun f.count)
+IsSequenceRun = IsProperText front (λ f. IsRun f.frames.version f.count)
 
--- the bytes are the text of this sequence: all fields before the frames, and so many frames
+-- the bytes are the text of this sequence: all fields before the entries, and so many entries
 pub record IsFileText (bytes : List ℕ) (f : FileValue) : Type 0 where
   pub front_value : FrontValue
   pub values : List ℕ
   pub spells : Spells front values front_value
   pub same : f.frames ≡ front_value.frames
-  pub count : length f.parts ≡ front_value.count
+  pub count : length f.entries ≡ front_value.count
   pub texts : List ℕ
-  pub frames : AreFrameTexts f.parts texts
+  pub entries : AreEntryTexts f.frames.version f.entries texts
   pub whole : bytes ≡ text front values ++ texts
 
 -- Bytes that are no sequence are refused where the longest proper list of fields at their front ends.

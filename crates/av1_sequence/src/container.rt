@@ -7,21 +7,23 @@ ghost use Rattle.av1_blocks.specs.declared.mc.TheConstants.FilterMode as filter_
 ghost use Rattle.av1_plan.specs.Format.{four, read_field, read};
 ghost use Rattle.av1_plan.specs.Grammar.{where_};
 ghost use Rattle.av1_plan.specs.Reading.{Gives, input, Fits, Moves};
-ghost use Rattle.av1_sequence.specs.File.{IsReadFile, IsReadText, file_value, frame_value, front_value};
+ghost use Rattle.av1_sequence.specs.File.{IsReadEntry, IsReadFile, IsReadHead, entry_value, file_value, front_value};
 ghost use Rattle.av1_sequence.specs.Frames.{IsHead};
-ghost use Rattle.av1_sequence.specs.Grammar.{is_magic, front, head, read_frame, read_frames, read_file};
+ghost use Rattle.av1_sequence.specs.Grammar.{again_head, coded_head, entry_head, front, head, is_magic, kind, read_entries, read_entry, plan_version};
+ghost use Rattle.av1_sequence.specs.Grammar.{read_file};
 ghost use Rattle.av1_sequence.specs.Kept.{AreFrames};
 ghost use Rattle.av1_sequence.specs.Outcomes.{frames_of};
 
-use crate::file::{FrameText, SequenceFile};
-use crate::head::FrameHead;
+use crate::file::{Entry, FrameText, SequenceFile};
+use crate::head::{EntryHead, FrameHead};
 use av1_blocks::FilterMode;
 use av1_plan::{PlanError, Reader};
 use std::alloc::Global;
 
-/// What stands before the frames.
+/// What stands before the entries.
 #[derive(Clone, Copy)]
 pub(crate) struct FileFront {
+    version: u8,
     width: u16,
     height: u16,
     depth: u8,
@@ -38,28 +40,45 @@ fn magic(reader: &mut Reader<'_>) -> Result<u32, PlanError>
 {
     let at = reader.at;
     let value = reader.any_u32()?;
-    if value == u32::from_le_bytes(*b"RSQ1") {
+    if value == u32::from_le_bytes(*b"RSQ1") || value == u32::from_le_bytes(*b"RSQ2") {
         Ok(value)
     } else {
         Err(PlanError::Malformed { at })
     }
 }
 
-/// What stands before the frames.
+/// The version of plans that the frames have, by the four letters at the front.
+#[tactic(auto, unfolding(crate::specs::Grammar::plan_version))]
+fn plan_version(reader: &mut Reader<'_>) -> Result<u8, PlanError>
+    requires { Fits reader.old }
+    ensures read { Gives (λ x. (x, input reader.new)) result (read plan_version (input reader.old)) }
+    ensures range { IfOk result (λ x. (2 ≤ x) × (x ≤ 3)) }
+    ensures moves { Moves reader.old reader.new }
+{
+    let letters = magic(reader)?;
+    Ok(if letters == u32::from_le_bytes(*b"RSQ2") {
+        3
+    } else {
+        2
+    })
+}
+
+/// What stands before the entries.
 #[tactic(auto, using(av1_plan::proofs::Formats::read_bind), unfolding(crate::specs::Grammar::front))]
 fn front(reader: &mut Reader<'_>) -> Result<FileFront, PlanError>
     requires { Fits reader.old }
     ensures read { Gives (λ x. (front_value x, input reader.new)) result (read front (input reader.old)) }
-    ensures frames { IfOk result (λ x. AreFrames (frames_of x.width x.height x.depth x.sampling)) }
+    ensures frames { IfOk result (λ x. AreFrames (frames_of x.version x.width x.height x.depth x.sampling)) }
     ensures moves { Moves reader.old reader.new }
 {
-    magic(reader)?;
-    let width = reader.side(2)?;
-    let height = reader.side(2)?;
+    let version = plan_version(reader)?;
+    let width = reader.side(version)?;
+    let height = reader.side(version)?;
     let depth = reader.depth()?;
     let sampling = reader.byte(0, 2)?;
     let count = reader.any_u16()?;
     Ok(FileFront {
+        version,
         width,
         height,
         depth,
@@ -97,38 +116,100 @@ fn head(reader: &mut Reader<'_>) -> Result<FrameHead, PlanError>
     })
 }
 
-/// A frame: its head, and its part.
-#[tactic(auto, unfolding(crate::specs::Grammar::read_frame))]
-fn frame<'a>(reader: &mut Reader<'a>) -> Result<FrameText<'a>, PlanError>
+/// What stands at the front of an entry that is a frame, shown or not.
+#[tactic(auto, using(av1_plan::proofs::Formats::read_bind), unfolding(crate::specs::Grammar::coded_head))]
+fn coded_head(reader: &mut Reader<'_>, shown: bool) -> Result<EntryHead, PlanError>
     requires { Fits reader.old }
-    ensures read { Gives (λ x. (frame_value x, input reader.new)) result (read_frame (input reader.old)) }
-    ensures text { IfOk result IsReadText }
+    ensures read { Gives (λ x. (x, input reader.new)) result (read (coded_head shown) (input reader.old)) }
+    ensures head { IfOk result IsReadHead }
     ensures moves { Moves reader.old reader.new }
 {
     let head = head(reader)?;
-    let part = reader.part()?;
-    Ok(FrameText { head, part })
+    Ok(EntryHead::Coded { shown, head })
 }
 
-/// So many frames.
-#[tactic(auto, using(crate::proofs::ReadFrames::turns))]
-fn frames<'a>(
-    alloc: Global,
-    reader: &mut Reader<'a>,
-    count: u16,
-) -> Result<Vec<FrameText<'a>>, PlanError>
+/// What stands at the front of an entry that shows the frame of a slot again.
+#[tactic(auto, using(av1_plan::proofs::Formats::read_bind), unfolding(crate::specs::Grammar::again_head))]
+fn again_head(reader: &mut Reader<'_>) -> Result<EntryHead, PlanError>
     requires { Fits reader.old }
-    ensures read { Gives (λ x. (map frame_value x.items, input reader.new)) result (read_frames count ([], input reader.old)) }
-    ensures count { IfOk result (λ x. vec_len x ≡ count) }
-    ensures texts { IfOk result (λ x. All IsReadText x.items) }
+    ensures read { Gives (λ x. (x, input reader.new)) result (read again_head (input reader.old)) }
+    ensures head { IfOk result IsReadHead }
     ensures moves { Moves reader.old reader.new }
 {
-    let mut frames = Vec::new(alloc);
-    for _ in 0..count {
-        let frame = frame(reader)?;
-        frames.push(frame)?;
+    let slot = reader.byte(0, 7)?;
+    let refresh = reader.any_byte()?;
+    Ok(EntryHead::Again { slot, refresh })
+}
+
+/// The kind of an entry, in a sequence whose plans are of this version: 0 for a frame that isn't shown, 1 for one that
+/// is, and 2 for the frame of a slot, shown again.
+#[tactic(auto, unfolding(crate::specs::Grammar::kind))]
+fn kind(reader: &mut Reader<'_>, version: u8) -> Result<u8, PlanError>
+    requires { Fits reader.old }
+    ensures read { Gives (λ x. (x, input reader.new)) result (read (kind version) (input reader.old)) }
+    ensures moves { Moves reader.old reader.new }
+{
+    if version == 3 {
+        reader.byte(0, 2)
+    } else {
+        Ok(1)
     }
-    Ok(frames)
+}
+
+/// What stands at the front of an entry, in a sequence whose plans are of this version.
+#[tactic(auto, using(av1_plan::proofs::Formats::read_bind), unfolding(crate::specs::Grammar::entry_head))]
+fn entry_head(reader: &mut Reader<'_>, version: u8) -> Result<EntryHead, PlanError>
+    requires { Fits reader.old }
+    ensures read { Gives (λ x. (x, input reader.new)) result (read (entry_head version) (input reader.old)) }
+    ensures head { IfOk result IsReadHead }
+    ensures moves { Moves reader.old reader.new }
+{
+    let kind = kind(reader, version)?;
+    if kind == 2 {
+        again_head(reader)
+    } else {
+        coded_head(reader, kind == 1)
+    }
+}
+
+/// An entry, in a sequence whose plans are of this version.
+#[tactic(auto, unfolding(crate::specs::Grammar::read_entry, crate::specs::Grammar::read_behind))]
+fn entry<'a>(reader: &mut Reader<'a>, version: u8) -> Result<Entry<'a>, PlanError>
+    requires { Fits reader.old }
+    ensures read { Gives (λ x. (entry_value x, input reader.new)) result (read_entry version (input reader.old)) }
+    ensures text { IfOk result IsReadEntry }
+    ensures moves { Moves reader.old reader.new }
+{
+    match entry_head(reader, version)? {
+        EntryHead::Coded { shown, head } => {
+            let part = reader.part()?;
+            let frame = FrameText { head, part };
+            Ok(Entry::Coded { shown, frame })
+        }
+        EntryHead::Again { slot, refresh } => Ok(Entry::Again { slot, refresh }),
+    }
+}
+
+/// So many entries, in a sequence whose plans are of this version.
+#[tactic(auto, using(crate::proofs::ReadEntries::turns))]
+fn entries<'a>(
+    alloc: Global,
+    reader: &mut Reader<'a>,
+    version: u8,
+    count: u16,
+) -> Result<Vec<Entry<'a>>, PlanError>
+    requires { Fits reader.old }
+    ensures read { Gives (λ x. (map entry_value x.items, input reader.new)) result (read_entries version count ([], input reader.old)) }
+    ensures count { IfOk result (λ x. vec_len x ≡ count) }
+    ensures texts { IfOk result (λ x. All IsReadEntry x.items) }
+    ensures moves { Moves reader.old reader.new }
+{
+    let mut entries = Vec::new(alloc);
+    for _ in 0..count {
+        let entry = entry(reader, version)?;
+        entries.push(entry)?;
+    }
+    Ok(entries)
 }
 
 /// The sequence of frames that these bytes are, read from left to right.
@@ -145,13 +226,14 @@ pub fn read_sequence(alloc: Global, bytes: &[u8]) -> Result<SequenceFile<'_>, Pl
 {
     let mut reader = Reader { rest: bytes, at: 0 };
     let front = front(&mut reader)?;
-    let frames = frames(alloc, &mut reader, front.count)?;
+    let entries = entries(alloc, &mut reader, front.version, front.count)?;
     reader.end()?;
     Ok(SequenceFile {
+        version: front.version,
         width: front.width,
         height: front.height,
         depth: front.depth,
         sampling: front.sampling,
-        frames,
+        entries,
     })
 }

@@ -1,4 +1,4 @@
-//! What stands before the leaves of a frame.
+//! What stands before the part of an entry of a sequence.
 
 use av1_blocks::FilterMode;
 
@@ -13,4 +13,13 @@ pub struct FrameHead {
     pub slots: [u8; 7],
     /// The slots that the frame replaces: bit s is slot s.
     pub refresh: u8,
+}
+
+/// What stands at the front of an entry of a sequence.
+#[derive(Copy, Clone, Debug, PartialEq, Eq)]
+pub(crate) enum EntryHead {
+    /// The head of a frame, and whether it is shown.
+    Coded { shown: bool, head: FrameHead },
+    /// The frame of a slot, shown again, and the slots that then hold it too: bit s is slot s.
+    Again { slot: u8, refresh: u8 },
 }

@@ -5,15 +5,16 @@ ghost use Rattle.av1_sequence.specs.Files.{BytesHaveAnOutcome, OutcomesAreOne};
 ghost use Rattle.av1_sequence.specs.Frames.{PlansHaveTheirLength};
 ghost use Rattle.av1_sequence.specs.Texts.{FoundAtText, RefusedAtLongest};
 
-/// A law: after any list of calls of [`Sequence::frame`](crate::Sequence::frame) the slots are those before, replaced
-/// by the accepted frames alone, one after the other, and the last frame is the last of these. A frame that is refused
+/// A law: after any list of calls of [`Sequence::frame`](crate::Sequence::frame) and
+/// [`Sequence::show_again`](crate::Sequence::show_again) the slots are those before, replaced by the frames alone that
+/// were accepted or shown again, one after the other, and the last frame is the last of these. A call that refuses
 /// leaves nothing behind.
 pub fn accepted_alone_count()
     ensures { AcceptedAloneCount }
 {}
 
 /// A law: bytes have an outcome as a sequence of frames, and one alone, of which one list of bytes is written. So the
-/// first frame that is refused is one, and refused for one reason.
+/// first entry that is refused is one, and refused for one reason.
 pub fn sequence_outcome_laws()
     ensures some { BytesHaveAnOutcome }
     ensures one { OutcomesAreOne }

@@ -11,12 +11,15 @@
 //! A frame is reconstructed where it is kept: it is padded once, and moved to a place among eight; slots name places,
 //! so that a frame that replaces several is kept once. A frame that replaces none stays where it is until the next one.
 //!
-//! AV1 specification: reference frame update process, reference frame loading process.
+//! The frame of a slot can be shown again: it is then the last frame, and stands in the slots that are said, too.
+//!
+//! AV1 specification: reference frame update process, reference frame loading process, output process.
 //!
 //! Promised (`specs/Outcomes.antt`): [`Sequence::frame`] accepts exactly the frames whose plan is valid and not too
 //! large, unless memory runs out; the slots that the head says are then the visible planes of the slow definition, and
-//! all others are as they were. A frame that is refused changes nothing. So after any list of calls the slots are those
-//! of the accepted frames alone (`specs/Calls.antt`).
+//! all others are as they were. A frame that is refused changes nothing. [`Sequence::show_again`] shows the frame of a
+//! slot exactly where the slot is filled. So after any list of calls the slots are those of the frames alone that were
+//! accepted or shown again (`specs/Calls.antt`).
 #![tactic(auto)]
 
 mod container;
@@ -33,7 +36,7 @@ mod sequence;
 
 pub use container::read_sequence;
 pub use error::{FrameError, FrameFault, SequenceError};
-pub use file::{FrameText, SequenceFile};
+pub use file::{Entry, FrameText, SequenceFile};
 pub use head::FrameHead;
 pub use laws::{
     accepted_alone_count, plans_have_their_length, sequence_outcome_laws, sequences_are_texts,

@@ -32,7 +32,7 @@ const SLOTS: usize = 8;
 /// The frames that slots show.
 #[derive(Drop)]
 pub struct Pictures<T: Pixel> {
-    /// The sides, depth and sampling of the frames.
+    /// The version, sides, depth and sampling of the frames.
     pub(crate) header: Header,
     /// The frames, padded, each at its place.
     pub(crate) fi: FrameInvariants<T>,
@@ -246,7 +246,7 @@ impl<T: Pixel> Pictures<T> {
         ensures { result ≡ frame_header self.now.header (slots_shown T.num self.now.header self.now.fi self.now.places) head.now }
     {
         Header {
-            version: 2,
+            version: self.header.version,
             width: self.header.width,
             height: self.header.height,
             shown_width: self.header.shown_width,
@@ -283,7 +283,7 @@ impl<T: Pixel> Pictures<T> {
             ServesPlan T.num plan self.new.fi }
     {
         self.fi.default_filter = head.filter;
-        self.fi.short_by_av1 = false;
+        self.fi.short_by_av1 = self.header.follows_av1();
         self.fi.enable_intra_edge_filter = head.edge_filter;
         self.fi.ref_frames = places_of(&self.places, &head.slots);
     }
@@ -312,6 +312,18 @@ impl<T: Pixel> Pictures<T> {
         let before = self.fi.replace_slot(usize::from(place), y, u, v);
         self.places = replaced(self.places, refresh, place);
         (place, as_planes(&self.header, before))
+    }
+
+    /// Lets the frame at a place stand in the slots that are said, too.
+    pub fn also_in(&mut self, refresh: u8, place: u8)
+        requires kept { IsKeptAt T.num self.old.header self.old.fi place }
+        ensures header { self.new.header ≡ self.old.header }
+        ensures kept { self.new.fi ≡ self.old.fi }
+        ensures slots { (frame : Frame) → shown_at T.num self.old.header self.old.fi place ≡ Some frame →
+            slots_shown T.num self.new.header self.new.fi self.new.places ≡
+            refreshed (slots_shown T.num self.old.header self.old.fi self.old.places) refresh frame }
+    {
+        self.places = replaced(self.places, refresh, place);
     }
 
     /// Plane `p` of the frame at a place.

@@ -16,7 +16,7 @@ use crate::leaves::read_leaves;
 use crate::pictures::Pictures;
 use av1_blocks::{FilterMode, OutOfMemory};
 use av1_frame::{Pixel, Plane};
-use av1_plan::{Header, Leaves};
+use av1_plan::{Header, Leaves, coded_side};
 use av1_tile::{Planes, WalkMemory, visible_row};
 use std::alloc::Global;
 use std::marker::Model;
@@ -94,23 +94,24 @@ impl<T: Pixel> Model for SequenceOf<T> {
 }
 
 impl<T: Pixel> SequenceOf<T> {
-    ghost use Rattle.std.specs.Prelude.{◌≡◌, ℕ, ◌<◌, ◌≤◌, ◌^◌, [], None, Some, length, map, option_map, slice_index_or, IfOk, IfErr, IfNone, IfSome, OnOk};
+    ghost use Rattle.std.specs.Prelude.{◌≡◌, ℕ, ◌<◌, ◌≤◌, ◌^◌, true, false, [], None, Some, length, map, option_map, slice_index_or};
+    ghost use Rattle.std.specs.Prelude.{IfOk, IfErr, IfNone, IfSome, OnOk};
     ghost use Rattle.av1_blocks.specs.Depths.{IsDepth};
     ghost use Rattle.av1_plan.specs.Values.{leaves_value};
     ghost use Rattle.av1_plan.specs.Geometry.{shown_rows, shown_columns};
-    ghost use Rattle.av1_plan.specs.Grammar.{plan as grammar};
+    ghost use Rattle.av1_plan.specs.Grammar.{is_side, plan as grammar};
     ghost use Rattle.av1_plan.specs.ReadPlans.{IsSide};
     ghost use Rattle.av1_plan.specs.Spelling.{IsSpelled};
     ghost use Rattle.av1_plan.specs.Validity.{first_fault};
     ghost use Rattle.av1_sequence.specs.Frames.{IsHead, frame_header};
     ghost use Rattle.av1_sequence.specs.Kept.{plane_shown};
-    ghost use Rattle.av1_sequence.specs.Outcomes.{Accepts, Refuses, accepted, new_sequence, plan_over};
+    ghost use Rattle.av1_sequence.specs.Outcomes.{Accepts, Refuses, accepted, empty_sequence, frames_of, new_sequence, plan_over, shown_again};
     ghost use Rattle.av1_sequence.specs.Output.{IsWritable};
-    ghost use Rattle.av1_sequence.specs.Slots.{row_in};
+    ghost use Rattle.av1_sequence.specs.Slots.{Frame, row_in, slot_of};
 
-    /// A sequence of frames with these sides (in samples of luma, multiples of 8 from 8 to 2048), of this depth (8, 10
-    /// or 12, and one that the samples have) and sampling (0 for 4:2:0, 1 for 4:2:2, 2 for 4:4:4), to which no frame
-    /// was given yet.
+    /// A sequence of frames of the second version of plans, with these sides (in samples of luma, multiples of 8 from 8
+    /// to 2048), of this depth (8, 10 or 12, and one that the samples have) and sampling (0 for 4:2:0, 1 for 4:2:2, 2
+    /// for 4:4:4), to which no frame was given yet.
     pub fn new(
         alloc: Global,
         width: u16,
@@ -125,10 +126,32 @@ impl<T: Pixel> SequenceOf<T> {
         requires fits { depth ≤ T.BITS }
         ensures { IfOk result (λ s. s ≡ new_sequence width height depth sampling) }
     {
+        SequenceOf::with_version(alloc, 2, width, height, depth, sampling)
+    }
+
+    /// A sequence of frames of this version of plans (1, 2 or 3), with these sides (in samples of luma that are shown,
+    /// from 1 to 2048, up to version 2 multiples of 8), of this depth (8, 10 or 12, and one that the samples have) and
+    /// sampling (0 for 4:2:0, 1 for 4:2:2, 2 for 4:4:4), to which no frame was given yet.
+    pub fn with_version(
+        alloc: Global,
+        version: u8,
+        width: u16,
+        height: u16,
+        depth: u8,
+        sampling: u8,
+    ) -> Result<SequenceOf<T>, OutOfMemory>
+        requires version { (1 ≤ version) × (version ≤ 3) }
+        requires width { is_side version width ≡ true }
+        requires height { is_side version height ≡ true }
+        requires depth { IsDepth depth }
+        requires sampling { sampling ≤ 2 }
+        requires fits { depth ≤ T.BITS }
+        ensures { IfOk result (λ s. s ≡ empty_sequence (frames_of version width height depth sampling)) }
+    {
         let header = Header {
-            version: 2,
-            width,
-            height,
+            version,
+            width: coded_side(width),
+            height: coded_side(height),
             shown_width: width,
             shown_height: height,
             depth,
@@ -149,7 +172,7 @@ impl<T: Pixel> SequenceOf<T> {
         })
     }
 
-    /// A header with the sides, depth and sampling of the frames. What else it says is of no frame.
+    /// A header with the version, sides, depth and sampling of the frames. What else it says is of no frame.
     pub fn header(&self) -> &Header
         ensures { result.now ≡ self.now.frames }
     {
@@ -182,6 +205,25 @@ impl<T: Pixel> SequenceOf<T> {
         self.show(&header, head, &leaves)
     }
 
+    /// Shows the frame of a slot (from 0 to 7) again: it is then the last one, and stands in the slots that `refresh`
+    /// says, too (bit s is slot s). False, and all stays as it is, where the slot is empty.
+    ///
+    /// AV1 specification: reference frame loading process, of which `refresh` is 255 for a key frame and else 0.
+    pub fn show_again(&mut self, slot: usize, refresh: u8) -> bool
+        requires slot { slot < 8 }
+        ensures shown { result ≡ true → (frame : Frame) × (slot_of self.old.slots slot ≡ Some frame) × (self.new ≡ shown_again self.old refresh frame) }
+        ensures empty { result ≡ false → (slot_of self.old.slots slot ≡ None) × (self.new ≡ self.old) }
+    {
+        match self.pictures.places[slot] {
+            Some(held) => {
+                self.pictures.also_in(refresh, held);
+                self.last = Last::At(held);
+                true
+            }
+            None => false,
+        }
+    }
+
     // Reconstructs the leaves of a frame, and keeps it.
     fn show(&mut self, header: &Header, head: &FrameHead, leaves: &Leaves) -> Result<(), FrameError>
         requires head { IsHead head.now }
@@ -208,8 +250,8 @@ impl<T: Pixel> SequenceOf<T> {
         Ok(())
     }
 
-    /// Plane `p` (0 for Y, 1 for U and 2 for V) of the frame that was accepted last, wherever it is kept. None where no
-    /// frame was accepted yet.
+    /// Plane `p` (0 for Y, 1 for U and 2 for V) of the frame that was accepted or shown again last, wherever it is
+    /// kept. None where no frame was accepted yet.
     pub(crate) fn last_plane(&self, p: usize) -> Option<&Plane<T>>
         requires plane { p < 3 }
         ensures shown { option_map (λ plane. plane_shown T.num self.now.frames p plane.now) result ≡
@@ -227,8 +269,8 @@ impl<T: Pixel> SequenceOf<T> {
         }
     }
 
-    /// Row `y` of what is shown of plane `p` (0 for Y, 1 for U and 2 for V) of the frame that was accepted last. None
-    /// where no frame was accepted yet.
+    /// Row `y` of what is shown of plane `p` (0 for Y, 1 for U and 2 for V) of the frame that was accepted or shown
+    /// again last. None where no frame was accepted yet.
     pub fn last_row(&self, p: usize, y: usize) -> Option<&[T]>
         requires plane { p < 3 }
         requires in_plane { y < shown_rows self.now.frames p }

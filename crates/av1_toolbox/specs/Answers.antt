@@ -28,6 +28,7 @@ abbrev pub frame_fault_text : FrameFault → List ℕ
 frame_fault_text frame_faults.TooLarge = codes "too large\n"
 frame_fault_text (frame_faults.Malformed at) = malformed_text at
 frame_fault_text (frame_faults.Invalid leaf kind) = invalid_text leaf kind
+frame_fault_text frame_faults.EmptySlot = codes "empty slot\n"
 
 abbrev pub sequence_line : SequenceError → List ℕ
 sequence_line sequence_errors.ReadFault = codes "read fault\n"

@@ -8,16 +8,16 @@ use Rattle.av1_streams.specs.Streams.{AppendsPrefix}
 
 pub record EndsInTurn {S K : Type 0} (left : S → Option (List ℕ)) (source_faults : S → ℕ) (taken : K → Option (List ℕ))
     (sink_faults : K → ℕ) (source source' : S) (sink sink' : K) (status : ℕ) : Type 0 where
-  -- 0: no frame is refused, and the planes of all were appended.
+  -- 0: no entry is refused, and the planes of all frames that are shown were appended.
   pub done : status ≡ 0 →
       IfSome (left source)
       (λ bytes. (written : List ℕ) × HasOutcome bytes written (Ok tt) × Appends (taken sink) (taken sink') written)
-  -- 2: the bytes are refused, and the planes of the frames before the one that is refused were appended.
+  -- 2: the bytes are refused, and the planes of the frames that are shown before the refused entry were appended.
   pub refused : status ≡ 2 →
       IfSome (left source)
       (λ bytes. (e : SequenceError) ×
       ((written : List ℕ) × HasOutcome bytes written (Err e) × Appends (taken sink) (taken sink') written))
-  -- 3: memory ran out, and the planes of some first frames were appended, each whole.
+  -- 3: memory ran out, and the planes of some first frames that are shown were appended, each whole.
   pub memory : status ≡ 3 →
       IfSome (left source)
       (λ bytes. (written : List ℕ) × AreWholeFrames bytes written × Appends (taken sink) (taken sink') written)
@@ -30,7 +30,7 @@ pub record EndsInTurn {S K : Type 0} (left : S → Option (List ℕ)) (source_fa
       ((outcome : Answer) × HasOutcome bytes written outcome × AppendsPrefix (taken sink) (taken sink') written))
   -- 1 is that of words that are no tool's name, and 7 that of a trace.
   pub no_other : (status ≡ 0) ⊎ ((status ≡ 2) ⊎ ((status ≡ 3) ⊎ ((status ≡ 4) ⊎ (status ≡ 5))))
-  -- Without a fault bytes of which no frame is refused give 0, or memory ran out; and bytes that are refused never give
+  -- Without a fault bytes of which no entry is refused give 0, or memory ran out; and bytes that are refused never give
   -- 0.
   pub complete : ¬ FaultCounted (source_faults source) (source_faults source') →
       ¬ FaultCounted (sink_faults sink) (sink_faults sink')

@@ -70,7 +70,7 @@ pub fn report_trace<E: Sink>(answer: Result<u32, TraceError>, err: &mut E) -> u8
     }
 }
 
-// The line for a frame of a sequence.
+// The line for an entry of a sequence.
 fn frame_line(frame: u16, fault: FrameFault) -> Line
     ensures { result ≡ sequence_line (SequenceError.Frame frame fault) }
 {
@@ -82,6 +82,7 @@ fn frame_line(frame: u16, fault: FrameFault) -> Line
         FrameFault::TooLarge => line.push(b"too large\n"),
         FrameFault::Malformed { at } => push_malformed(&mut line, at),
         FrameFault::Invalid { leaf, kind } => push_invalid(&mut line, leaf, kind),
+        FrameFault::EmptySlot => line.push(b"empty slot\n"),
     }
     line
 }

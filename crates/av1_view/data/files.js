@@ -4,7 +4,8 @@
 
 function readFile(bytes) {
   const letters = String.fromCharCode(...bytes.subarray(0, 4));
-  if (letters === 'RSQ1') return sequenceOf(bytes);
+  if (letters === 'RSQ1') return sequenceOf(bytes, 2);
+  if (letters === 'RSQ2') return sequenceOf(bytes, 3);
   const isGrid = letters === 'RTL1';
   const read = isGrid ? readGrid(bytes) : readPlan(bytes);
   const held = heldPlanes(read.frame);
@@ -46,34 +47,53 @@ function readGrid(bytes) {
 
 // ---- A sequence of frames.
 
-// The frames of a sequence, each with what its head says, where its part begins, and which frame each slot holds before it, none as -1.
-function readHeads(bytes, view) {
+// The entries of a sequence, each with what its head says, where its part begins, and which frame each slot holds before it, none as -1. A frame has the
+// number of its entry. `shows` is the frame of an entry: its own, or that of a slot that it shows again. In a sequence whose entries have no kind each is shown.
+function readHeads(bytes, view, hasKinds) {
   const heads = [];
   let held = new Array(8).fill(-1);
   let at = 12;
   for (let number = 0; number < view.getUint16(10, true); number++) {
-    const refresh = bytes[at + 9];
-    const replaced = held.map((other, slot) => refresh >> slot & 1 ? number : other);
-    heads.push({ filter: bytes[at], edgeFilter: bytes[at + 1] === 1, slots: Array.from(bytes.subarray(at + 2, at + 9)), refresh, part: at + 14, held });
-    held = replaced;
-    at += 14 + view.getUint32(at + 10, true);
+    const kind = hasKinds ? bytes[at++] : 1;
+    const head = kind === 2 ? readAgain(bytes, at, held) : readHead(bytes, at, number);
+    heads.push({ ...head, isShown: kind > 0, held });
+    held = held.map((other, slot) => head.refresh >> slot & 1 ? head.shows : other);
+    at = kind === 2 ? at + 2 : head.part + view.getUint32(at + 10, true);
   }
   return heads;
 }
 
+const readHead = (bytes, at, number) => ({
+  shows: number, filter: bytes[at], edgeFilter: bytes[at + 1] === 1, slots: Array.from(bytes.subarray(at + 2, at + 9)), refresh: bytes[at + 9], part: at + 14,
+});
+const readAgain = (bytes, at, held) => ({ shows: held[bytes[at]], refresh: bytes[at + 1] });
+
+// For each frame of which the page holds the planes, how many frames are shown before it: a sequence is written as it is shown.
+function placesOf(heads) {
+  const places = new Map();
+  heads.filter((head) => head.isShown).forEach((head, place) => places.set(head.shows, place));
+  return places;
+}
+
+// Grey, for frames of which the page holds no planes.
+const greyOf = (shape) => (shape.sampleBytes === 1 ? new Uint8Array(shape.samples) : new Uint16Array(shape.samples)).fill(1 << (shape.depth - 1));
+
 // Frames are read as they are asked for: of each the leaves, and as its slots the planes of frames before it.
-function sequenceOf(bytes) {
+function sequenceOf(bytes, version) {
   const view = viewOf(bytes);
   const shape = shapeOf(view.getUint16(4, true), view.getUint16(6, true), bytes[8], bytes[9]);
-  const heads = readHeads(bytes, view);
+  const heads = readHeads(bytes, view, version === 3);
+  const places = placesOf(heads);
   const length = shape.samples * shape.sampleBytes;
   const all = bytesOf('planes-bytes');
-  const planesAt = (number) => samplesOf(shape, all.subarray(length * number, length * (number + 1)));
+  const planesOf = (place) => samplesOf(shape, all.subarray(length * place, length * (place + 1)));
+  const planesAt = (number) => places.has(heads[number].shows) ? planesOf(places.get(heads[number].shows)) : greyOf(shape);
   const readAt = (number) => {
-    const { filter, edgeFilter, slots, refresh, part, held } = heads[number];
-    const frame = { ...shape, version: 2, filter, edgeFilter, slots };
+    const { filter, edgeFilter, slots, refresh, part, held } = heads[heads[number].shows];
+    const frame = { ...shape, version, filter, edgeFilter, slots };
     const filled = held.map((other) => other < 0 ? null : planesAt(other));
     return { bytes, view, frame, slots: filled, held, refresh, ...readLeaves(bytes, view, frame, wholeOf(frame), part, 0) };
   };
-  return { kind: 'sequence', count: heads.length, shape, heads, readAt, planesAt, heldAt: (number) => ({ planes: planesAt(number) }) };
+  const isHeld = (number) => places.has(heads[number].shows);
+  return { kind: 'sequence', count: heads.length, shape, heads, readAt, planesAt, isHeld, heldAt: (number) => ({ planes: planesAt(number) }) };
 }

@@ -33,11 +33,17 @@ function thumbOf(number) {
 // The slots that a frame replaces, and these in words.
 const replacedBy = (number) => [0, 1, 2, 3, 4, 5, 6, 7].filter((slot) => file.heads[number].refresh >> slot & 1);
 
+// Whether a frame is shown, or which it shows again, and where it is kept then.
 function keptText(number) {
+  const { shows, isShown } = file.heads[number];
+  const seen = shows !== number ? 'frame ' + shows + ' again, ' : isShown ? '' : file.isHeld(number) ? 'not shown here, ' : 'never shown, its samples are not here, ';
   const slots = replacedBy(number);
-  if (slots.length === 0) return 'kept in no slot';
-  return 'kept in ' + (slots.length === 8 ? 'all slots' : (slots.length === 1 ? 'slot ' : 'slots ') + slots.join(', '));
+  if (slots.length === 0) return seen + 'kept in no ' + (shows !== number ? 'other slot' : 'slot');
+  return seen + 'kept in ' + (slots.length === 8 ? 'all slots' : (slots.length === 1 ? 'slot ' : 'slots ') + slots.join(', '));
 }
+
+// What the strip says of a frame that isn't shown, or is another one's.
+const shownText = (number) => file.heads[number].shows !== number ? ' again ' + file.heads[number].shows : file.heads[number].isShown ? '' : ' hidden';
 
 // The references of the frame that is shown whose slots hold a frame.
 const readFrom = (number) => REFERENCES.filter((name, i) => i > 0 && plan.held[frame.slots[i - 1]] === number);
@@ -51,7 +57,7 @@ function stripItem(number) {
   item.style.left = number * ITEM + 6 + 'px';
   item.style.width = ITEM - 6 + 'px';
   const slots = replacedBy(number);
-  const texts = [number + (slots.length > 0 ? ' to ' + (slots.length === 8 ? 'all' : slots.join(' ')) : ''), readFrom(number).join(' ')];
+  const texts = [number + shownText(number) + (slots.length > 0 ? ' to ' + (slots.length === 8 ? 'all' : slots.join(' ')) : ''), readFrom(number).join(' ')];
   item.title = 'frame ' + number + ', ' + keptText(number) + (texts[1] ? ', read as ' + readFrom(number).join(', ') : '');
   item.append(thumbOf(number), ...texts.map((text) => {
     const line = document.createElement('span');

@@ -23,7 +23,7 @@ file_page bytes planes = page bytes planes [] []
 abbrev pub Outcome : Type 0 → Type 1
 Outcome E = List ℕ → Result (List ℕ) E → Type 0
 
--- a sequence comes to the planes of all of its frames; it is refused where it is none, or where one of its frames is
+-- a sequence comes to the planes of the frames that it shows; it is refused where it is none, or where an entry is
 abbrev pub SequenceComesTo : List ℕ → Result (List ℕ) SequenceError → Type 0
 SequenceComesTo bytes (Ok planes) = SequenceOutcome bytes planes (Ok tt)
 SequenceComesTo bytes (Err e) = (planes : List ℕ) × SequenceOutcome bytes planes (Err e)

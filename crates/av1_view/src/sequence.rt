@@ -14,11 +14,12 @@ use av1_streams::{MAX_PLAN_BYTES, SliceSource, read_plan_bytes};
 use std::alloc::Global;
 
 /// Reads a sequence of frames from the source to its end, and appends a page to the sink that shows it: the constant
-/// parts of the page, and between them in base64 the bytes of the sequence and the visible planes of all of its frames.
+/// parts of the page, and between them in base64 the bytes of the sequence and the visible planes of the frames that it
+/// shows.
 ///
 /// # Errors
 ///
-/// As for [`av1_sequence::reconstruct_sequence`], but that no frame is shown where one is refused: `ReadFault` and
+/// As for [`av1_sequence::reconstruct_sequence`], but that there is no page where an entry is refused: `ReadFault` and
 /// `TooLong` while it reads, then `Malformed`, then `Frame`, then `WriteFault`. `Memory` may stand in place of any of
 /// them, before the first written byte.
 pub fn view_sequence<R: Source, W: Sink>(
@@ -50,7 +51,7 @@ fn kept(alloc: Global, bytes: Vec<u8>) -> Result<KeptFile, SequenceError>
     Ok(KeptFile { bytes, planes })
 }
 
-// The visible planes of all frames of the sequence that these bytes are.
+// The visible planes of the frames that the sequence shows that these bytes are.
 fn all_planes(alloc: Global, bytes: &[u8]) -> Result<Vec<u8>, SequenceError>
     requires short { length bytes.now ≤ max_plan_bytes }
     ensures found { IfOk result (λ planes. SequenceComesTo bytes.now (Ok planes.items)) }

@@ -475,7 +475,8 @@ const whiteOf = (frame, gain) => 127 * (1 << (frame.depth - 8)) / gain;
 
 function readFile(bytes) {
   const letters = String.fromCharCode(...bytes.subarray(0, 4));
-  if (letters === 'RSQ1') return sequenceOf(bytes);
+  if (letters === 'RSQ1') return sequenceOf(bytes, 2);
+  if (letters === 'RSQ2') return sequenceOf(bytes, 3);
   const isGrid = letters === 'RTL1';
   const read = isGrid ? readGrid(bytes) : readPlan(bytes);
   const held = heldPlanes(read.frame);
@@ -517,36 +518,55 @@ function readGrid(bytes) {
 
 // ---- A sequence of frames.
 
-// The frames of a sequence, each with what its head says, where its part begins, and which frame each slot holds before it, none as -1.
-function readHeads(bytes, view) {
+// The entries of a sequence, each with what its head says, where its part begins, and which frame each slot holds before it, none as -1. A frame has the
+// number of its entry. `shows` is the frame of an entry: its own, or that of a slot that it shows again. In a sequence whose entries have no kind each is shown.
+function readHeads(bytes, view, hasKinds) {
   const heads = [];
   let held = new Array(8).fill(-1);
   let at = 12;
   for (let number = 0; number < view.getUint16(10, true); number++) {
-    const refresh = bytes[at + 9];
-    const replaced = held.map((other, slot) => refresh >> slot & 1 ? number : other);
-    heads.push({ filter: bytes[at], edgeFilter: bytes[at + 1] === 1, slots: Array.from(bytes.subarray(at + 2, at + 9)), refresh, part: at + 14, held });
-    held = replaced;
-    at += 14 + view.getUint32(at + 10, true);
+    const kind = hasKinds ? bytes[at++] : 1;
+    const head = kind === 2 ? readAgain(bytes, at, held) : readHead(bytes, at, number);
+    heads.push({ ...head, isShown: kind > 0, held });
+    held = held.map((other, slot) => head.refresh >> slot & 1 ? head.shows : other);
+    at = kind === 2 ? at + 2 : head.part + view.getUint32(at + 10, true);
   }
   return heads;
 }
 
+const readHead = (bytes, at, number) => ({
+  shows: number, filter: bytes[at], edgeFilter: bytes[at + 1] === 1, slots: Array.from(bytes.subarray(at + 2, at + 9)), refresh: bytes[at + 9], part: at + 14,
+});
+const readAgain = (bytes, at, held) => ({ shows: held[bytes[at]], refresh: bytes[at + 1] });
+
+// For each frame of which the page holds the planes, how many frames are shown before it: a sequence is written as it is shown.
+function placesOf(heads) {
+  const places = new Map();
+  heads.filter((head) => head.isShown).forEach((head, place) => places.set(head.shows, place));
+  return places;
+}
+
+// Grey, for frames of which the page holds no planes.
+const greyOf = (shape) => (shape.sampleBytes === 1 ? new Uint8Array(shape.samples) : new Uint16Array(shape.samples)).fill(1 << (shape.depth - 1));
+
 // Frames are read as they are asked for: of each the leaves, and as its slots the planes of frames before it.
-function sequenceOf(bytes) {
+function sequenceOf(bytes, version) {
   const view = viewOf(bytes);
   const shape = shapeOf(view.getUint16(4, true), view.getUint16(6, true), bytes[8], bytes[9]);
-  const heads = readHeads(bytes, view);
+  const heads = readHeads(bytes, view, version === 3);
+  const places = placesOf(heads);
   const length = shape.samples * shape.sampleBytes;
   const all = bytesOf('planes-bytes');
-  const planesAt = (number) => samplesOf(shape, all.subarray(length * number, length * (number + 1)));
+  const planesOf = (place) => samplesOf(shape, all.subarray(length * place, length * (place + 1)));
+  const planesAt = (number) => places.has(heads[number].shows) ? planesOf(places.get(heads[number].shows)) : greyOf(shape);
   const readAt = (number) => {
-    const { filter, edgeFilter, slots, refresh, part, held } = heads[number];
-    const frame = { ...shape, version: 2, filter, edgeFilter, slots };
+    const { filter, edgeFilter, slots, refresh, part, held } = heads[heads[number].shows];
+    const frame = { ...shape, version, filter, edgeFilter, slots };
     const filled = held.map((other) => other < 0 ? null : planesAt(other));
     return { bytes, view, frame, slots: filled, held, refresh, ...readLeaves(bytes, view, frame, wholeOf(frame), part, 0) };
   };
-  return { kind: 'sequence', count: heads.length, shape, heads, readAt, planesAt, heldAt: (number) => ({ planes: planesAt(number) }) };
+  const isHeld = (number) => places.has(heads[number].shows);
+  return { kind: 'sequence', count: heads.length, shape, heads, readAt, planesAt, isHeld, heldAt: (number) => ({ planes: planesAt(number) }) };
 }
 
 // ---- Colours of samples.
@@ -1825,11 +1845,17 @@ function thumbOf(number) {
 // The slots that a frame replaces, and these in words.
 const replacedBy = (number) => [0, 1, 2, 3, 4, 5, 6, 7].filter((slot) => file.heads[number].refresh >> slot & 1);
 
+// Whether a frame is shown, or which it shows again, and where it is kept then.
 function keptText(number) {
+  const { shows, isShown } = file.heads[number];
+  const seen = shows !== number ? 'frame ' + shows + ' again, ' : isShown ? '' : file.isHeld(number) ? 'not shown here, ' : 'never shown, its samples are not here, ';
   const slots = replacedBy(number);
-  if (slots.length === 0) return 'kept in no slot';
-  return 'kept in ' + (slots.length === 8 ? 'all slots' : (slots.length === 1 ? 'slot ' : 'slots ') + slots.join(', '));
+  if (slots.length === 0) return seen + 'kept in no ' + (shows !== number ? 'other slot' : 'slot');
+  return seen + 'kept in ' + (slots.length === 8 ? 'all slots' : (slots.length === 1 ? 'slot ' : 'slots ') + slots.join(', '));
 }
+
+// What the strip says of a frame that isn't shown, or is another one's.
+const shownText = (number) => file.heads[number].shows !== number ? ' again ' + file.heads[number].shows : file.heads[number].isShown ? '' : ' hidden';
 
 // The references of the frame that is shown whose slots hold a frame.
 const readFrom = (number) => REFERENCES.filter((name, i) => i > 0 && plan.held[frame.slots[i - 1]] === number);
@@ -1843,7 +1869,7 @@ function stripItem(number) {
   item.style.left = number * ITEM + 6 + 'px';
   item.style.width = ITEM - 6 + 'px';
   const slots = replacedBy(number);
-  const texts = [number + (slots.length > 0 ? ' to ' + (slots.length === 8 ? 'all' : slots.join(' ')) : ''), readFrom(number).join(' ')];
+  const texts = [number + shownText(number) + (slots.length > 0 ? ' to ' + (slots.length === 8 ? 'all' : slots.join(' ')) : ''), readFrom(number).join(' ')];
   item.title = 'frame ' + number + ', ' + keptText(number) + (texts[1] ? ', read as ' + readFrom(number).join(', ') : '');
   item.append(thumbOf(number), ...texts.map((text) => {
     const line = document.createElement('span');

@@ -19,7 +19,7 @@ class Comparison:
         self.counts = dict.fromkeys(COUNTS, 0)
         self.sequence = "none"
         self.apart = False  # program and encoder differ somewhere, so their references do
-        self.dav1d, self.aomdec = read(folder, "dav1d.yuv"), read(folder, "aomdec.yuv")
+        self.dav1d, self.aomdec, self.shown = (read(folder, name + ".yuv") for name in ("dav1d", "aomdec", "shown"))
         self.slots = [None] * 8  # by slot: the encoder's, dav1d's frame, both cropped
         self.planes = []
 
@@ -28,17 +28,17 @@ class Comparison:
 
     def run(self):
         """Compares each frame, then the sequence."""
-        whole = filtered = False
+        last = None
         for event in events(self.folder):
             if isinstance(event, Again):
                 self.again(event.slot)
             else:
                 self.frame(event)
-                whole, filtered = event.whole(), event.filtered is not None
+                last = event
         if self.dav1d or self.aomdec:
             self.tell("last", f"decoders have {len(self.dav1d)} and {len(self.aomdec)} bytes more")
             self.counts["unlisted"] += 1
-        self.compare_sequence(whole and not filtered and not self.apart)
+        self.compare_sequence(last)
 
     def again(self, slot):
         """A frame that is shown again: both decoders write what they hold."""
@@ -118,17 +118,20 @@ class Comparison:
         self.leaf = list(frame.plan.leaves())[int(words[1])]
         return f"{lines[0]} ({self.leaf}, filter {frame.plan.filter})"
 
-    def compare_sequence(self, can_be_said):
-        """A sequence's slots hold what the program made, also past the true sides, and nothing filtered: where the encoder's
-        hold something else nothing can be said."""
-        if not can_be_said:
+    def compare_sequence(self, last):
+        """A sequence is to be what dav1d shows; where `last`, the last frame, has a plan before version 3, what the program made
+        of each frame.  Its slots hold what the program made, and nothing filtered: where the encoder's hold something else,
+        or dav1d something else than the encoder, nothing can be said."""
+        has_shown = last.plan.version == 3
+        if self.apart or last.filtered is not None or not last.whole() or has_shown and self.counts["encoder"]:
             self.sequence = "not said"
             return
+        wanted = self.shown if has_shown else b"".join(self.planes)
         made = subprocess.run([self.tools, "sequence"], input=read(self.folder, "sequence"), capture_output=True)
         if made.returncode:
             self.sequence = "refused: " + made.stderr.decode().strip()
         else:
-            self.sequence = "same" if made.stdout == b"".join(self.planes) else "differs"
+            self.sequence = "same" if made.stdout == wanted else "differs"
         if self.sequence != "same":
             self.counts["unlisted"] += 1
 

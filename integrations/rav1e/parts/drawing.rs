@@ -16,7 +16,7 @@ use crate::partition::{BlockSize, MvSubpelPrecision, PartitionType, RefType, ALL
 use crate::predict::PredictionMode::*;
 use crate::predict::{AngleDelta, PredictionMode};
 use crate::rdo::RDOType;
-use crate::recorder::setting;
+use crate::recorder::{earlier_versions, setting};
 use crate::tiling::TileStateMut;
 use crate::transform::{TxSize, TxType};
 use crate::util::Pixel;
@@ -182,13 +182,14 @@ fn leaf<T: Pixel, W: Writer>(
   );
 }
 
-/// A plan has no references on leaves with a side of 4.  The sharp filter is kept from chroma sides up to 4, where rav1e
-/// departs from AV1, unless RECORD_SHORT_SHARP is set.
+/// A plan has no references on leaves with a side of 4.  With plans of versions 1 and 2 the sharp filter is kept from chroma
+/// sides up to 4, where rav1e departs from AV1, unless RECORD_SHORT_SHARP is set.
 fn may_have_references<T: Pixel>(fi: &FrameInvariants<T>, bsize: BlockSize) -> bool {
   let (w, h) = (bsize.width(), bsize.height());
   let (xdec, ydec) = fi.sequence.chroma_sampling.get_decimation().unwrap_or((0, 0));
-  let sharp = fi.default_filter == crate::mc::FilterMode::SHARP && setting("RECORD_SHORT_SHARP").is_none();
-  fi.frame_type.has_inter() && w >= 8 && h >= 8 && !(sharp && (w >> xdec <= 4 || h >> ydec <= 4))
+  let sharp = fi.default_filter == crate::mc::FilterMode::SHARP;
+  let kept_off = sharp && earlier_versions() && setting("RECORD_SHORT_SHARP").is_none();
+  fi.frame_type.has_inter() && w >= 8 && h >= 8 && !(kept_off && (w >> xdec <= 4 || h >> ydec <= 4))
 }
 
 /// An angle step, where AV1 codes one: on directions, from 8x8 on in its order of sizes (4x16 and 16x4 stand behind).

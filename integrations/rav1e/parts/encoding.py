@@ -8,8 +8,9 @@ SWITCHES = {
     "--all-types": ("RECORD_ALL_TYPES", "try transform types on leaves with references"),
     "--no-edge-filter": ("RECORD_NO_EDGE_FILTER", "turn the intra edge filter off"),
     "--loop-filters": ("RECORD_LOOP_FILTERS", "leave deblocking, CDEF and restoration on"),
-    "--short-as-av1": ("RECORD_SHORT_AS_AV1", "take AV1's short filter for the sharp one, not rav1e's"),
-    "--short-sharp": ("RECORD_SHORT_SHARP", "draw the sharp filter along short sides, too"),
+    "--earlier-versions": ("RECORD_EARLIER_VERSIONS", "write plans of versions 1 and 2, whose sides are multiples of 8"),
+    "--short-as-av1": ("RECORD_SHORT_AS_AV1", "with plans of versions 1 and 2 take AV1's short filter for the sharp one"),
+    "--short-sharp": ("RECORD_SHORT_SHARP", "with such plans draw the sharp filter along short sides, too"),
     "--wrapping": ("RECORD_WRAPPING", "draw coefficients at depth 12 at which rav1e's identities wrap, too"),
 }
 VALUES = {

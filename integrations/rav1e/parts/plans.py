@@ -98,6 +98,8 @@ class Plan(Frame):
         super().__init__(width, height, depth, sampling)
         self.slots, self.mask = data[12:19], data[19]
         self.head = 20 + bin(self.mask).count("1") * self.size()
+        # What is coded, in luma: the least multiples of 8 that hold the frame.
+        self.columns, self.rows = (width + 7) // 8 * 8, (height + 7) // 8 * 8
 
     def with_references(self, planes):
         """The plan's bytes with other samples for each slot that it carries: `planes` by slot."""
@@ -107,14 +109,14 @@ class Plan(Frame):
     def leaves(self):
         """The leaves in coding order."""
         self.at = self.head
-        for y in range(0, self.height, 64):
-            for x in range(0, self.width, 64):
+        for y in range(0, self.rows, 64):
+            for x in range(0, self.columns, 64):
                 yield from self.node(x, y, 64)
         if self.at != len(self.data):
             raise ValueError(f"{len(self.data) - self.at} bytes are left")
 
     def node(self, x, y, side):
-        if x >= self.width or y >= self.height:
+        if x >= self.columns or y >= self.rows:
             return
         mark, = self.take("B")
         if mark == 3 and side > 8:
@@ -126,7 +128,7 @@ class Plan(Frame):
                 9: (side // 4, side)}[mark]
         for dy in range(0, side, h):
             for dx in range(0, side, w):
-                if x + dx < self.width and y + dy < self.height:
+                if x + dx < self.columns and y + dy < self.rows:
                     yield self.leaf(Leaf(mark, x + dx, y + dy, w, h))
 
     def take(self, form):
@@ -159,7 +161,7 @@ class Plan(Frame):
     def departure(self, leaf):
         """What docs/DIFFERENCES.md lists of this leaf, where rav1e departs from AV1, or None."""
         sides = (leaf.w >> self.xdec, leaf.h >> self.ydec)
-        if self.filter == 2 and leaf.references and min(sides) <= 4:
+        if self.version < 3 and self.filter == 2 and leaf.references and min(sides) <= 4:
             return "the sharp filter along a short side"
         if self.depth == 12 and any(wraps(*block) for block in self.transforms(leaf)):
             return "an identity that wraps at 32 bits"

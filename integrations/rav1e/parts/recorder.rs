@@ -63,6 +63,8 @@ impl Leaf {
 struct Recorder {
   folder: String,
   frame: usize,
+  width: usize,
+  height: usize,
   xdec: usize,
   ydec: usize,
   cols: usize,
@@ -100,11 +102,16 @@ pub fn edge_filter() -> bool {
   setting("RECORD_NO_EDGE_FILTER").is_none()
 }
 
-/// Which short filter stands for `filter` along sides up to 4, 0 the regular one and 1 the smooth one: rav1e's choice, or
-/// with RECORD_SHORT_AS_AV1 that of AV1, which takes the regular one for the sharp filter.
+/// Whether plans are of versions 1 and 2, whose sides are multiples of 8, in place of version 3.
+pub fn earlier_versions() -> bool {
+  setting("RECORD_EARLIER_VERSIONS").is_some()
+}
+
+/// Which short filter stands for `filter` along sides up to 4, 0 the regular one and 1 the smooth one: AV1's choice, which is
+/// the regular one for the sharp filter; with plans of versions 1 and 2 that of rav1e, unless RECORD_SHORT_AS_AV1 is set.
 pub fn short_filter(filter: usize) -> usize {
   static AS_AV1: OnceLock<bool> = OnceLock::new();
-  if *AS_AV1.get_or_init(|| setting("RECORD_SHORT_AS_AV1").is_some()) {
+  if *AS_AV1.get_or_init(|| !earlier_versions() || setting("RECORD_SHORT_AS_AV1").is_some()) {
     filter & 1
   } else {
     filter.min(1)
@@ -128,9 +135,13 @@ pub fn start<T: Pixel>(fi: &FrameInvariants<T>, fs: &FrameState<T>) {
   assert_eq!(fi.sequence.tiling.tile_count(), 1);
   let mut recorder = RECORDER.lock().unwrap();
   let frame = recorder.as_ref().map_or(0, |r| r.frame);
+  let coded = (4 * fi.w_in_b, 4 * fi.h_in_b);
+  let (width, height) = if earlier_versions() { coded } else { (fi.width, fi.height) };
   *recorder = Some(Recorder {
     folder,
     frame,
+    width,
+    height,
     xdec: fs.rec.planes[1].cfg.xdec,
     ydec: fs.rec.planes[1].cfg.ydec,
     cols: fi.w_in_b,
@@ -218,11 +229,11 @@ pub fn end() {
   });
 }
 
-/// The planes of `cols` by `rows` cells, as a plan's references and a trace's planes stand.
-fn write_planes<T: Pixel>(out: &mut Vec<u8>, frame: &Frame<T>, cols: usize, rows: usize, depth: usize) {
+/// The planes of so many columns and rows of luma, as a plan's references and a trace's planes stand.
+fn write_planes<T: Pixel>(out: &mut Vec<u8>, frame: &Frame<T>, width: usize, height: usize, depth: usize) {
   for plane in frame.planes.iter() {
-    let width = (cols * 4) >> plane.cfg.xdec;
-    let height = (rows * 4) >> plane.cfg.ydec;
+    let width = (width + plane.cfg.xdec) >> plane.cfg.xdec;
+    let height = (height + plane.cfg.ydec) >> plane.cfg.ydec;
     for row in plane.data_origin().chunks(plane.cfg.stride).take(height) {
       for &sample in &row[..width] {
         let sample = u16::cast_from(sample);
@@ -316,10 +327,19 @@ impl Recorder {
     }
   }
 
-  /// Whether the plan is one of version 2: some leaf is four times as long as it is wide, or as wide as it is long.
+  /// Whether some leaf is four times as long as it is wide, or as wide as it is long.
   fn has_quarters(&self) -> bool {
     let sizes = self.cells.iter().map(|&n| (self.leaves[n].size.width(), self.leaves[n].size.height()));
     sizes.into_iter().any(|(w, h)| w == 4 * h || h == 4 * w)
+  }
+
+  /// The letters of the plan's version.
+  fn letters(&self) -> &'static [u8; 4] {
+    match (earlier_versions(), self.has_quarters()) {
+      (false, _) => b"RPL3",
+      (true, true) => b"RPL2",
+      (true, false) => b"RPL1",
+    }
   }
 
   /// Bit s: some leaf is predicted from slot s.
@@ -332,16 +352,16 @@ impl Recorder {
 
   fn plan<T: Pixel>(&self, fi: &FrameInvariants<T>, mask: u8) -> (Vec<u8>, usize) {
     let depth = fi.sequence.bit_depth;
-    let mut plan = if self.has_quarters() { b"RPL2".to_vec() } else { b"RPL1".to_vec() };
-    plan.extend_from_slice(&(4 * self.cols as u16).to_le_bytes());
-    plan.extend_from_slice(&(4 * self.rows as u16).to_le_bytes());
+    let mut plan = self.letters().to_vec();
+    plan.extend_from_slice(&(self.width as u16).to_le_bytes());
+    plan.extend_from_slice(&(self.height as u16).to_le_bytes());
     let sampling = 2 - self.xdec - self.ydec;
     plan.extend([depth as u8, sampling as u8, fi.default_filter as u8, fi.sequence.enable_intra_edge_filter as u8]);
     plan.extend(fi.ref_frames.iter().map(|&slot| if fi.intra_only { 0 } else { slot }));
     plan.push(mask);
     for slot in (0..8).filter(|slot| mask >> slot & 1 == 1) {
       let held = fi.rec_buffer.frames[slot].as_ref().unwrap();
-      write_planes(&mut plan, &held.frame, self.cols, self.rows, depth);
+      write_planes(&mut plan, &held.frame, self.width, self.height, depth);
     }
     let head = plan.len();
     for y in (0..self.rows).step_by(SUPERBLOCK) {
@@ -368,7 +388,7 @@ pub fn finish<T: Pixel>(fi: &FrameInvariants<T>, fs: &FrameState<T>) {
     let mut trace = b"RTR1".to_vec();
     trace.extend_from_slice(&(plan.len() as u32).to_le_bytes());
     trace.extend_from_slice(&plan);
-    write_planes(&mut trace, &fs.rec, r.cols, r.rows, fi.sequence.bit_depth);
+    write_planes(&mut trace, &fs.rec, r.width, r.height, fi.sequence.bit_depth);
     std::fs::write(format!("{name}.trace"), &trace).unwrap();
     r.log(&format!(
       "coded {} shown {} refresh {} head {head} quantizer {} width {} height {}\n",
@@ -383,7 +403,7 @@ pub fn finish<T: Pixel>(fi: &FrameInvariants<T>, fs: &FrameState<T>) {
 pub fn filtered<T: Pixel>(fi: &FrameInvariants<T>, fs: &FrameState<T>) {
   if let Some(r) = RECORDER.lock().unwrap().as_ref().filter(|_| filters_on()) {
     let mut planes = vec![];
-    write_planes(&mut planes, &fs.rec, r.cols, r.rows, fi.sequence.bit_depth);
+    write_planes(&mut planes, &fs.rec, r.width, r.height, fi.sequence.bit_depth);
     std::fs::write(format!("{}/{:04}.filtered", r.folder, r.frame - 1), &planes).unwrap();
   }
 }

@@ -1,4 +1,4 @@
-use Rattle.av1_sequence.proofs.ReadFrames.{few_filters}
+use Rattle.av1_sequence.proofs.ReadEntries.{few_filters}
 use Rattle.av1_sequence.proofs.container.head.Goals as goal
 
 pub returns-clause-head : goal.returns-clause-head
