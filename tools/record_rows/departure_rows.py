@@ -1,4 +1,4 @@
-"""Runs where plans aren't AV1. They stand first, for docs/DIFFERENCES.md names them by their numbers."""
+"""Runs where plans aren't AV1, and the same plans of the third version, which are. They stand first, for docs/DIFFERENCES.md names them by their numbers."""
 from plans import DOWN_TO_4, REFERRING, SINGLE, changed, header, leaf, planes, tiles
 from runs import NEVER, TOOLS
 
@@ -19,3 +19,5 @@ def record(runs):
     for plan in (SHARP_IN_CHROMA, WRAPPING_4, WRAPPING_16):
         runs.add("departures", plan)
     runs.add("departures", TILES_WITH_MOTION, ("tiles",), kind=TOOLS, out=(2**20, 100, NEVER))
+    for plan in (SHARP_IN_CHROMA, WRAPPING_4, WRAPPING_16):
+        runs.add("departures, in the third version", b"RPL3" + plan[4:])

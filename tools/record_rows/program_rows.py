@@ -216,7 +216,7 @@ def sides(add):
         add("sides, an earlier version", changed(ONE_SAMPLE, (3, version)))
         add("sides, an earlier version", changed(moved(0, 32), (3, version)))
     for row, col in ((0, 32), (0, 0), (0, 8), (0, 4), (3, 5), (32, 0), (-32, -32), (0, 72), (0, 16383), (16383, -16383), (16384, 0), (0, 16384)):
-        for filter in (0, 1, 3):
+        for filter in range(4):
             add("sides, vector", changed(moved(row, col), (10, filter)))
     for count in (*range(0, 24), 91, 92, 163, 164, 235, 236, 237, 240):
         add("sides, cut", moved(0, 32)[:count])
@@ -226,23 +226,16 @@ def sides(add):
         add("sides, write", NINE_BY_NINE, out=(131, 7, call))
 
 
-# Filters that are the same by rav1e and by AV1 along short sides.
-ALIKE = (0, 1, 3)
-
-
 def plans_of_any_sides(runs):
-    """Random plans of the third version, of every sampling and depth, good and broken: those of which rav1e's code and AV1 say the same. So leaves that are
-    refused for their mode, as some with a side of 4 are, stay out, and at depth 12 coefficients that may wrap in an identity."""
+    """Random plans of the third version, of every sampling and depth, good and broken. Leaves that are refused for their mode, as those from references with a
+    side of 4 are, stay out."""
     kinds = [(sampling, depth) for sampling in range(3) for depth in (8, 10, 12)]
     for seed in range(198):
         sampling, depth = kinds[seed % len(kinds)]
-        options = [f"samp={sampling}", f"depth={depth}", "magic=3", f"maxside={24 if seed < 189 else 136}", f"filter={ALIKE[seed % 7 % 3]}"]
-        options += [f"mask={MASKS[seed % len(MASKS)]}"] + ["maxcoef=100000"] * (depth == 12)
+        options = [f"samp={sampling}", f"depth={depth}", "magic=3", f"maxside={24 if seed < 189 else 136}", f"filter={seed % 7 % 4}"]
         for kind in ("random", "randombad"):
-            plan = runs.oracle.made(kind, str(seed), *options)
-            status, _, line = runs.oracle.run((), plan)
-            may_wrap = kind == "randombad" and depth == 12 and status == 0
-            if len(plan) < 40_000 and not line.endswith(b"mode\n") and not may_wrap:
+            plan = runs.oracle.made(kind, str(seed), *options, f"mask={MASKS[seed % len(MASKS)]}")
+            if len(plan) < 40_000 and not runs.oracle.run((), plan)[2].endswith(b"mode\n"):
                 runs.add(kind + " of any sides", plan, piece=4096, out=(2**20, 65536, NEVER))
 
 

@@ -8,7 +8,8 @@ RAV1E is the source of rav1e 0.8.1 (the folder that has src/), WORK a folder for
 programs are to. From its standard input to its standard output it takes a plan, and with `tools WORD` what `av1_tools WORD` takes; it has
 their statuses and lines, and `make N` and `sum N`. With `random SEED`, `randomtiles SEED`, `randomtrace SEED`, `randomsequence SEED`, and
 `randombad ..` for `random ..`, it writes a random plan or file of a seed, within limits such as `maxside=32`, and `magic=3` for a plan of the
-third version. Of those it pads references from the sides that are shown, as rav1e's `Plane::pad` does. FRAMES are rows that
+third version. Of those it pads references from the sides that are shown, as rav1e's `Plane::pad` does, and in rav1e's code it has AV1's short filter
+in place of the sharp one, and identities in 64 bits, as integrations/rav1e/parts/edits.py has them. FRAMES are rows that
 `integrations/rav1e/corpus` wrote; without them FILE keeps those that it has.
 
 It needs `rustc` and Python 3 alone, takes a few minutes, and writes the same bytes each time. No answer comes from this project: of calls on
