@@ -80,14 +80,14 @@ CHAPTERS = [
      Prediction from one reference or two: the filters (Subpel_Filters), the block inter prediction process with its
      two roundings, the motion vector scaling process at a scale of one, and the average of two predictions. References
      are the plan's own planes; a place outside of them reads the nearest visible sample. Along sides up to 4 the sharp
-     filter is rav1e's, and [not AV1's](DIFFERENCES.md#where-plans-arent-av1).""",
+     filter is AV1's in the third version, and before it rav1e's, which [isn't](DIFFERENCES.md#where-plans-arent-av1).""",
      "av1_blocks/Filters av1_frame/Slices av1_inter/Filters av1_inter/Motion av1_inter/Reference "
      "av1_inter/Prediction av1_references/References"),
     ("Transforms", """
      The residue of a transform block: the 2D inverse transform process over the inverse DCT, ADST, identity and
      Walsh-Hadamard processes, step by step with every rounding and clamp, as butterflies and not as sums of
      cosines. Sums of products wrap at 32 bits, as in a release build of rav1e; in identities at depth 12 that
-     [isn't AV1's](DIFFERENCES.md#where-plans-arent-av1).""",
+     [isn't AV1's](DIFFERENCES.md#where-plans-arent-av1), so that in the third version those along rows don't.""",
      "av1_dct/Arithmetic av1_dct/Operations av1_dct/Cosine av1_itx/Adst av1_itx/Identity av1_itx/Walsh "
      "av1_itx/Kinds av1_itx/Networks av1_itx/Residue"),
     ("Steps and the canvas", """

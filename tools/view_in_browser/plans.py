@@ -192,15 +192,15 @@ def differing_everywhere(plan, planes):
 
 
 
-def sharp(filter_number=2, column=8):
+def sharp(filter_number=2, column=8, version=1):
     """One leaf of 8x8 in 4:2:0 from a reference whose U has a stripe, by this filter and a vector of so many eighths to the right."""
     stripe = bytes([0, 128, 0, 0])
-    header = b"RPL1" + struct.pack("<HHBBBB", 8, 8, 8, 0, filter_number, 0) + bytes(7) + b"\1"
+    header = b"RPL%d" % version + struct.pack("<HHBBBB", 8, 8, 8, 0, filter_number, 0) + bytes(7) + b"\1"
     return header + bytes([128]) * 64 + 4 * stripe + bytes([128]) * 16 + bytes([3, 3, 3, 0, 19, 1]) + struct.pack("<hh", 0, column) + bytes([1]) + bytes(8)
 
 
-def identity(value, kind=9, side=4):
+def identity(value, kind=9, side=4, version=1):
     """At depth 12 in 4:4:4 leaves of this side, the first of them with one coefficient and a transform of this type."""
-    header = b"RPL1" + struct.pack("<HHBBBB", *2 * [max(side, 8)], 12, 2, 0, 0) + bytes(8)
+    header = b"RPL%d" % version + struct.pack("<HHBBBB", *2 * [max(side, 8)], 12, 2, 0, 0) + bytes(8)
     leaf = bytes([0, 0, 0, 0]) + bytes([0 if side == 4 else 2, kind, 0]) + struct.pack("<HBHi", 1, 0, 0, value) + bytes(4)
     return header + (bytes([3, 3, 3, 3]) + leaf + 3 * bytes(13) if side == 4 else bytes([3, 3, 0]) + leaf)

@@ -146,10 +146,10 @@ def departures(browser, pages, checks, options):
     """Leaves that depart from AV1, and plans that differ from these by a little and don't."""
     held.look_at_departures(browser, checks, pages, [
         ("sharp", plans.sharp(), [0]), ("smooth", plans.sharp(1), []), ("sharp without a fraction", plans.sharp(2, 16), []),
-        ("sharp to the left", plans.sharp(2, -9), [0]), ("identity of 4", plans.identity(370703), [0]), ("small identity of 4", plans.identity(370702), []),
+        ("sharp to the left", plans.sharp(2, -9), [0]), ("sharp as in AV1", plans.sharp(2, 8, 3), []), ("identity of 4", plans.identity(370703), [0]), ("small identity of 4", plans.identity(370702), []),
         ("negative identity of 4", plans.identity(-370704), [0]), ("small negative identity of 4", plans.identity(-370703), []),
         ("identity of columns", plans.identity(370703, 11), []), ("identity of 16", plans.identity(185352, 9, 16), [0]),
-        ("small identity of 16", plans.identity(185351, 9, 16), []),
+        ("small identity of 16", plans.identity(185351, 9, 16), []), ("identity of 16 as in AV1", plans.identity(185352, 9, 16, 3), []),
     ])
 
 

@@ -1,5 +1,5 @@
 -- A residue is that of the coefficients that its transform has, whatever stands behind them; and one of cut coefficients.
-use Rattle.std.proofs.Common.{ℕ, ℤ, pos, ◌≡◌, ◌∙◌, ◌+◌, ◌*◌, ◌<◌, ◌≤◌, List, length, take, inl, inr, refl, arith, sym, subst, ap, ◌+ℤ◌}
+use Rattle.std.proofs.Common.{ℕ, ℤ, pos, ◌≡◌, ◌∙◌, ◌+◌, ◌*◌, ◌<◌, ◌≤◌, List, length, take, false, inl, inr, refl, arith, sym, subst, ap, ◌+ℤ◌}
 use Rattle.std.specs.Prelude.{if◌then◌else◌, nat_lt}
 use Rattle.std.proofs.lemmas.Bool.{cases_lt}
 use Rattle.std.proofs.lemmas.List.{get_or-map, get_or-take, get_or_past, length-map, length-take}
@@ -18,8 +18,8 @@ use Rattle.av1_frame.proofs.Paint.{paint_same}
 use Rattle.av1_inter.proofs.Rows.{painted_sample}
 use Rattle.av1_itx.specs.Kinds.{column_kind, row_kind}
 use Rattle.av1_itx.specs.Networks.{network}
-use Rattle.av1_itx.specs.Residue.{column_network, column_power, column_range, column_shift, residue, row_input, row_power, row_range, row_shift, row_value}
-use Rattle.av1_itx.specs.Residue.{transformed_column, transformed_row}
+use Rattle.av1_itx.specs.Residue.{column_network, column_power, column_range, column_shift, residue, residue_by, row_input, row_power, row_range}
+use Rattle.av1_itx.specs.Residue.{row_shift, row_value, transformed_column, transformed_row}
 use Rattle.av1_itx.proofs.Passes.{input_past, row_is, row_past}
 use Rattle.av1_lists.proofs.Lists.{by_index-same}
 use Rattle.av1_calls.specs.Transforms.{cut_to}
@@ -40,19 +40,19 @@ module _ (size : TxSize) (type : TxType) (depth : ℕ) (xs ys : List ℤ) (same 
         | inr b ↦ sym (input_past size type depth xs r c b) ∙ input_past size type depth ys r c b
       ]
 
-  row_same : (r c : ℕ) → at (transformed_row size type depth xs r) c ≡ at (transformed_row size type depth ys r) c
+  row_same : (r c : ℕ) → at (transformed_row false size type depth xs r) c ≡ at (transformed_row false size type depth ys r) c
   row_same r c =
       elim (cases_lt r (coded (tx_height size))) [
-        | inl b ↦ sym (row_is size type depth xs r c b)
+        | inl b ↦ sym (row_is false size type depth xs r c b)
             ∙ ap (λ zs. at (network (row_kind type) (row_range depth) (row_power size) zs) c)
             (by_index-same (tx_width size) (row_input size type depth xs r) (row_input size type depth ys r) (λ k _. input_same r k b))
-            ∙ row_is size type depth ys r c b
-        | inr b ↦ row_past size type depth xs r c b ∙ sym (row_past size type depth ys r c b)
+            ∙ row_is false size type depth ys r c b
+        | inr b ↦ row_past false size type depth xs r c b ∙ sym (row_past false size type depth ys r c b)
       ]
 
   -- their residues are the same
   pub residue_same : (r c : ℕ) → residue size type depth xs r c ≡ residue size type depth ys r c
-  unfolding residue transformed_column column_network
+  unfolding residue_by transformed_column column_network
   residue_same r c =
       ap (λ zs. round_shift (at (network (column_kind type) (column_range depth) (column_power size) zs) r) (column_shift type))
       (by_index-same (tx_height size) _ _ (λ y _. ap (λ z. clamp_value (round_shift z (row_shift size)) (column_range depth)) (row_same y c)))

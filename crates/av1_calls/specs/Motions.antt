@@ -1,13 +1,13 @@
 -- What the calls on blocks of references ask of their arguments, and what they leave.
-use Rattle.std.specs.Prelude.{◌≡◌, ◌≢◌, ◌⊎◌, ◌==◌, if◌then◌else◌, Bool, ℕ, ◌+◌, ◌-◌, ◌*◌, ◌<◌, ◌≤◌, nat_lt, List}
+use Rattle.std.specs.Prelude.{◌≡◌, ◌≢◌, ◌⊎◌, ◌==◌, if◌then◌else◌, Bool, ℕ, ◌+◌, ◌-◌, ◌*◌, ◌<◌, ◌≤◌, true, List}
 use Rattle.std.specs.Prelude.{length, slice_index, ℤ}
 use Rattle.av1_blocks.specs.Depths.{IsDepth}
 use Rattle.av1_blocks.specs.declared.mc.FilterMode.{FilterMode}
-use Rattle.av1_blocks.specs.declared.mc.FilterMode.TheVariants as filters
+use Rattle.av1_blocks.specs.declared.mc.FilterMode.TheVariants.{SHARP}
 use Rattle.av1_frame.specs.Areas.{AreRows}
 use Rattle.av1_frame.specs.Samples.{paint}
 use Rattle.av1_frame.specs.declared.plane_region.StoredArea.{StoredArea}
-use Rattle.av1_inter.specs.Filters.{filter_of}
+use Rattle.av1_inter.specs.Filters.{filter_of, mode_along}
 use Rattle.av1_inter.specs.Motion.{averaged, entry, prepared, single}
 use Rattle.av1_inter.specs.Places.{AreWithinDepth}
 use Rattle.av1_frame.specs.Planes.{bare_config}
@@ -17,7 +17,7 @@ use Rattle.av1_calls.specs.declared.argument.BadArgument.{BadArgument}
 use Rattle.av1_calls.specs.declared.argument.BadArgument.TheVariants as bad
 use Rattle.av1_calls.specs.declared.motion.MotionBlock.{MotionBlock}
 use Rattle.av1_calls.specs.declared.motion.Place.{Place}
-use Rattle.av1_calls.specs.declared.motion.TheConstants.{RAV1E_SHARP, SHARP}
+use Rattle.av1_calls.specs.declared.motion.TheConstants.{RAV1E_SHARP}
 use Rattle.av1_calls.specs.declared.status.TheConstants.{BAD_AREA, BAD_DEPTH, BAD_FRACTION, BAD_MODE, BAD_SAMPLE}
 use Rattle.av1_calls.specs.declared.status.TheConstants.{BAD_SIZE, DONE, TOO_SHORT}
 
@@ -104,14 +104,9 @@ pub record AreOfDepth (depth : ℕ) (from : Place) (samples : List ℕ) (block :
 
 -- ---- what is written
 
--- the sharp filter along a side: up to 4 samples AV1 takes the regular one
-abbrev pub sharp_along : (side : ℕ) → FilterMode
-sharp_along side = if nat_lt 4 side then filters.SHARP else filters.REGULAR
-
--- the filter of a number along a side; rav1e's sharp one is `SHARP` of `av1_inter` along all sides
+-- the filter of a number along a side: AV1's; rav1e's sharp one is `SHARP` of `av1_inter` along all sides
 abbrev pub filter_along : (number side : ℕ) → FilterMode
-filter_along number side =
-    if number == RAV1E_SHARP then filters.SHARP else if number == SHARP then sharp_along side else filter_mode number
+filter_along number side = if number == RAV1E_SHARP then SHARP else mode_along true (filter_mode number) side
 
 -- the weights of the filters for a block: along its rows, and down its columns
 abbrev pub across_of : MotionBlock → List ℤ

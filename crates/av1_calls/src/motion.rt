@@ -2,12 +2,13 @@
 ghost use Rattle.std.specs.Prelude.{◌≡◌, true, ◌*◌, IfOk, IfErr, length, take};
 ghost use Rattle.av1_calls.specs.Motions.{AreFilters, AreFractions, AreOfDepth, AreSides, IsAverage, IsAverageFault, IsFilterNumber, IsMotion};
 ghost use Rattle.av1_calls.specs.Motions.{IsMotionFault, IsPrep, IsPrepFault, IsPut, IsPutFault, IsSampleFault, IsSource, config_of, filter_along};
-ghost use Rattle.av1_calls.specs.Motions.{read_for, rectangle_at, rows_for, sharp_along};
+ghost use Rattle.av1_calls.specs.Motions.{read_for, rectangle_at, rows_for};
 
 use crate::argument::{BadArgument, are_rows, filter_mode, is_depth};
 use crate::samples::are_within;
 use av1_blocks::FilterMode;
 use av1_frame::{Pixel, PlaneConfig, StoredArea};
+use av1_inter::mode_along;
 
 /// The number of the sharp filter.
 pub const SHARP: u8 = 2;
@@ -92,18 +93,6 @@ fn are_fractions(block: MotionBlock) -> bool
     block.col_frac < 16 && block.row_frac < 16
 }
 
-// What AV1 takes for the sharp filter along a side.
-#[inline(always)]
-fn sharp_along(side: usize) -> FilterMode
-    ensures { result ≡ sharp_along side }
-{
-    if side > 4 {
-        FilterMode::SHARP
-    } else {
-        FilterMode::REGULAR
-    }
-}
-
 /// The filter of a number along a side of a block. Up to 4 samples AV1 takes the regular filter for the sharp one.
 #[inline(always)]
 pub(crate) fn filter_along(number: u8, side: usize) -> FilterMode
@@ -111,10 +100,8 @@ pub(crate) fn filter_along(number: u8, side: usize) -> FilterMode
 {
     if number == RAV1E_SHARP {
         FilterMode::SHARP
-    } else if number == SHARP {
-        sharp_along(side)
     } else {
-        filter_mode(number)
+        mode_along(true, filter_mode(number), side)
     }
 }
 

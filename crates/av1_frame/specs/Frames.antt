@@ -1,5 +1,5 @@
 -- Frames and their slots.
-use Rattle.std.specs.Prelude.{ℕ, zero, suc, ◌/◌, List, Bool, Option, None, replicate, slice_index_or}
+use Rattle.std.specs.Prelude.{ℕ, zero, suc, ◌/◌, List, Bool, false, Option, None, replicate, slice_index_or}
 use Rattle.std.specs.Option.{option_map}
 use Rattle.av1_blocks.specs.declared.mc.FilterMode.{FilterMode}
 use Rattle.av1_frame.specs.declared.plane.Plane.{Plane}
@@ -12,6 +12,7 @@ new_frame width height filter depth edge_filter ref_frames = record {
   w_in_b = width / 4;
   h_in_b = height / 4;
   default_filter = filter;
+  short_by_av1 = false;
   bit_depth = depth;
   enable_intra_edge_filter = edge_filter;
   ref_frames = ref_frames;

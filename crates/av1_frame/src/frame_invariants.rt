@@ -20,6 +20,9 @@ pub struct FrameInvariants<T> {
     pub h_in_b: usize,
     /// The interpolation filter.
     pub default_filter: FilterMode,
+    /// Whether the sharp filter gives way to the regular one along sides up to 4, as in AV1. In rav1e, and in a new
+    /// frame, it gives way to the smooth one.
+    pub short_by_av1: bool,
     /// The depth of samples.
     pub bit_depth: usize,
     /// Whether the edges of directional prediction are filtered.
@@ -51,6 +54,7 @@ impl<T: Pixel> FrameInvariants<T> {
             w_in_b: width / 4,
             h_in_b: height / 4,
             default_filter,
+            short_by_av1: false,
             bit_depth,
             enable_intra_edge_filter,
             ref_frames,

@@ -35,20 +35,20 @@ module _ (p q : ReferencePlane) (same : ShowSame p q) where
   moved_same x y mv =
       fun_ext (λ c. fun_ext (λ r. same.samples _ _ (visible_below q.width _ same.some_columns) (visible_below q.height _ same.some_rows)))
 
-  pub single_in_same : (depth : ℕ) (mode : FilterMode) (x y : ℤ) (mv : MotionVector) (width height r c : ℕ)
+  pub single_in_same : (depth : ℕ) (mode : ℕ → FilterMode) (x y : ℤ) (mv : MotionVector) (width height r c : ℕ)
       → single_in depth mode p x y mv width height r c ≡ single_in depth mode q x y mv width height r c
   unfolding with_samples
   single_in_same depth mode x y mv width height r c =
       let fx = sixteenths mv.col q.xdec in
       let fy = sixteenths mv.row q.ydec in
       ap (λ u. single_in depth mode u x y mv width height r c) is_first
-      ∙ ap (λ s. single depth fx fy (filter_of mode fx width) (filter_of mode fy height) s r c) (moved_same x y mv)
+      ∙ ap (λ s. single depth fx fy (filter_of (mode width) fx width) (filter_of (mode height) fy height) s r c) (moved_same x y mv)
 
-  pub prepared_in_same : (depth : ℕ) (mode : FilterMode) (x y : ℤ) (mv : MotionVector) (width height r c : ℕ)
+  pub prepared_in_same : (depth : ℕ) (mode : ℕ → FilterMode) (x y : ℤ) (mv : MotionVector) (width height r c : ℕ)
       → prepared_in depth mode p x y mv width height r c ≡ prepared_in depth mode q x y mv width height r c
   unfolding with_samples
   prepared_in_same depth mode x y mv width height r c =
       let fx = sixteenths mv.col q.xdec in
       let fy = sixteenths mv.row q.ydec in
       ap (λ u. prepared_in depth mode u x y mv width height r c) is_first
-      ∙ ap (λ s. prepared depth fx fy (filter_of mode fx width) (filter_of mode fy height) s r c) (moved_same x y mv)
+      ∙ ap (λ s. prepared depth fx fy (filter_of (mode width) fx width) (filter_of (mode height) fy height) s r c) (moved_same x y mv)

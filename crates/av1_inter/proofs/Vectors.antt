@@ -128,21 +128,25 @@ pub fraction_is : (r m : ℤ) (d e : ℕ) → FitsSigned w32 r → FitsSigned w1
 fraction_is r m d e fr fm s h =
     ap unsigned_abs (to_z-of_z w32 r fr ∙ h) ∙ ap (λ z. sixteenths z d) (to_z-of_z w16 m fm) ∙ ap (λ n. sixteenths m n) s
 
-pub single_is : (depth : ℕ) (mode : FilterMode) (w h fx gx fy gy : ℕ) (s t : ℕ → ℕ → ℕ) → fx ≡ gx → fy ≡ gy
+pub single_is : (depth : ℕ) (mx my nx ny : FilterMode) (w h fx gx fy gy : ℕ) (s t : ℕ → ℕ → ℕ) → mx ≡ nx → my ≡ ny → fx ≡ gx → fy ≡ gy
     → ((x y : ℕ) → x < w + 7 → y < h + 7 → s x y ≡ t x y) → (r c : ℕ) → r < h → c < w
-    → single depth fx fy (filter_of mode fx w) (filter_of mode fy h) s r c ≡ single depth gx gy (filter_of mode gx w) (filter_of mode gy h) t r c
-single_is depth mode w h fx gx fy gy s t ex ey same r c in_rows in_columns =
-    ap (λ n. single depth n fy (filter_of mode n w) (filter_of mode fy h) s r c) ex
-    ∙ ap (λ n. single depth gx n (filter_of mode gx w) (filter_of mode n h) s r c) ey
-    ∙ single_moved depth (filter_of mode gx w) (filter_of mode gy h) s t r c c (λ x y a b. same (c + x) (r + y) (omega arith) (omega arith)) gx gy
+    → single depth fx fy (filter_of mx fx w) (filter_of my fy h) s r c ≡ single depth gx gy (filter_of nx gx w) (filter_of ny gy h) t r c
+single_is depth mx my nx ny w h fx gx fy gy s t mx_is my_is ex ey same r c in_rows in_columns =
+    ap (λ m. single depth fx fy (filter_of m fx w) (filter_of my fy h) s r c) mx_is
+    ∙ ap (λ m. single depth fx fy (filter_of nx fx w) (filter_of m fy h) s r c) my_is
+    ∙ ap (λ n. single depth n fy (filter_of nx n w) (filter_of ny fy h) s r c) ex
+    ∙ ap (λ n. single depth gx n (filter_of nx gx w) (filter_of ny n h) s r c) ey
+    ∙ single_moved depth (filter_of nx gx w) (filter_of ny gy h) s t r c c (λ x y a b. same (c + x) (r + y) (omega arith) (omega arith)) gx gy
 
-pub prepared_is : (depth : ℕ) (mode : FilterMode) (w h fx gx fy gy : ℕ) (s t : ℕ → ℕ → ℕ) → fx ≡ gx → fy ≡ gy
+pub prepared_is : (depth : ℕ) (mx my nx ny : FilterMode) (w h fx gx fy gy : ℕ) (s t : ℕ → ℕ → ℕ) → mx ≡ nx → my ≡ ny → fx ≡ gx → fy ≡ gy
     → ((x y : ℕ) → x < w + 7 → y < h + 7 → s x y ≡ t x y) → (r c : ℕ) → r < h → c < w
-    → prepared depth fx fy (filter_of mode fx w) (filter_of mode fy h) s r c ≡ prepared depth gx gy (filter_of mode gx w) (filter_of mode gy h) t r c
-prepared_is depth mode w h fx gx fy gy s t ex ey same r c in_rows in_columns =
-    ap (λ n. prepared depth n fy (filter_of mode n w) (filter_of mode fy h) s r c) ex
-    ∙ ap (λ n. prepared depth gx n (filter_of mode gx w) (filter_of mode n h) s r c) ey
-    ∙ prepared_moved depth (filter_of mode gx w) (filter_of mode gy h) s t r c c (λ x y a b. same (c + x) (r + y) (omega arith) (omega arith)) gx gy
+    → prepared depth fx fy (filter_of mx fx w) (filter_of my fy h) s r c ≡ prepared depth gx gy (filter_of nx gx w) (filter_of ny gy h) t r c
+prepared_is depth mx my nx ny w h fx gx fy gy s t mx_is my_is ex ey same r c in_rows in_columns =
+    ap (λ m. prepared depth fx fy (filter_of m fx w) (filter_of my fy h) s r c) mx_is
+    ∙ ap (λ m. prepared depth fx fy (filter_of nx fx w) (filter_of m fy h) s r c) my_is
+    ∙ ap (λ n. prepared depth n fy (filter_of nx n w) (filter_of ny fy h) s r c) ex
+    ∙ ap (λ n. prepared depth gx n (filter_of nx gx w) (filter_of ny n h) s r c) ey
+    ∙ prepared_moved depth (filter_of nx gx w) (filter_of ny gy h) s t r c c (λ x y a b. same (c + x) (r + y) (omega arith) (omega arith)) gx gy
 
 -- the visible samples of a padded plane are those that it had
 pub visible_stays : {T : Type 0} (num : T → ℕ) (p : Plane T) (x y : ℕ) → IsWhole p → x < p.plane_cfg.width → y < p.plane_cfg.height →

@@ -24,17 +24,18 @@ pub moved_within : (depth : ℕ) (reference : ReferencePlane) (x y : ℤ) (mv : 
     → moved_in reference x y mv c r < 2 ^ depth
 moved_within depth reference x y mv c r w h within = within _ _ (visible_below reference.width _ w) (visible_below reference.height _ h)
 
-pub single_prediction_within : (depth : ℕ) (mode : FilterMode) (reference : ReferencePlane) (mv : MotionVector) (a : VisibleArea) (r c : ℕ)
+pub single_prediction_within : (depth : ℕ) (mode : ℕ → FilterMode) (reference : ReferencePlane) (mv : MotionVector) (a : VisibleArea) (r c : ℕ)
     → 0 < reference.width → 0 < reference.height
     → ((x y : ℕ) → x < reference.width → y < reference.height → reference.sample x y < 2 ^ depth)
     → single_prediction depth mode reference mv a r c < 2 ^ depth
 single_prediction_within depth mode reference mv a r c w h within =
     let fx = sixteenths mv.col reference.xdec in
     let fy = sixteenths mv.row reference.ydec in
-    single_within depth fx fy (filter_of mode fx a.width) (filter_of mode fy a.height) (moved_in reference (pos a.x) (pos a.y) mv) r c
+    single_within depth fx fy (filter_of (mode a.width) fx a.width) (filter_of (mode a.height) fy a.height) (moved_in reference (pos a.x) (pos a.y) mv) r c
     (moved_within depth reference (pos a.x) (pos a.y) mv (c + 3) (r + 3) w h within)
 
 -- a mean of two is clipped, whatever the references hold
-pub compound_prediction_within : (depth : ℕ) (mode : FilterMode) (first second : ReferencePlane) (first_mv second_mv : MotionVector) (a : VisibleArea) (r c : ℕ)
+pub compound_prediction_within : (depth : ℕ) (mode : ℕ → FilterMode) (first second : ReferencePlane) (first_mv second_mv : MotionVector) (a : VisibleArea)
+    (r c : ℕ)
     → compound_prediction depth mode first second first_mv second_mv a r c < 2 ^ depth
 compound_prediction_within depth mode first second first_mv second_mv a r c = clip_within depth _

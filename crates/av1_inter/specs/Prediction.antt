@@ -10,16 +10,18 @@ use Rattle.av1_frame.specs.declared.plane_region.PlaneRegionMut.{PlaneRegionMut}
 use Rattle.av1_frame.specs.Frames.{slot_plane}
 use Rattle.av1_frame.specs.Regions.{painted}
 use Rattle.av1_inter.specs.Motion.{averaged}
-use Rattle.av1_inter.specs.Reference.{moved_prepared, moved_single, prepared_in, reference_of, ReferencePlane}
-use Rattle.av1_inter.specs.Reference.{single_in, slot_of, vector_of}
+use Rattle.av1_inter.specs.Reference.{frame_filter, moved_prepared, moved_single, prepared_in, reference_of}
+use Rattle.av1_inter.specs.Reference.{ReferencePlane, single_in, slot_of, vector_of}
 
--- the sample at row r and column c of a plane's area that is predicted from one reference
-abbrev pub single_prediction : (depth : ℕ) → FilterMode → ReferencePlane → MotionVector → VisibleArea → (r c : ℕ) → ℕ
+-- the sample at row r and column c of a plane's area that is predicted from one reference: `mode` is the filter along a
+-- side of it
+abbrev pub single_prediction : (depth : ℕ) → (mode : (side : ℕ) → FilterMode) → ReferencePlane → MotionVector →
+    VisibleArea → (r c : ℕ) → ℕ
 single_prediction depth mode reference mv a r c =
     single_in depth mode reference (pos a.x) (pos a.y) mv a.width a.height r c
 
 -- and of one that is predicted from two, each with its vector
-abbrev pub compound_prediction : (depth : ℕ) → FilterMode → (first second : ReferencePlane) →
+abbrev pub compound_prediction : (depth : ℕ) → (mode : (side : ℕ) → FilterMode) → (first second : ReferencePlane) →
     (first_mv second_mv : MotionVector) → VisibleArea → (r c : ℕ) → ℕ
 compound_prediction depth mode first second first_mv second_mv a r c =
     averaged depth (prepared_in depth mode first (pos a.x) (pos a.y) first_mv a.width a.height r c)
@@ -30,13 +32,13 @@ compound_prediction depth mode first second first_mv second_mv a r c =
 abbrev pub single_pixel : {T : Type 0} → (num : T → ℕ) (pixel : ℕ → T) → FrameInvariants T → Plane T → (x y : ℤ) →
     MotionVector → (width height : ℕ) → (r c : ℕ) → T → T
 single_pixel num pixel fi plane x y mv width height r c _ =
-    pixel (moved_single num fi.bit_depth fi.default_filter plane x y mv width height r c)
+    pixel (moved_single num fi.bit_depth (frame_filter fi) plane x y mv width height r c)
 
 abbrev pub compound_pixel : {T : Type 0} → (num : T → ℕ) (pixel : ℕ → T) → FrameInvariants T →
     (first second : Plane T) → (x y : ℤ) → List MotionVector → (width height : ℕ) → (r c : ℕ) → T → T
 compound_pixel num pixel fi first second x y mvs width height r c _ = pixel (averaged fi.bit_depth
-    (moved_prepared num fi.bit_depth fi.default_filter first x y (vector_of mvs 0) width height r c)
-    (moved_prepared num fi.bit_depth fi.default_filter second x y (vector_of mvs 1) width height r c))
+    (moved_prepared num fi.bit_depth (frame_filter fi) first x y (vector_of mvs 0) width height r c)
+    (moved_prepared num fi.bit_depth (frame_filter fi) second x y (vector_of mvs 1) width height r c))
 
 -- a block at column x and row y was predicted from plane p of one reference, where its slot is filled
 abbrev pub PredictsSingle : {T : Type 0} → (num : T → ℕ) (pixel : ℕ → T) → FrameInvariants T → (p : ℕ) → RefType →

@@ -12,7 +12,7 @@ use Rattle.av1_frame.specs.Frames.{slot_plane}
 use Rattle.av1_frame.specs.declared.plane.Plane.{Plane}
 use Rattle.av1_frame.specs.Planes.{IsWhole, sample_at}
 use Rattle.av1_frame.specs.Slices.{IsStoredPlace, nearest_visible, stored_sample}
-use Rattle.av1_inter.specs.Filters.{filter_of}
+use Rattle.av1_inter.specs.Filters.{filter_of, mode_along}
 use Rattle.av1_inter.specs.Motion.{prepared, single}
 
 -- the whole samples that a component of a vector, in eighths of a luma sample, moves a block in a plane of this
@@ -43,21 +43,23 @@ abbrev pub moved_in : ReferencePlane → (x y : ℤ) → MotionVector → (c r :
 moved_in reference x y mv c r = nearest_in reference (x +ℤ (whole_part mv.col reference.xdec -ℤ pos 3) +ℤ pos c)
     (y +ℤ (whole_part mv.row reference.ydec -ℤ pos 3) +ℤ pos r)
 
--- the sample at row r and column c of a block of these sides at column x and row y that is predicted from one reference
-abbrev pub single_in : (depth : ℕ) → FilterMode → ReferencePlane → (x y : ℤ) → MotionVector → (width height : ℕ) →
-    (r c : ℕ) → ℕ
+-- The sample at row r and column c of a block of these sides at column x and row y that is predicted from one
+-- reference: `mode` is the filter along a side.
+abbrev pub single_in : (depth : ℕ) → (mode : (side : ℕ) → FilterMode) → ReferencePlane → (x y : ℤ) → MotionVector →
+    (width height : ℕ) → (r c : ℕ) → ℕ
 single_in depth mode reference x y mv width height =
     let fx = sixteenths mv.col reference.xdec in
     let fy = sixteenths mv.row reference.ydec in
-    single depth fx fy (filter_of mode fx width) (filter_of mode fy height) (moved_in reference x y mv)
+    single depth fx fy (filter_of (mode width) fx width) (filter_of (mode height) fy height) (moved_in reference x y mv)
 
 -- and what is prepared there of one of two
-abbrev pub prepared_in : (depth : ℕ) → FilterMode → ReferencePlane → (x y : ℤ) → MotionVector → (width height : ℕ) →
-    (r c : ℕ) → ℤ
+abbrev pub prepared_in : (depth : ℕ) → (mode : (side : ℕ) → FilterMode) → ReferencePlane → (x y : ℤ) → MotionVector →
+    (width height : ℕ) → (r c : ℕ) → ℤ
 prepared_in depth mode reference x y mv width height =
     let fx = sixteenths mv.col reference.xdec in
     let fy = sixteenths mv.row reference.ydec in
-    prepared depth fx fy (filter_of mode fx width) (filter_of mode fy height) (moved_in reference x y mv)
+    prepared depth fx fy (filter_of (mode width) fx width) (filter_of (mode height) fy height)
+    (moved_in reference x y mv)
 
 -- what is seen of a plane
 abbrev pub as_reference : {T : Type 0} → (T → ℕ) → Plane T → ReferencePlane
@@ -76,12 +78,12 @@ nearest_sample num plane = nearest_in (as_reference num plane)
 abbrev pub moved : {T : Type 0} → (T → ℕ) → Plane T → (x y : ℤ) → MotionVector → (c r : ℕ) → ℕ
 moved num plane = moved_in (as_reference num plane)
 
-abbrev pub moved_single : {T : Type 0} → (T → ℕ) → (depth : ℕ) → FilterMode → Plane T → (x y : ℤ) → MotionVector →
-    (width height : ℕ) → (r c : ℕ) → ℕ
+abbrev pub moved_single : {T : Type 0} → (T → ℕ) → (depth : ℕ) → (mode : (side : ℕ) → FilterMode) → Plane T →
+    (x y : ℤ) → MotionVector → (width height : ℕ) → (r c : ℕ) → ℕ
 moved_single num depth mode plane = single_in depth mode (as_reference num plane)
 
-abbrev pub moved_prepared : {T : Type 0} → (T → ℕ) → (depth : ℕ) → FilterMode → Plane T → (x y : ℤ) → MotionVector →
-    (width height : ℕ) → (r c : ℕ) → ℤ
+abbrev pub moved_prepared : {T : Type 0} → (T → ℕ) → (depth : ℕ) → (mode : (side : ℕ) → FilterMode) → Plane T →
+    (x y : ℤ) → MotionVector → (width height : ℕ) → (r c : ℕ) → ℤ
 moved_prepared num depth mode plane = prepared_in depth mode (as_reference num plane)
 
 -- a plane whose stored samples outside the visible ones are those of the nearest visible places
@@ -96,6 +98,10 @@ pub record IsReference {T : Type 0} (num : T → ℕ) (plane : Plane T) (depth w
   pub within : (x y : ℕ) → x < plane.plane_cfg.width → y < plane.plane_cfg.height → sample_at num plane x y < 2 ^ depth
   pub xpad : width + 7 ≤ plane.plane_cfg.xpad
   pub ypad : height + 7 ≤ plane.plane_cfg.ypad
+
+-- the filter of a frame along a side of a block
+abbrev pub frame_filter : {T : Type 0} → FrameInvariants T → (side : ℕ) → FilterMode
+frame_filter fi = mode_along fi.short_by_av1 fi.default_filter
 
 -- the slot of a reference
 abbrev pub slot_of : {T : Type 0} → FrameInvariants T → RefType → ℕ

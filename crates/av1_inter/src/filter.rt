@@ -4,13 +4,34 @@
 
 ghost use Rattle.std.specs.Prelude.{◌≡◌, ◌≤◌, ◌<◌, pos, ◌≤ℤ◌, ◌<ℤ◌, unsigned_abs};
 ghost use Rattle.std.specs.Int.{int_shr};
-ghost use Rattle.av1_inter.specs.Filters.{family, filter_of, short_family};
+ghost use Rattle.av1_inter.specs.Filters.{family, filter_of, mode_along, short_family};
 ghost use Rattle.av1_inter.specs.Motion.{entry};
 ghost use Rattle.av1_inter.specs.Scaffolding.{AreZero, doubled, halved, IsFilter};
 
 use av1_blocks::{FilterMode, SUBPEL_FILTER_SIZE, SUBPEL_FILTERS};
 
-/// The family of a mode for sides up to 4.
+/// The mode that a frame's filter has along a side of `length` samples. Where `by_av1` says so, the regular one takes
+/// the place of the sharp one along sides up to 4, as AV1 has it; rav1e's filters for such sides have the smooth one
+/// there.
+///
+/// AV1 specification: block inter prediction process.
+#[inline(always)]
+pub fn mode_along(by_av1: bool, mode: FilterMode, length: usize) -> FilterMode
+    ensures { result ≡ mode_along by_av1 mode length }
+{
+    match mode {
+        FilterMode::SHARP => {
+            if by_av1 && length <= 4 {
+                FilterMode::REGULAR
+            } else {
+                FilterMode::SHARP
+            }
+        }
+        _ => mode,
+    }
+}
+
+/// The family of a mode for sides up to 4, as rav1e has it.
 fn short_family(mode: FilterMode) -> usize
     ensures { result ≡ short_family mode }
 {

@@ -31,10 +31,10 @@ pub fn padded_planes_serve<T: Pixel>()
 /// A sample that is predicted from a reference whose visible samples lie within the depth lies within it too, whatever
 /// the vector. One that is predicted from two does in any case: their mean is clipped.
 pub fn motion_lies_within()
-    ensures single { (depth : ℕ) (mode : FilterMode) (reference : ReferencePlane) (mv : MotionVector) (a : VisibleArea)
+    ensures single { (depth : ℕ) (mode : ℕ → FilterMode) (reference : ReferencePlane) (mv : MotionVector) (a : VisibleArea)
         (r c : ℕ) → 0 < reference.width → 0 < reference.height
         → ((x y : ℕ) → x < reference.width → y < reference.height → reference.sample x y < 2 ^ depth)
         → single_prediction depth mode reference mv a r c < 2 ^ depth }
-    ensures compound { (depth : ℕ) (mode : FilterMode) (first second : ReferencePlane) (first_mv second_mv : MotionVector) (a : VisibleArea) (r c : ℕ) →
+    ensures compound { (depth : ℕ) (mode : ℕ → FilterMode) (first second : ReferencePlane) (first_mv second_mv : MotionVector) (a : VisibleArea) (r c : ℕ) →
         compound_prediction depth mode first second first_mv second_mv a r c < 2 ^ depth }
 {}

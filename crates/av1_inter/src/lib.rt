@@ -69,6 +69,7 @@ mod writer;
 
 pub use average::{mc_avg, mc_avg_to};
 pub use buffers::InterCompoundBuffers;
+pub use filter::mode_along;
 pub use laws::{
     constant_references_stay, motion_lies_within, padded_planes_serve, prepared_values_fit,
 };

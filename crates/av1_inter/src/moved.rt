@@ -8,12 +8,13 @@ ghost use Rattle.av1_frame.specs.Regions.{InStorage, painted};
 ghost use Rattle.av1_inter.specs.Motion.{entry};
 ghost use Rattle.av1_inter.specs.Places.{corner_of, IsStoredFrom, samples_from};
 ghost use Rattle.av1_blocks.specs.Depths.{IsDepth};
-ghost use Rattle.av1_inter.specs.Reference.{IsPadded, IsReference, moved, moved_prepared, moved_single, sixteenths, whole_part};
+ghost use Rattle.av1_inter.specs.Reference.{IsPadded, IsReference, frame_filter, moved, moved_prepared, moved_single, sixteenths, whole_part};
 
+use crate::filter::mode_along;
 use crate::prepare::prep_8tap;
 use crate::put::put_8tap;
 use av1_blocks::{FilterMode, MotionVector};
-use av1_frame::{Pixel, Plane, PlaneOffset, PlaneRegionMut, PlaneSlice};
+use av1_frame::{FrameInvariants, Pixel, Plane, PlaneOffset, PlaneRegionMut, PlaneSlice};
 
 /// A rectangle of a plane that is predicted: where it begins, counted from the first visible sample, and its sides.
 #[derive(Clone, Copy)]
@@ -62,6 +63,13 @@ fn moved_slice<T: Pixel>(plane: &Plane<T>, at: PlaneOffset, mv: MotionVector) ->
     plane.slice(corner).clamp().subslice(3, 3)
 }
 
+/// The filter of a frame along a side of `length` samples.
+fn frame_filter<T: Pixel>(fi: &FrameInvariants<T>, length: usize) -> FilterMode
+    ensures { result ≡ frame_filter fi.now length }
+{
+    mode_along(fi.short_by_av1, fi.default_filter, length)
+}
+
 /// Predicts a block from one reference.
 #[tactic(auto, using(av1_frame::proofs::Slices::visible_below))]
 pub(crate) fn put_moved<T: Pixel>(
@@ -69,20 +77,19 @@ pub(crate) fn put_moved<T: Pixel>(
     plane: &Plane<T>,
     block: PlaneBlock,
     mv: MotionVector,
-    mode: FilterMode,
-    bit_depth: usize,
+    fi: &FrameInvariants<T>,
 )
     requires fits { InStorage dst.old }
     requires columns { block.width ≤ dst.old.area.width }
     requires rows { block.height ≤ dst.old.area.height }
     requires wide { block.width ≤ 128 }
     requires high { block.height ≤ 128 }
-    requires depths { IsDepth bit_depth }
-    requires depth { bit_depth ≤ T.BITS }
-    requires reference { IsReference T.num plane.now bit_depth block.width block.height }
+    requires depths { IsDepth fi.now.bit_depth }
+    requires depth { fi.now.bit_depth ≤ T.BITS }
+    requires reference { IsReference T.num plane.now fi.now.bit_depth block.width block.height }
     ensures painted { dst.new ≡
         painted dst.old block.width block.height
-        (λ r c _. T.pixel (moved_single T.num bit_depth mode plane.now block.at.x block.at.y mv block.width block.height r c)) }
+        (λ r c _. T.pixel (moved_single T.num fi.now.bit_depth (frame_filter fi.now) plane.now block.at.x block.at.y mv block.width block.height r c)) }
     ensures fits { InStorage dst.new }
 {
     let cfg = plane.config();
@@ -96,9 +103,9 @@ pub(crate) fn put_moved<T: Pixel>(
         block.height,
         col_frac,
         row_frac,
-        mode,
-        mode,
-        bit_depth,
+        frame_filter(fi, block.width),
+        frame_filter(fi, block.height),
+        fi.bit_depth,
     );
 }
 
@@ -109,16 +116,16 @@ pub(crate) fn prepare_moved<T: Pixel>(
     plane: &Plane<T>,
     block: PlaneBlock,
     mv: MotionVector,
-    mode: FilterMode,
-    bit_depth: usize,
+    fi: &FrameInvariants<T>,
 )
     requires tmp_long { block.height * block.width ≤ length tmp.old }
     requires wide { block.width ≤ 128 }
     requires high { block.height ≤ 128 }
-    requires depths { IsDepth bit_depth }
-    requires reference { IsReference T.num plane.now bit_depth block.width block.height }
+    requires depths { IsDepth fi.now.bit_depth }
+    requires reference { IsReference T.num plane.now fi.now.bit_depth block.width block.height }
     ensures { (r c : ℕ) → r < block.height → c < block.width →
-        entry tmp.new (r * block.width + c) ≡ moved_prepared T.num bit_depth mode plane.now block.at.x block.at.y mv block.width block.height r c }
+        entry tmp.new (r * block.width + c) ≡
+        moved_prepared T.num fi.now.bit_depth (frame_filter fi.now) plane.now block.at.x block.at.y mv block.width block.height r c }
 {
     let cfg = plane.config();
     let col_frac = sixteenths(mv.col, cfg.xdec);
@@ -131,8 +138,8 @@ pub(crate) fn prepare_moved<T: Pixel>(
         block.height,
         col_frac,
         row_frac,
-        mode,
-        mode,
-        bit_depth,
+        frame_filter(fi, block.width),
+        frame_filter(fi, block.height),
+        fi.bit_depth,
     );
 }

@@ -10,7 +10,7 @@ ghost use Rattle.av1_blocks.specs.Modes.{is_intra};
 ghost use Rattle.av1_inter.specs.Motion.{entry};
 ghost use Rattle.av1_blocks.specs.Depths.{IsDepth};
 ghost use Rattle.av1_inter.specs.Prediction.{PredictsCompound, PredictsSingle};
-ghost use Rattle.av1_inter.specs.Reference.{is_reference, IsServed, moved_prepared, reference_of, slot_of, vector_of};
+ghost use Rattle.av1_inter.specs.Reference.{frame_filter, is_reference, IsServed, moved_prepared, reference_of, slot_of, vector_of};
 
 use crate::average::mc_avg;
 use crate::buffers::InterCompoundBuffers;
@@ -43,7 +43,7 @@ fn is_reference(reference: RefType) -> bool
 
 /// Predicts a block from one reference: each sample of the first `height` rows and `width` columns of `dst` becomes
 /// that of plane `p` (0 for luma, 1 and 2 for chroma) of the reference, moved by `mv` and interpolated with the frame's
-/// filter.
+/// filter. What the sharp filter is along sides up to 4, `short_by_av1` of the frame says.
 ///
 /// The block begins at `po`, counted from the tile's first sample. The reference's plane is padded, and reads past its
 /// sides give the nearest visible sample, however far the vector leads. Where the slot is empty, nothing is written.
@@ -80,7 +80,7 @@ pub fn predict_inter_single<T: Pixel>(
     let at = tile_rect.to_frame_plane_offset(po);
     let block = PlaneBlock { at, width, height };
     if let Some(plane) = fi.slot(slot_of(fi, ref_frame), p) {
-        put_moved(dst, plane, block, mv, fi.default_filter, fi.bit_depth);
+        put_moved(dst, plane, block, mv, fi);
     }
 }
 
@@ -101,10 +101,10 @@ fn prepare_from<T: Pixel>(
     requires reference { IsServed T.num fi.now reference p block.width block.height }
     ensures { (plane : _) → slot_plane fi.now (slot_of fi.now reference) p ≡ Some plane → (r c : ℕ) → r < block.height → c < block.width →
         entry tmp.new (r * block.width + c) ≡
-        moved_prepared T.num fi.now.bit_depth fi.now.default_filter plane block.at.x block.at.y mv block.width block.height r c }
+        moved_prepared T.num fi.now.bit_depth (frame_filter fi.now) plane block.at.x block.at.y mv block.width block.height r c }
 {
     if let Some(plane) = fi.slot(slot_of(fi, reference), p) {
-        prepare_moved(tmp, plane, block, mv, fi.default_filter, fi.bit_depth);
+        prepare_moved(tmp, plane, block, mv, fi);
     }
 }
 

@@ -7,13 +7,13 @@ use Rattle.av1_dct.specs.Arithmetic.{clamp_value}
 use Rattle.av1_dct.specs.Operations.{half_btf_with}
 use Rattle.av1_dct.specs.Cosine.{brev, cos128, cosine_with, odd_half_with, group_sum_with, inner_turn_with, mirror_sum_with, outer_turn_with, rounds_with}
 use Rattle.av1_frame.specs.Arithmetic.{clip}
-use Rattle.av1_itx.specs.declared.kinds.TxType1D.TheVariants.{ADST, FLIPADST, IDENTITY, WHT}
+use Rattle.av1_itx.specs.declared.kinds.TxType1D.TheVariants.{ADST, FLIPADST, IDENTITY, EXACT_IDENTITY, WHT}
 use Rattle.av1_itx.specs.Adst.{adst_with, adst4_with, weighted_with, adst_more_with, adst_in, adst_start_with, turned_with, adst_rounds_with, adst_turn_with}
 use Rattle.av1_itx.specs.Adst.{adst_sum_with, adst_out_with, out_place}
 use Rattle.av1_itx.specs.Identity.{identity_with, scaled_with}
 use Rattle.av1_itx.specs.Walsh.{walsh_with}
 use Rattle.av1_itx.specs.Networks.{network, network_with}
-use Rattle.av1_itx.specs.Residue.{residue, transformed_column, column_network, transformed_row, row_input, row_value}
+use Rattle.av1_itx.specs.Residue.{residue, residue_by, transformed_column, column_network, transformed_row, row_input, row_value}
 
 sine4_range16 : network ADST 16 1 (pos 7895 ∷ negsuc 29601 ∷ pos 20106 ∷ pos 25234 ∷ []) ≡ pos 12337 ∷ negsuc 49296 ∷ pos 10632 ∷ pos 35543 ∷ []
 unfolding network_with adst_with adst4_with weighted_with adst_more_with adst_in adst_start_with turned_with adst_rounds_with adst_turn_with adst_sum_with
@@ -90,6 +90,12 @@ unfolding network_with adst_with adst4_with weighted_with adst_more_with adst_in
     adst_out_with out_place identity_with scaled_with walsh_with brev cos128 half_btf_with clamp_value int_wrap
 identity32 = refl
 
+-- the first of these identities where it never wraps
+exact_identity4 : network EXACT_IDENTITY 20 1 (pos 524287 ∷ negsuc 524287 ∷ negsuc 524287 ∷ pos 524287 ∷ []) ≡ pos 741503 ∷ negsuc 741503 ∷ negsuc 741503 ∷
+    pos 741503 ∷ []
+unfolding network_with identity_with scaled_with
+exact_identity4 = refl
+
 walsh_of_four : network WHT 20 1 (pos 524287 ∷ negsuc 524287 ∷ negsuc 524287 ∷ pos 524287 ∷ []) ≡ negsuc 0 ∷ pos 0 ∷ pos 1048575 ∷ pos 0 ∷ []
 unfolding network_with adst_with adst4_with weighted_with adst_more_with adst_in adst_start_with turned_with adst_rounds_with adst_turn_with adst_sum_with
     adst_out_with out_place identity_with scaled_with walsh_with brev cos128 half_btf_with clamp_value int_wrap
@@ -100,42 +106,42 @@ abbrev residue_row : List ℤ → ℕ → List ℤ
 residue_row cs r = map (residue TX_4X4 DCT_DCT 8 cs r) (0 ∷ 1 ∷ 2 ∷ 3 ∷ [])
 
 first_coefficient_row0 : residue_row (pos 100 ∷ []) 0 ≡ pos 3 ∷ pos 3 ∷ pos 3 ∷ pos 3 ∷ []
-unfolding residue transformed_column column_network transformed_row row_input row_value cosine_with odd_half_with mirror_sum_with rounds_with inner_turn_with
+unfolding residue_by transformed_column column_network transformed_row row_input row_value cosine_with odd_half_with mirror_sum_with rounds_with inner_turn_with
     group_sum_with
     outer_turn_with network_with adst_with adst4_with weighted_with adst_more_with adst_in adst_start_with turned_with adst_rounds_with adst_turn_with
     adst_sum_with adst_out_with out_place identity_with scaled_with walsh_with brev cos128 half_btf_with clamp_value int_wrap
 first_coefficient_row0 = refl
 
 first_coefficient_row3 : residue_row (pos 100 ∷ []) 3 ≡ pos 3 ∷ pos 3 ∷ pos 3 ∷ pos 3 ∷ []
-unfolding residue transformed_column column_network transformed_row row_input row_value cosine_with odd_half_with mirror_sum_with rounds_with inner_turn_with
+unfolding residue_by transformed_column column_network transformed_row row_input row_value cosine_with odd_half_with mirror_sum_with rounds_with inner_turn_with
     group_sum_with
     outer_turn_with network_with adst_with adst4_with weighted_with adst_more_with adst_in adst_start_with turned_with adst_rounds_with adst_turn_with
     adst_sum_with adst_out_with out_place identity_with scaled_with walsh_with brev cos128 half_btf_with clamp_value int_wrap
 first_coefficient_row3 = refl
 
 second_coefficient_row0 : residue_row (pos 0 ∷ pos 100 ∷ []) 0 ≡ pos 4 ∷ pos 4 ∷ pos 4 ∷ pos 4 ∷ []
-unfolding residue transformed_column column_network transformed_row row_input row_value cosine_with odd_half_with mirror_sum_with rounds_with inner_turn_with
+unfolding residue_by transformed_column column_network transformed_row row_input row_value cosine_with odd_half_with mirror_sum_with rounds_with inner_turn_with
     group_sum_with
     outer_turn_with network_with adst_with adst4_with weighted_with adst_more_with adst_in adst_start_with turned_with adst_rounds_with adst_turn_with
     adst_sum_with adst_out_with out_place identity_with scaled_with walsh_with brev cos128 half_btf_with clamp_value int_wrap
 second_coefficient_row0 = refl
 
 second_coefficient_row1 : residue_row (pos 0 ∷ pos 100 ∷ []) 1 ≡ pos 2 ∷ pos 2 ∷ pos 2 ∷ pos 2 ∷ []
-unfolding residue transformed_column column_network transformed_row row_input row_value cosine_with odd_half_with mirror_sum_with rounds_with inner_turn_with
+unfolding residue_by transformed_column column_network transformed_row row_input row_value cosine_with odd_half_with mirror_sum_with rounds_with inner_turn_with
     group_sum_with
     outer_turn_with network_with adst_with adst4_with weighted_with adst_more_with adst_in adst_start_with turned_with adst_rounds_with adst_turn_with
     adst_sum_with adst_out_with out_place identity_with scaled_with walsh_with brev cos128 half_btf_with clamp_value int_wrap
 second_coefficient_row1 = refl
 
 second_coefficient_row2 : residue_row (pos 0 ∷ pos 100 ∷ []) 2 ≡ negsuc 1 ∷ negsuc 1 ∷ negsuc 1 ∷ negsuc 1 ∷ []
-unfolding residue transformed_column column_network transformed_row row_input row_value cosine_with odd_half_with mirror_sum_with rounds_with inner_turn_with
+unfolding residue_by transformed_column column_network transformed_row row_input row_value cosine_with odd_half_with mirror_sum_with rounds_with inner_turn_with
     group_sum_with
     outer_turn_with network_with adst_with adst4_with weighted_with adst_more_with adst_in adst_start_with turned_with adst_rounds_with adst_turn_with
     adst_sum_with adst_out_with out_place identity_with scaled_with walsh_with brev cos128 half_btf_with clamp_value int_wrap
 second_coefficient_row2 = refl
 
 second_coefficient_row3 : residue_row (pos 0 ∷ pos 100 ∷ []) 3 ≡ negsuc 3 ∷ negsuc 3 ∷ negsuc 3 ∷ negsuc 3 ∷ []
-unfolding residue transformed_column column_network transformed_row row_input row_value cosine_with odd_half_with mirror_sum_with rounds_with inner_turn_with
+unfolding residue_by transformed_column column_network transformed_row row_input row_value cosine_with odd_half_with mirror_sum_with rounds_with inner_turn_with
     group_sum_with
     outer_turn_with network_with adst_with adst4_with weighted_with adst_more_with adst_in adst_start_with turned_with adst_rounds_with adst_turn_with
     adst_sum_with adst_out_with out_place identity_with scaled_with walsh_with brev cos128 half_btf_with clamp_value int_wrap
@@ -145,7 +151,7 @@ second_coefficient_row3 = refl
 two_great : map
     (λ c. clip 12 (pos 2048 +ℤ residue TX_4X4 DCT_DCT 12 (pos 524287 ∷ pos 0 ∷ pos 0 ∷ pos 0 ∷ pos 0 ∷ pos 0 ∷ pos 0 ∷ pos 0 ∷ pos 524287 ∷ []) 2 c))
     (0 ∷ 1 ∷ 2 ∷ 3 ∷ []) ≡ 0 ∷ 2048 ∷ 2048 ∷ 0 ∷ []
-unfolding residue transformed_column column_network transformed_row row_input row_value cosine_with odd_half_with mirror_sum_with rounds_with inner_turn_with
+unfolding residue_by transformed_column column_network transformed_row row_input row_value cosine_with odd_half_with mirror_sum_with rounds_with inner_turn_with
     group_sum_with
     outer_turn_with network_with adst_with adst4_with weighted_with adst_more_with adst_in adst_start_with turned_with adst_rounds_with adst_turn_with
     adst_sum_with adst_out_with out_place identity_with scaled_with walsh_with brev cos128 half_btf_with clamp_value int_wrap

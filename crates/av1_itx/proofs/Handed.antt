@@ -11,6 +11,7 @@ use Rattle.av1_itx.specs.Kinds.{column_kind, row_kind}
 use Rattle.av1_itx.specs.Networks.{HasNetwork}
 use Rattle.av1_itx.specs.Residue.{column_power, column_range, row_input, row_power, row_range}
 use Rattle.av1_itx.specs.Scaffolding.{AreCoefficients, AreColumns, block_columns, block_rows}
+use Rattle.av1_itx.proofs.ExactRows.{network_row}
 use Rattle.av1_itx.proofs.Passes.{input-fits}
 use Rattle.av1_itx.proofs.Sizes.{both_run, sides}
 use Rattle.av1_itx.proofs.Widths.{is_length}
@@ -52,7 +53,7 @@ rows_are block count cs scaled depth has fours eights within long filled =
       few = few;
       height = is_length (row_power size) (tx_width size) s.0 s.1 (powers size).0;
       power = (powers size).0;
-      has = has;
+      has = network_row block.by_av1 block.tx_type (row_power size) has;
       long = long;
       range = (omega arith, omega arith);
       fit = λ c r hc hr. subst P (sym (filled c r hc (omega (arith, hr, within)))) (input-fits size block.tx_type block.bd cs r c);

@@ -12,6 +12,7 @@ pub mod Small
 pub mod Lines
 pub mod Outputs
 pub mod Zeros
+pub mod ExactRows
 pub mod Passes
 pub mod Tiles
 pub mod Eights

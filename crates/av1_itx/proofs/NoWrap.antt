@@ -1,7 +1,9 @@
 -- Inputs of 18 bits and a range up to 18: none of a transform's sums and products leaves 32 bits.
-use Rattle.std.proofs.Common.{unsigned_abs, ℕ, zero, suc, ◌≡◌, ◌+◌, ◌-◌, ◌*◌, ◌/◌, ◌^◌, ◌≤◌, ◌%◌, ◌==◌, nat_lt, max, true, false, cond, ℤ, pos, negsuc, ◌+ℤ◌}
-use Rattle.std.proofs.Common.{◌-ℤ◌, ◌*ℤ◌, List, reverse, All, arith, ap, refl, sym, ◌∙◌, w32, FitsSigned}
+use Rattle.std.proofs.Common.{unsigned_abs, Bool, ℕ, zero, suc, ◌≡◌, ◌+◌, ◌-◌, ◌*◌, ◌/◌, ◌^◌, ◌≤◌, ◌%◌, ◌==◌, nat_lt, max, true, false, cond, ℤ, pos}
+use Rattle.std.proofs.Common.{negsuc, ◌+ℤ◌}
+use Rattle.std.proofs.Common.{◌-ℤ◌, ◌*ℤ◌, List, reverse, All, arith, ap, refl, sym, ◌∙◌, inl, inr, w32, FitsSigned}
 use Rattle.std.specs.Int.{int_shr}
+use Rattle.std.proofs.lemmas.Bool.{cases_lt}
 use Rattle.std.proofs.lemmas.Int.{ints, int_wrap_fits, unsigned_abs-mul}
 use Rattle.std.proofs.Math.Nat.{mul-le-mul}
 use Rattle.av1_dct.specs.Arithmetic.{AllFit, FitsBits, at, clamp_value, round12}
@@ -11,21 +13,25 @@ use Rattle.av1_dct.proofs.Fits.{all-fit, by_index-fits, clamp_value-fits, cond-f
 use Rattle.av1_dct.proofs.NoWrap.{Weight, cos128-small, neg-small, turn-same, plus-same, minus-same, cond-same, no_wrap}
 use Rattle.av1_lists.proofs.Lists.{by_index-all, by_index-same}
 use Rattle.av1_blocks.specs.declared.transform.TxSize.{TxSize}
-use Rattle.av1_blocks.specs.Transforms.{tx_height}
+use Rattle.av1_blocks.specs.declared.transform.TxType.{TxType}
+use Rattle.av1_blocks.specs.Transforms.{coded, tx_height}
 use Rattle.av1_frame.specs.Arithmetic.{round_shift}
 use Rattle.av1_itx.proofs.Fills.{four_same}
 use Rattle.av1_itx.specs.declared.kinds.TxType1D.{TxType1D}
-use Rattle.av1_itx.specs.declared.kinds.TxType1D.TheVariants.{DCT, ADST, FLIPADST, IDENTITY, WHT}
+use Rattle.av1_itx.specs.declared.kinds.TxType1D.TheVariants.{DCT, ADST, FLIPADST, IDENTITY, EXACT_IDENTITY, WHT}
 use Rattle.av1_itx.specs.Adst.{turned_with, turned, turn_weights, back_weights, start_weights, round_weights, adst_in, adst_start_with, adst_start}
 use Rattle.av1_itx.specs.Adst.{adst_sum_with, adst_sum, adst_turn_with, adst_turn}
 use Rattle.av1_itx.specs.Adst.{adst_rounds_with, adst_rounds, adst_out_with, adst_out, out_place, adst_more_with, adst_more, weighted_with, weighted}
 use Rattle.av1_itx.specs.Adst.{adst4_with, adst4, adst_with, adst}
-use Rattle.av1_itx.specs.Identity.{scaled_with, scaled, identity_with}
+use Rattle.av1_itx.specs.Identity.{exact, scaled_with, scaled, identity_with}
+use Rattle.av1_itx.specs.Kinds.{column_kind, exact_kind, row_kind, row_kind_by}
 use Rattle.av1_itx.specs.Walsh.{walsh_with, walsh}
 use Rattle.av1_itx.specs.Networks.{network_with, network}
-use Rattle.av1_itx.specs.Residue.{column_input, column_range, row_shift}
+use Rattle.av1_itx.specs.Residue.{column_input, column_network, column_power, column_range, column_shift, residue, residue_by, row_power, row_range, row_shift}
+use Rattle.av1_itx.specs.Residue.{transformed_column, transformed_row}
 use Rattle.av1_itx.proofs.Steps.{start-fits}
 use Rattle.av1_itx.proofs.Outputs.{half-fits, rounds-fit}
+use Rattle.av1_itx.proofs.Passes.{inputs-fit, row_is, row_past}
 
 -- both weights of a turn are small
 pub record Weights (w : ℤ × ℤ) : Type 0 where
@@ -200,6 +206,7 @@ module _ (ops : Operations) (right : AreRight32 ops) where
   network-same ADST range k x r h = adst-same range k x r h
   network-same FLIPADST range k x r h = ap reverse (adst-same range k x r h)
   network-same IDENTITY range k x r h = by_index-same (2 * 2 ^ k) _ _ (λ i _. scaled-same k (at x i) (h i))
+  network-same EXACT_IDENTITY range k x r h = refl
   network-same WHT range k x r h = walsh-same x h
 
 pub never_wraps : (ops : Operations) → AreRight32 ops → (kind : TxType1D) (range k : ℕ) (x : List ℤ) → range ≤ 18 → All (FitsBits 18) x →
@@ -210,3 +217,42 @@ never_wraps ops right kind range k x r h = network-same ops right kind range k x
 pub column_inputs : (size : TxSize) (depth : ℕ) (f : ℕ → ℤ) → depth ≤ 12 → All (FitsBits 18) (column_input size depth f)
 column_inputs size depth f h =
     by_index-all (FitsBits 18) (tx_height size) _ (λ r l. clamp_value-fits {w = 18} (round_shift (f r) (row_shift size)) (column_range depth) (omega arith))
+
+-- ---- identities that never wrap
+
+right_exactly : AreRight32 exact
+right_exactly = record { plus = λ x y h. refl; minus = λ x y h. refl; times = λ x y h. refl; round = λ s h. refl }
+
+exact_same : (kind : TxType1D) (range k : ℕ) (x : List ℤ) → range ≤ 18 → AllFit 18 x → network (exact_kind kind) range k x ≡ network kind range k x
+unfolding network_with
+exact_same DCT range k x r h = refl
+exact_same ADST range k x r h = refl
+exact_same FLIPADST range k x r h = refl
+exact_same IDENTITY range k x r h = network-same exact right_exactly IDENTITY range k x r h
+exact_same EXACT_IDENTITY range k x r h = refl
+exact_same WHT range k x r h = refl
+
+row_same : (by_av1 : Bool) (type : TxType) (range k : ℕ) (x : List ℤ) → range ≤ 18 → AllFit 18 x →
+    network (row_kind_by by_av1 type) range k x ≡ network (row_kind type) range k x
+row_same true type range k x r h = exact_same (row_kind type) range k x r h
+row_same false type range k x r h = refl
+
+-- at depths up to 10 rows have such inputs, so that no identity wraps there
+shallow_row : (by_av1 : Bool) (size : TxSize) (type : TxType) (depth : ℕ) (cs : List ℤ) (r c : ℕ) → depth ≤ 10 →
+    at (transformed_row by_av1 size type depth cs r) c ≡ at (transformed_row false size type depth cs r) c
+shallow_row by_av1 size type depth cs r c few =
+    elim (cases_lt r (coded (tx_height size))) [
+      | inl b ↦ sym (row_is by_av1 size type depth cs r c b)
+          ∙ ap (λ zs. at zs c) (row_same by_av1 type (row_range depth) (row_power size) _ (omega (arith, few))
+          (all-fit (row_range depth) 18 _ (omega (arith, few)) (inputs-fit size type depth cs r)))
+          ∙ row_is false size type depth cs r c b
+      | inr b ↦ row_past by_av1 size type depth cs r c b ∙ sym (row_past false size type depth cs r c b)
+    ]
+
+pub shallow_residue : (by_av1 : Bool) (size : TxSize) (type : TxType) (depth : ℕ) (cs : List ℤ) (r c : ℕ) → depth ≤ 10 →
+    residue_by by_av1 size type depth cs r c ≡ residue size type depth cs r c
+unfolding residue_by transformed_column column_network
+shallow_residue by_av1 size type depth cs r c few =
+    ap (λ zs. round_shift (at (network (column_kind type) (column_range depth) (column_power size) zs) r) (column_shift type))
+    (by_index-same (tx_height size) _ _
+    (λ y hy. ap (λ z. clamp_value (round_shift z (row_shift size)) (column_range depth)) (shallow_row by_av1 size type depth cs y c few)))

@@ -7,10 +7,10 @@ use Rattle.av1_lists.specs.Lists.{by_index}
 use Rattle.av1_dct.proofs.Fits.{by_index-fits, cond-fits, fits_wider}
 use Rattle.av1_dct.proofs.Halves.{cosine-fits}
 use Rattle.av1_itx.specs.declared.kinds.TxType1D.{TxType1D}
-use Rattle.av1_itx.specs.declared.kinds.TxType1D.TheVariants.{DCT, ADST, FLIPADST, IDENTITY, WHT}
+use Rattle.av1_itx.specs.declared.kinds.TxType1D.TheVariants.{DCT, ADST, FLIPADST, IDENTITY, EXACT_IDENTITY, WHT}
 use Rattle.av1_itx.specs.Adst.{adst, adst_with, adst4, adst4_with, weighted, weighted_with, adst_start, adst_in, adst_out, adst_out_with, adst_rounds}
 use Rattle.av1_itx.specs.Adst.{adst_rounds_with, adst_more, adst_more_with}
-use Rattle.av1_itx.specs.Identity.{scaled, scaled_with, identity_with}
+use Rattle.av1_itx.specs.Identity.{exact, scaled, scaled_with, identity_with}
 use Rattle.av1_itx.specs.Walsh.{walsh, walsh_with}
 use Rattle.av1_itx.specs.Networks.{network, network_with}
 use Rattle.av1_itx.proofs.Widths.{four_fit, reverse-fits}
@@ -30,6 +30,21 @@ scaled-fits (suc zero) z f = round12-fits (pos 5793 *ℤ z)
 scaled-fits (suc (suc zero)) z f = record { low = omega (arith, ints, f.low, f.high); high = omega (arith, ints, f.low, f.high) }
 scaled-fits (suc (suc (suc zero))) z f = round12-fits (pos 11586 *ℤ z)
 scaled-fits (suc (suc (suc (suc k)))) z f = record { low = omega (arith, ints, f.low, f.high); high = omega (arith, ints, f.low, f.high) }
+
+shifted-fits : (z : ℤ) → FitsBits 36 z → FitsBits 24 (int_shr z 12)
+shifted-fits (pos a) h = record { low = omega (arith, ints); high = omega (arith, ints, h.high) }
+shifted-fits (negsuc a) h = record { low = omega (arith, ints, h.low); high = omega (arith, ints) }
+
+-- and of a scale that never wraps
+exactly-fits : (k : ℕ) (z : ℤ) → FitsBits 20 z → FitsBits 24 (scaled_with exact k z)
+unfolding scaled_with
+exactly-fits zero z f = record { low = omega (arith, ints, f.low, f.high); high = omega (arith, ints, f.low, f.high) }
+exactly-fits (suc zero) z f =
+    shifted-fits (pos 5793 *ℤ z +ℤ pos 2048) (record { low = omega (arith, ints, f.low, f.high); high = omega (arith, ints, f.low, f.high) })
+exactly-fits (suc (suc zero)) z f = record { low = omega (arith, ints, f.low, f.high); high = omega (arith, ints, f.low, f.high) }
+exactly-fits (suc (suc (suc zero))) z f =
+    shifted-fits (pos 11586 *ℤ z +ℤ pos 2048) (record { low = omega (arith, ints, f.low, f.high); high = omega (arith, ints, f.low, f.high) })
+exactly-fits (suc (suc (suc (suc k)))) z f = record { low = omega (arith, ints, f.low, f.high); high = omega (arith, ints, f.low, f.high) }
 
 weighted-fits : (a b c d : ℤ) (x : List ℤ) → FitsBits 24 (weighted a b c d x)
 unfolding weighted_with
@@ -100,4 +115,5 @@ network-fits DCT range k x h f = λ i. fits_wider 20 24 _ (omega arith) (cosine-
 network-fits ADST range k x h f = adst-fits range k x h
 network-fits FLIPADST range k x h f = reverse-fits 24 _ (adst-fits range k x h)
 network-fits IDENTITY range k x h f = by_index-fits {w = 24} _ _ (λ i. scaled-fits k _ (f i))
+network-fits EXACT_IDENTITY range k x h f = by_index-fits {w = 24} _ _ (λ i. exactly-fits k _ (f i))
 network-fits WHT range k x h f = walsh-fits x f

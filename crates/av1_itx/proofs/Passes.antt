@@ -15,10 +15,10 @@ use Rattle.av1_dct.specs.Columns.{column_of}
 use Rattle.av1_lists.specs.Lists.{by_index}
 use Rattle.av1_dct.proofs.Zero.{IsZero, clamp-zero, cond-zero, by_index-zero}
 use Rattle.av1_frame.specs.Arithmetic.{round_shift}
-use Rattle.av1_itx.specs.Kinds.{row_kind, column_kind}
+use Rattle.av1_itx.specs.Kinds.{row_kind_by, column_kind}
 use Rattle.av1_itx.specs.Networks.{network}
 use Rattle.av1_itx.specs.Residue.{row_value, row_input, row_power, row_range, row_shift, is_two_to_one, is_lossless, transformed_row}
-use Rattle.av1_itx.specs.Residue.{column_network, column_power, column_range, column_shift, transformed_column, residue}
+use Rattle.av1_itx.specs.Residue.{column_network, column_power, column_range, column_shift, transformed_column, residue_by}
 use Rattle.av1_lists.proofs.Lists.{by_index-all, by_index-same}
 use Rattle.av1_dct.proofs.Fits.{zero_fits, clamp_value-fits, all-fit}
 use Rattle.av1_itx.proofs.Lines.{place_in}
@@ -67,25 +67,26 @@ pub inputs-fit : (size : TxSize) (type : TxType) (depth : ℕ) (cs : List ℤ) (
     All (FitsBits (row_range depth)) (by_index (tx_width size) (row_input size type depth cs r))
 inputs-fit size type depth cs r = by_index-all (FitsBits (row_range depth)) _ _ (λ c h. input-fits size type depth cs r c)
 
-pub row_is : (size : TxSize) (type : TxType) (depth : ℕ) (cs : List ℤ) (r c : ℕ) → r < coded (tx_height size) →
-    at (network (row_kind type) (row_range depth) (row_power size) (by_index (tx_width size) (row_input size type depth cs r))) c ≡
-    at (transformed_row size type depth cs r) c
+pub row_is : (by_av1 : Bool) (size : TxSize) (type : TxType) (depth : ℕ) (cs : List ℤ) (r c : ℕ) → r < coded (tx_height size) →
+    at (network (row_kind_by by_av1 type) (row_range depth) (row_power size) (by_index (tx_width size) (row_input size type depth cs r))) c ≡
+    at (transformed_row by_av1 size type depth cs r) c
 unfolding transformed_row
-row_is size type depth cs r c h = grind (arith, nat_tests)
+row_is by_av1 size type depth cs r c h = grind (arith, nat_tests)
 
-pub row_past : (size : TxSize) (type : TxType) (depth : ℕ) (cs : List ℤ) (r c : ℕ) → coded (tx_height size) ≤ r →
-    at (transformed_row size type depth cs r) c ≡ pos 0
+pub row_past : (by_av1 : Bool) (size : TxSize) (type : TxType) (depth : ℕ) (cs : List ℤ) (r c : ℕ) → coded (tx_height size) ≤ r →
+    at (transformed_row by_av1 size type depth cs r) c ≡ pos 0
 unfolding transformed_row
-row_past size type depth cs r c h = grind (arith, nat_tests)
+row_past by_av1 size type depth cs r c h = grind (arith, nat_tests)
 
-pub row-fits : (size : TxSize) (type : TxType) (depth : ℕ) (cs : List ℤ) (r c : ℕ) → depth ≤ 12 → FitsBits 24 (at (transformed_row size type depth cs r) c)
-row-fits size type depth cs r c h =
+pub row-fits : (by_av1 : Bool) (size : TxSize) (type : TxType) (depth : ℕ) (cs : List ℤ) (r c : ℕ) → depth ≤ 12 →
+    FitsBits 24 (at (transformed_row by_av1 size type depth cs r) c)
+row-fits by_av1 size type depth cs r c h =
     let P : ℤ → Type 0 = λ z. FitsBits 24 z in
     elim (cases_lt r (coded (tx_height size))) [
-      | inl b ↦ subst P (row_is size type depth cs r c b)
-          (network-fits (row_kind type) (row_range depth) (row_power size) _ (omega arith)
+      | inl b ↦ subst P (row_is by_av1 size type depth cs r c b)
+          (network-fits (row_kind_by by_av1 type) (row_range depth) (row_power size) _ (omega arith)
           (all-fit (row_range depth) 20 _ (omega arith) (inputs-fit size type depth cs r)) c)
-      | inr b ↦ subst P (sym (row_past size type depth cs r c b)) (zero_fits 24)
+      | inr b ↦ subst P (sym (row_past by_av1 size type depth cs r c b)) (zero_fits 24)
     ]
 
 -- the columns of a block whose rows were clamped fit
@@ -97,13 +98,13 @@ column-fits size type depth buf r c h fit =
     (all-fit (column_range depth) 20 _ (omega arith) (by_index-all (FitsBits (column_range depth)) _ _ fit)) r
 
 -- both passes
-pub residue_is : (size : TxSize) (type : TxType) (depth : ℕ) (cs buf : List ℤ) (r c : ℕ) (z : ℤ)
+pub residue_is : (by_av1 : Bool) (size : TxSize) (type : TxType) (depth : ℕ) (cs buf : List ℤ) (r c : ℕ) (z : ℤ)
     → z ≡ at (network (column_kind type) (column_range depth) (column_power size) (column_of (tx_height size) (tx_width size) c buf)) r
     → ((y : ℕ) → y < tx_height size → at buf (y * tx_width size + c) ≡
-    clamp_value (round_shift (at (transformed_row size type depth cs y) c) (row_shift size)) (column_range depth))
-    → round_shift z (column_shift type) ≡ residue size type depth cs r c
-unfolding residue transformed_column column_network
-residue_is size type depth cs buf r c z is h =
+    clamp_value (round_shift (at (transformed_row by_av1 size type depth cs y) c) (row_shift size)) (column_range depth))
+    → round_shift z (column_shift type) ≡ residue_by by_av1 size type depth cs r c
+unfolding residue_by transformed_column column_network
+residue_is by_av1 size type depth cs buf r c z is h =
     ap (λ v. round_shift v (column_shift type))
     (is ∙ ap (λ zs. at (network (column_kind type) (column_range depth) (column_power size) zs) r) (by_index-same _ _ _ h))
 
@@ -144,22 +145,24 @@ unfolding row_input
 input_alone size type depth cs r c none some =
     cond-zero (ltb c (coded (tx_width size))) _ _ (ap (row_value size type depth) (none _ some) ∙ row_value-zero size type depth) refl
 
-row-zero : (size : TxSize) (type : TxType) (depth : ℕ) (cs : List ℤ) (r c : ℕ) → IsZero cs → at (transformed_row size type depth cs r) c ≡ pos 0
-row-zero size type depth cs r c z =
+row-zero : (by_av1 : Bool) (size : TxSize) (type : TxType) (depth : ℕ) (cs : List ℤ) (r c : ℕ) → IsZero cs →
+    at (transformed_row by_av1 size type depth cs r) c ≡ pos 0
+row-zero by_av1 size type depth cs r c z =
     elim (cases_lt r (coded (tx_height size))) [
-      | inl b ↦ (let n = network-zero (row_kind type) (row_range depth) (row_power size) (by_index (tx_width size) (row_input size type depth cs r))
-          (by_index-zero _ _ (λ x. input-zero size type depth cs r x z)) in sym (row_is size type depth cs r c b) ∙ n.at c)
-      | inr b ↦ row_past size type depth cs r c b
+      | inl b ↦ (let n = network-zero (row_kind_by by_av1 type) (row_range depth) (row_power size) (by_index (tx_width size) (row_input size type depth cs r))
+          (by_index-zero _ _ (λ x. input-zero size type depth cs r x z)) in sym (row_is by_av1 size type depth cs r c b) ∙ n.at c)
+      | inr b ↦ row_past by_av1 size type depth cs r c b
     ]
 
 -- the residue of coefficients that are all zero
-pub residue-zero : (size : TxSize) (type : TxType) (depth : ℕ) (cs : List ℤ) (r c : ℕ) → All (λ z. z ≡ pos 0) cs → residue size type depth cs r c ≡ pos 0
-unfolding residue transformed_column column_network
-residue-zero size type depth cs r c h =
+pub residue-zero : (by_av1 : Bool) (size : TxSize) (type : TxType) (depth : ℕ) (cs : List ℤ) (r c : ℕ) → All (λ z. z ≡ pos 0) cs →
+    residue_by by_av1 size type depth cs r c ≡ pos 0
+unfolding residue_by transformed_column column_network
+residue-zero by_av1 size type depth cs r c h =
     let z = zero_line cs (λ i l. h i (pos 0) l) in
     let n = network-zero (column_kind type) (column_range depth)
     (column_power size) _
-    (by_index-zero (tx_height size) _ (λ y. clamp-zero _ (column_range depth) (shifted-zero _ (row_shift size) (row-zero size type depth cs y c z)))) in
+    (by_index-zero (tx_height size) _ (λ y. clamp-zero _ (column_range depth) (shifted-zero _ (row_shift size) (row-zero by_av1 size type depth cs y c z)))) in
     shifted-zero _ (column_shift type) (n.at r)
 
 -- the residue is that of any coefficients that are the same at all places
@@ -169,20 +172,20 @@ unfolding row_input
 input-same size type depth xs ys same r c =
     ap (λ z. cond (ltb c (coded (tx_width size))) (row_value size type depth z) (pos 0)) (same (c * coded (tx_height size) + r))
 
-row-same : (size : TxSize) (type : TxType) (depth : ℕ) (xs ys : List ℤ) → ((i : ℕ) → at xs i ≡ at ys i) → (r c : ℕ) →
-    at (transformed_row size type depth xs r) c ≡ at (transformed_row size type depth ys r) c
-row-same size type depth xs ys same r c =
+row-same : (by_av1 : Bool) (size : TxSize) (type : TxType) (depth : ℕ) (xs ys : List ℤ) → ((i : ℕ) → at xs i ≡ at ys i) → (r c : ℕ) →
+    at (transformed_row by_av1 size type depth xs r) c ≡ at (transformed_row by_av1 size type depth ys r) c
+row-same by_av1 size type depth xs ys same r c =
     elim (cases_lt r (coded (tx_height size))) [
-      | inl b ↦ sym (row_is size type depth xs r c b)
-          ∙ ap (λ zs. at (network (row_kind type) (row_range depth) (row_power size) zs) c)
-          (by_index-same (tx_width size) _ _ (λ x hx. input-same size type depth xs ys same r x)) ∙ row_is size type depth ys r c b
-      | inr b ↦ row_past size type depth xs r c b ∙ sym (row_past size type depth ys r c b)
+      | inl b ↦ sym (row_is by_av1 size type depth xs r c b)
+          ∙ ap (λ zs. at (network (row_kind_by by_av1 type) (row_range depth) (row_power size) zs) c)
+          (by_index-same (tx_width size) _ _ (λ x hx. input-same size type depth xs ys same r x)) ∙ row_is by_av1 size type depth ys r c b
+      | inr b ↦ row_past by_av1 size type depth xs r c b ∙ sym (row_past by_av1 size type depth ys r c b)
     ]
 
-pub residue-same : (size : TxSize) (type : TxType) (depth : ℕ) (xs ys : List ℤ) → ((i : ℕ) → at xs i ≡ at ys i) → (r c : ℕ) →
-    residue size type depth xs r c ≡ residue size type depth ys r c
-unfolding residue transformed_column column_network
-residue-same size type depth xs ys same r c =
+pub residue-same : (by_av1 : Bool) (size : TxSize) (type : TxType) (depth : ℕ) (xs ys : List ℤ) → ((i : ℕ) → at xs i ≡ at ys i) → (r c : ℕ) →
+    residue_by by_av1 size type depth xs r c ≡ residue_by by_av1 size type depth ys r c
+unfolding residue_by transformed_column column_network
+residue-same by_av1 size type depth xs ys same r c =
     ap (λ zs. round_shift (at (network (column_kind type) (column_range depth) (column_power size) zs) r) (column_shift type))
     (by_index-same (tx_height size) _ _
-    (λ y hy. ap (λ z. clamp_value (round_shift z (row_shift size)) (column_range depth)) (row-same size type depth xs ys same y c)))
+    (λ y hy. ap (λ z. clamp_value (round_shift z (row_shift size)) (column_range depth)) (row-same by_av1 size type depth xs ys same y c)))

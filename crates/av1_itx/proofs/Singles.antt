@@ -13,13 +13,14 @@ use Rattle.av1_frame.specs.Arithmetic.{round_shift}
 use Rattle.av1_lists.specs.Lists.{by_index}
 use Rattle.av1_lists.proofs.Lists.{length-by_index}
 use Rattle.av1_itx.specs.declared.block.Block.{Block}
-use Rattle.av1_itx.specs.Kinds.{column_kind, row_kind}
+use Rattle.av1_itx.specs.Kinds.{column_kind, row_kind, row_kind_by}
 use Rattle.av1_itx.specs.LaneGroups.{is_cosine}
-use Rattle.av1_itx.specs.Residue.{column_network, column_power, column_range, column_shift, residue, row_input, row_power, row_range, row_value}
+use Rattle.av1_itx.specs.Residue.{column_network, column_power, column_range, column_shift, residue_by, row_input, row_power, row_range, row_value}
 use Rattle.av1_itx.specs.Residue.{transformed_column, transformed_row}
 use Rattle.av1_itx.specs.Scaffolding.{top_of}
 use Rattle.av1_itx.proofs.Eights.{cosine_value}
 use Rattle.av1_itx.proofs.Handed.{powers}
+use Rattle.av1_itx.proofs.ExactRows.{cosine_row}
 use Rattle.av1_itx.proofs.Passes.{input_alone, input_in, row_is}
 use Rattle.av1_itx.proofs.Sizes.{sides}
 use Rattle.av1_itx.proofs.Tiles.{taken_by_columns, taken-none, taken-past}
@@ -43,7 +44,7 @@ alone_is range k n r f none power some lt =
 -- the first row of such a block as the columns take it
 top_row : (block : Block) (cs : List ℤ) (c : ℕ) → is_cosine (row_kind block.tx_type) ≡ true → ((i : ℕ) → 0 < i → at cs i ≡ pos 0) →
     0 < tx_height block.tx_size → c < tx_width block.tx_size →
-    taken_by_columns block.tx_size block.bd (at (transformed_row block.tx_size block.tx_type block.bd cs 0) c) ≡ top_of block (at cs 0)
+    taken_by_columns block.tx_size block.bd (at (transformed_row block.by_av1 block.tx_size block.tx_type block.bd cs 0) c) ≡ top_of block (at cs 0)
 top_row block cs c told none high lt =
     let size = block.tx_size in
     let type = block.tx_type in
@@ -62,17 +63,18 @@ top_row block cs c told none high lt =
     (λ x hx l. (let more = le-mul_of_pos_right x some in input_alone size type block.bd cs 0 x none (omega (arith, hx, more))))
     (powers size).0 (sides size).0 lt in
     ap (taken_by_columns size block.bd)
-    (sym (row_is size type block.bd cs 0 c some)
-    ∙ sym (cosine_value (row_kind type) (row_range block.bd) (row_power size) c (by_index w f) (level (f 0)) told (sym row)) ∙ ap level (sym first))
+    (sym (row_is block.by_av1 size type block.bd cs 0 c some)
+    ∙ sym (cosine_value (row_kind_by block.by_av1 type) (row_range block.bd) (row_power size) c (by_index w f) (level (f 0)) (cosine_row block.by_av1 type told)
+    (sym row)) ∙ ap level (sym first))
 
 -- the other rows
 other_rows : (block : Block) (cs : List ℤ) (y c : ℕ) → ((i : ℕ) → 0 < i → at cs i ≡ pos 0) → 0 < y →
-    pos 0 ≡ taken_by_columns block.tx_size block.bd (at (transformed_row block.tx_size block.tx_type block.bd cs y) c)
+    pos 0 ≡ taken_by_columns block.tx_size block.bd (at (transformed_row block.by_av1 block.tx_size block.tx_type block.bd cs y) c)
 other_rows block cs y c none some =
     elim (cases_lt y (coded (tx_height block.tx_size))) [
-      | inl lt ↦ taken-none block.tx_size block.tx_type block.bd cs y c lt
+      | inl lt ↦ taken-none block.by_av1 block.tx_size block.tx_type block.bd cs y c lt
           (λ x hx. input_alone block.tx_size block.tx_type block.bd cs y x none (omega (arith, some)))
-      | inr past ↦ taken-past block.tx_size block.tx_type block.bd cs y c past
+      | inr past ↦ taken-past block.by_av1 block.tx_size block.tx_type block.bd cs y c past
     ]
 
 -- the residue of such a block
@@ -80,12 +82,12 @@ pub single_residue : (block : Block) (cs : List ℤ) (r c : ℕ) (z : ℤ) → i
     is_cosine (column_kind block.tx_type) ≡ true →
     ((i : ℕ) → 0 < i → at cs i ≡ pos 0) → r < tx_height block.tx_size → c < tx_width block.tx_size →
     z ≡ clamp_value (half_btf (pos 2896) (top_of block (at cs 0)) (pos 0) (top_of block (at cs 0))) (column_range block.bd) →
-    round_shift z (column_shift block.tx_type) ≡ residue block.tx_size block.tx_type block.bd cs r c
-unfolding residue transformed_column column_network
+    round_shift z (column_shift block.tx_type) ≡ residue_by block.by_av1 block.tx_size block.tx_type block.bd cs r c
+unfolding residue_by transformed_column column_network
 single_residue block cs r c z rows columns none hr hc is =
     let size = block.tx_size in
     let type = block.tx_type in
-    let f = λ (y : ℕ). taken_by_columns size block.bd (at (transformed_row size type block.bd cs y) c) in
+    let f = λ (y : ℕ). taken_by_columns size block.bd (at (transformed_row block.by_av1 size type block.bd cs y) c) in
     let level = λ (v : ℤ). clamp_value (half_btf (pos 2896) v (pos 0) v) (column_range block.bd) in
     let column =
     alone_is (column_range block.bd) (column_power size) (tx_height size) r f (λ y hy l. sym (other_rows block cs y c none hy))

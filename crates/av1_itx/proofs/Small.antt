@@ -1,9 +1,10 @@
 -- The identity transforms and the Walsh-Hadamard transform.
-use Rattle.std.proofs.Common.{◌≡◌, ℤ, pos, negsuc, ◌+ℤ◌, ◌-ℤ◌, ◌*ℤ◌, List, [], ◌∷◌, arith, ap, subst, sym}
+use Rattle.std.proofs.Common.{◌≡◌, ◌≢◌, ◌∙◌, ℕ, zero, suc, ℤ, pos, negsuc, ◌+ℤ◌, ◌-ℤ◌, ◌*ℤ◌, List, [], ◌∷◌, arith, ap, refl, subst, sym, w32, FitsSigned}
 use Rattle.std.specs.Int.{int_shr}
-use Rattle.std.proofs.lemmas.Int.{ints}
+use Rattle.std.proofs.lemmas.Int.{ints, int_wrap_fits}
 use Rattle.av1_dct.specs.Arithmetic.{at, round12, FitsBits}
 use Rattle.av1_dct.specs.Operations.{half_btf, half_btf_with}
+use Rattle.av1_itx.specs.Identity.{exact, scaled, scaled_with}
 use Rattle.av1_itx.specs.Walsh.{walsh, walsh_with}
 
 nothing : (y z : ℤ) → y +ℤ pos 0 *ℤ z ≡ y
@@ -12,6 +13,40 @@ nothing y z = omega (arith, ints)
 pub round_is : (w z : ℤ) → half_btf w z (pos 0) z ≡ round12 (w *ℤ z)
 unfolding half_btf_with
 round_is w z = ap round12 (nothing (w *ℤ z) z)
+
+-- a shifted number of which so many whole ones were taken
+shr_more : (a b z : ℤ) → b ≡ a +ℤ pos 4096 *ℤ z → z +ℤ int_shr a 12 ≡ int_shr b 12
+shr_more (pos a) (pos b) (pos z) e = omega (arith, ints, e)
+shr_more (pos a) (pos b) (negsuc z) e = omega (arith, ints, e)
+shr_more (pos a) (negsuc b) (pos z) e = omega (arith, ints, e)
+shr_more (pos a) (negsuc b) (negsuc z) e = omega (arith, ints, e)
+shr_more (negsuc a) (pos b) (pos z) e = omega (arith, ints, e)
+shr_more (negsuc a) (pos b) (negsuc z) e = omega (arith, ints, e)
+shr_more (negsuc a) (negsuc b) (pos z) e = omega (arith, ints, e)
+shr_more (negsuc a) (negsuc b) (negsuc z) e = omega (arith, ints, e)
+
+pub rest_of_root : (z : ℤ) → FitsBits 20 z → z +ℤ round12 (pos 1697 *ℤ z) ≡ int_shr (pos 5793 *ℤ z +ℤ pos 2048) 12
+rest_of_root z f =
+    let fits : FitsSigned w32 (pos 1697 *ℤ z +ℤ pos 2048) = omega (arith, ints, f.low, f.high) in
+    ap (λ (s : ℤ). z +ℤ int_shr s 12) (int_wrap_fits w32 _ fits) ∙ shr_more (pos 1697 *ℤ z +ℤ pos 2048) (pos 5793 *ℤ z +ℤ pos 2048) z (omega (arith, ints))
+
+pub rest_of_two_roots : (z : ℤ) → FitsBits 20 z → z +ℤ z +ℤ round12 (pos 3394 *ℤ z) ≡ int_shr (pos 11586 *ℤ z +ℤ pos 2048) 12
+rest_of_two_roots z f =
+    let fits : FitsSigned w32 (pos 3394 *ℤ z +ℤ pos 2048) = omega (arith, ints, f.low, f.high) in
+    ap (λ (s : ℤ). z +ℤ z +ℤ int_shr s 12) (int_wrap_fits w32 _ fits)
+    ∙ shr_more (pos 3394 *ℤ z +ℤ pos 2048) (pos 11586 *ℤ z +ℤ pos 2048) (z +ℤ z) (omega (arith, ints))
+
+pub root_sum_fits : (y t : ℤ) → FitsBits 21 y → FitsBits 24 t → FitsSigned w32 (y +ℤ t)
+root_sum_fits y t f h = omega (arith, ints, f.low, f.high, h.low, h.high)
+
+-- by 2 and by 4 nothing is rounded
+pub even_same : (k : ℕ) (z : ℤ) → k ≢ 1 → k ≢ 3 → scaled k z ≡ scaled_with exact k z
+unfolding scaled_with
+even_same zero z one three = refl
+even_same (suc zero) z one three = absurd (one refl)
+even_same (suc (suc zero)) z one three = refl
+even_same (suc (suc (suc zero))) z one three = absurd (three refl)
+even_same (suc (suc (suc (suc k)))) z one three = refl
 
 pub double_is : (z : ℤ) → z +ℤ z ≡ pos 2 *ℤ z
 double_is z = omega (arith, ints)

@@ -10,10 +10,10 @@ use Rattle.av1_lists.specs.Lists.{by_index}
 use Rattle.av1_dct.proofs.Halves.{cosine-length}
 use Rattle.av1_dct.proofs.Zero.{IsZero, half_btf-zero, clamp-zero, sum-zero, cond-zero, by_index-zero, cosine-zero}
 use Rattle.av1_itx.specs.declared.kinds.TxType1D.{TxType1D}
-use Rattle.av1_itx.specs.declared.kinds.TxType1D.TheVariants.{DCT, ADST, FLIPADST, IDENTITY, WHT}
+use Rattle.av1_itx.specs.declared.kinds.TxType1D.TheVariants.{DCT, ADST, FLIPADST, IDENTITY, EXACT_IDENTITY, WHT}
 use Rattle.av1_itx.specs.Adst.{adst, adst_with, adst4, adst4_with, weighted, weighted_with, turned, turned_with, adst_start, adst_start_with, adst_sum}
 use Rattle.av1_itx.specs.Adst.{adst_sum_with, adst_turn_with, adst_in, adst_out, adst_out_with, adst_rounds, adst_rounds_with, adst_more, adst_more_with}
-use Rattle.av1_itx.specs.Identity.{scaled, scaled_with, identity_with}
+use Rattle.av1_itx.specs.Identity.{exact, scaled, scaled_with, identity_with}
 use Rattle.av1_itx.specs.Walsh.{walsh, walsh_with}
 use Rattle.av1_itx.specs.Networks.{HasNetwork, network, network_with}
 use Rattle.av1_lists.proofs.Lists.{length-by_index}
@@ -29,6 +29,17 @@ scaled-zero (suc zero) z h = round12-zero (pos 5793 *ℤ z) (omega (arith, ints)
 scaled-zero (suc (suc zero)) z h = omega (arith, ints)
 scaled-zero (suc (suc (suc zero))) z h = round12-zero (pos 11586 *ℤ z) (omega (arith, ints))
 scaled-zero (suc (suc (suc (suc k)))) z h = omega (arith, ints)
+
+no_scale : (k : ℕ) → scaled_with exact k (pos 0) ≡ pos 0
+unfolding scaled_with
+no_scale zero = refl
+no_scale (suc zero) = refl
+no_scale (suc (suc zero)) = refl
+no_scale (suc (suc (suc zero))) = refl
+no_scale (suc (suc (suc (suc k)))) = refl
+
+exactly-zero : (k : ℕ) (z : ℤ) → z ≡ pos 0 → scaled_with exact k z ≡ pos 0
+exactly-zero k z h = ap (scaled_with exact k) h ∙ no_scale k
 
 four-zero : (x y z w : ℤ) → x ≡ pos 0 → y ≡ pos 0 → z ≡ pos 0 → w ≡ pos 0 → (i : ℕ) → at (x ∷ y ∷ z ∷ w ∷ []) i ≡ pos 0
 four-zero x y z w hx hy hz hw zero = hx
@@ -119,6 +130,7 @@ network-zero DCT range k x z = cosine-zero range k x z
 network-zero ADST range k x z = adst-zero range k x z
 network-zero FLIPADST range k x z = reverse-zero _ (adst-zero range k x z)
 network-zero IDENTITY range k x z = by_index-zero _ _ (λ i. scaled-zero k _ (z.at i))
+network-zero EXACT_IDENTITY range k x z = by_index-zero _ _ (λ i. exactly-zero k _ (z.at i))
 network-zero WHT range k x z = walsh-zero x z
 
 pub zero_line : (xs : List ℤ) → ((i : ℕ) → i < length xs → at xs i ≡ pos 0) → IsZero xs
@@ -150,6 +162,7 @@ network-length DCT range k x h = cosine-length range k x
 network-length ADST range k x h = adst-length range k x
 network-length FLIPADST range k x h = length-reverse (adst range k x) ∙ adst-length range k x
 network-length IDENTITY range k x h = length-by_index (2 * 2 ^ k) (λ i. scaled k (at x i))
+network-length EXACT_IDENTITY range k x h = length-by_index (2 * 2 ^ k) (λ i. scaled_with exact k (at x i))
 network-length WHT range k x h = ap (λ n. 2 * 2 ^ n) (sym h)
 
 pub zeros : (kind : TxType1D) (range k : ℕ) → HasNetwork kind k → network kind range k (replicate (2 * 2 ^ k) (pos 0)) ≡ replicate (2 * 2 ^ k) (pos 0)

@@ -1,5 +1,6 @@
 -- The inverse identity transform processes of the AV1 specification, for 4, 8, 16 and 32 values.
-use Rattle.std.specs.Prelude.{ℕ, zero, suc, ◌*◌, ◌^◌, ℤ, pos, List}
+use Rattle.std.specs.Prelude.{ℕ, zero, suc, ◌*◌, ◌^◌, ℤ, pos, ◌+ℤ◌, List}
+use Rattle.std.specs.Int.{int_shr}
 use Rattle.av1_dct.specs.Arithmetic.{at}
 use Rattle.av1_dct.specs.Operations.{Operations, wrapping}
 use Rattle.av1_lists.specs.Lists.{by_index}
@@ -14,6 +15,10 @@ scaled_with ops k z = ops.times (pos 4) z
 
 abbrev pub scaled : ℕ → ℤ → ℤ
 scaled = scaled_with wrapping
+
+-- whole numbers that never wrap, as AV1 has them
+abbrev pub exact : Operations
+exact = record wrapping { round = λ s. int_shr (s +ℤ pos 2048) 12 }
 
 -- The inverse identity transform of 2^(k+1) values, for k from 1 to 4.
 unfoldable pub identity_with : Operations → ℕ → List ℤ → List ℤ

@@ -1,11 +1,13 @@
 -- The one-dimensional transforms of a block: which of them runs along the rows and which down the columns.
+use Rattle.std.specs.Prelude.{Bool, if◌then◌else◌}
 use Rattle.av1_blocks.specs.declared.transform.TxType.{TxType}
 use Rattle.av1_blocks.specs.declared.transform.TxType.TheVariants.{DCT_DCT, ADST_DCT, DCT_ADST, ADST_ADST, FLIPADST_DCT}
 use Rattle.av1_blocks.specs.declared.transform.TxType.TheVariants.{DCT_FLIPADST, FLIPADST_FLIPADST, ADST_FLIPADST}
 use Rattle.av1_blocks.specs.declared.transform.TxType.TheVariants.{FLIPADST_ADST, IDTX, V_DCT, H_DCT, V_ADST, H_ADST}
 use Rattle.av1_blocks.specs.declared.transform.TxType.TheVariants.{V_FLIPADST, H_FLIPADST, WHT_WHT}
 use Rattle.av1_itx.specs.declared.kinds.TxType1D.{TxType1D}
-use Rattle.av1_itx.specs.declared.kinds.TxType1D.TheVariants.{DCT, ADST, FLIPADST, IDENTITY, WHT}
+use Rattle.av1_itx.specs.declared.kinds.TxType1D.TheVariants.{DCT, ADST, FLIPADST, IDENTITY}
+use Rattle.av1_itx.specs.declared.kinds.TxType1D.TheVariants.{EXACT_IDENTITY, WHT}
 
 -- the transform down the columns
 abbrev pub column_kind : TxType → TxType1D
@@ -46,3 +48,12 @@ row_kind H_ADST = ADST
 row_kind V_FLIPADST = IDENTITY
 row_kind H_FLIPADST = FLIPADST
 row_kind WHT_WHT = WHT
+
+-- the same, but for an identity, which then never wraps
+abbrev pub exact_kind : TxType1D → TxType1D
+exact_kind IDENTITY = EXACT_IDENTITY
+exact_kind kind = kind
+
+-- the transform along the rows, where `by_av1` says whether an identity never wraps there, as AV1 has it
+abbrev pub row_kind_by : (by_av1 : Bool) → TxType → TxType1D
+row_kind_by by_av1 type = if by_av1 then exact_kind (row_kind type) else row_kind type

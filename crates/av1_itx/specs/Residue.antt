@@ -15,7 +15,7 @@ use Rattle.av1_blocks.specs.Transforms.{tx_width, tx_height, coded}
 use Rattle.av1_dct.specs.Arithmetic.{at, clamp_value}
 use Rattle.av1_lists.specs.Lists.{by_index}
 use Rattle.av1_frame.specs.Arithmetic.{round_shift}
-use Rattle.av1_itx.specs.Kinds.{row_kind, column_kind}
+use Rattle.av1_itx.specs.Kinds.{row_kind, row_kind_by, column_kind}
 use Rattle.av1_itx.specs.Networks.{HasNetwork, network}
 
 -- the lossless type
@@ -85,10 +85,10 @@ row_input size type depth coefficients r c =
     then row_value size type depth (at coefficients (c * coded (tx_height size) + r)) else pos 0
 
 -- row r after its transform; the rows from 32 on are all zeros, which is what places past a list's end read as
-unfoldable pub transformed_row : TxSize → TxType → ℕ → List ℤ → ℕ → List ℤ
-transformed_row size type depth coefficients r =
+unfoldable pub transformed_row : (by_av1 : Bool) → TxSize → TxType → ℕ → List ℤ → ℕ → List ℤ
+transformed_row by_av1 size type depth coefficients r =
     if nat_lt r (coded (tx_height size))
-    then network (row_kind type) (row_range depth) (row_power size)
+    then network (row_kind_by by_av1 type) (row_range depth) (row_power size)
     (by_index (tx_width size) (row_input size type depth coefficients r))
     else []
 
@@ -103,11 +103,16 @@ column_network size type depth f =
     network (column_kind type) (column_range depth) (column_power size) (column_input size depth f)
 
 -- column c after its transform
-unfoldable pub transformed_column : TxSize → TxType → ℕ → List ℤ → ℕ → List ℤ
-transformed_column size type depth coefficients c =
-    column_network size type depth (λ r. at (transformed_row size type depth coefficients r) c)
+unfoldable pub transformed_column : (by_av1 : Bool) → TxSize → TxType → ℕ → List ℤ → ℕ → List ℤ
+transformed_column by_av1 size type depth coefficients c =
+    column_network size type depth (λ r. at (transformed_row by_av1 size type depth coefficients r) c)
 
--- The residue of a block's coefficients: what is added to the sample at row r and column c.
-unfoldable pub residue : TxSize → TxType → ℕ → List ℤ → ℕ → ℕ → ℤ
-residue size type depth coefficients r c =
-    round_shift (at (transformed_column size type depth coefficients c) r) (column_shift type)
+-- The residue of a block's coefficients: what is added to the sample at row r and column c. Whether identities along
+-- rows never wrap, as AV1 has it, `by_av1` says; down columns none does.
+unfoldable pub residue_by : (by_av1 : Bool) → TxSize → TxType → ℕ → List ℤ → ℕ → ℕ → ℤ
+residue_by by_av1 size type depth coefficients r c =
+    round_shift (at (transformed_column by_av1 size type depth coefficients c) r) (column_shift type)
+
+-- as rav1e has it
+abbrev pub residue : TxSize → TxType → ℕ → List ℤ → ℕ → ℕ → ℤ
+residue = residue_by false

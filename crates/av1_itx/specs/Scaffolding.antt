@@ -11,7 +11,7 @@ use Rattle.av1_frame.specs.Arithmetic.{round_shift}
 use Rattle.av1_itx.specs.declared.block.Block.{Block}
 use Rattle.av1_itx.specs.declared.inverse.Place.{Place}
 use Rattle.av1_itx.specs.declared.lane_columns.Columns.{Columns}
-use Rattle.av1_itx.specs.Kinds.{column_kind, row_kind}
+use Rattle.av1_itx.specs.Kinds.{column_kind, row_kind, row_kind_by}
 use Rattle.av1_itx.specs.Networks.{HasNetwork, network}
 use Rattle.av1_itx.specs.LaneGroups.{is_cosine}
 use Rattle.av1_itx.specs.Residue.{column_power, column_range, row_power, row_range, row_shift, row_value}
@@ -57,7 +57,7 @@ pub record AreCoefficients {C : Type 0} (val : C → ℤ) (block : Block) (input
 -- The first rows of coefficients of a block, so many, as columns of the list that they stand in.
 abbrev pub block_rows : Block → (count : ℕ) → Columns
 block_rows block count = record {
-  kind = row_kind block.tx_type;
+  kind = row_kind_by block.by_av1 block.tx_type;
   count = count;
   width = coded (tx_height block.tx_size);
   height = tx_width block.tx_size;
@@ -81,7 +81,8 @@ abbrev pub AreRowsDone : Block → (coefficients buffer : List ℤ) → Type 0
 AreRowsDone block coefficients buffer = (r c : ℕ) → r < tx_height block.tx_size → c < tx_width block.tx_size →
     at buffer (r * tx_width block.tx_size + c) ≡
     clamp_value
-    (round_shift (at (transformed_row block.tx_size block.tx_type block.bd coefficients r) c) (row_shift block.tx_size))
+    (round_shift (at (transformed_row block.by_av1 block.tx_size block.tx_type block.bd coefficients r) c)
+    (row_shift block.tx_size))
     (column_range block.bd)
 
 -- A rectangle among so many samples that has the sides of a block.

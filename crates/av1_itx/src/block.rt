@@ -7,6 +7,8 @@ use av1_blocks::{TxSize, TxType};
 pub(crate) struct Block {
     pub(crate) tx_size: TxSize,
     pub(crate) tx_type: TxType,
+    /// Whether identities along its rows never wrap, as AV1 has it.
+    pub(crate) by_av1: bool,
     /// How many bits a sample has.
     pub(crate) bd: usize,
 }

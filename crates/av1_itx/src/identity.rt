@@ -1,10 +1,11 @@
 //! The inverse identity transforms.
 
-ghost use Rattle.std.specs.Prelude.{◌≡◌, ℕ, ◌*◌, ◌^◌, ◌<◌, ◌≤◌, length, take, drop};
+ghost use Rattle.std.specs.Prelude.{◌≡◌, ℕ, ◌*◌, ◌^◌, ◌<◌, ◌≤◌, pos, ◌+ℤ◌, ◌*ℤ◌, length, take, drop};
+ghost use Rattle.std.specs.Int.{int_shr};
 ghost use Rattle.std.specs.List.{All};
 ghost use Rattle.av1_dct.specs.Arithmetic.{AllFit, FitsBits};
 ghost use Rattle.av1_dct.specs.Word.{column};
-ghost use Rattle.av1_itx.specs.Identity.{identity, scaled};
+ghost use Rattle.av1_itx.specs.Identity.{exact, identity, identity_with, scaled, scaled_with};
 
 use crate::words::BlockWord;
 use av1_blocks::SQRT2;
@@ -40,6 +41,55 @@ pub(crate) fn identity_of<W: BlockWord>(k: usize, input: &[W], output: &mut [W])
     for p in 0..output.len() {
         let z = input[p];
         output[p] = scaled_of(k, z);
+    }
+}
+
+// A value by the square root of 2, never wrapped: what is rounded is what the weight has past 1.
+#[inline(always)]
+fn by_root<W: BlockWord>(z: W) -> W
+    requires { (i : ℕ) → i < W.LANES → FitsBits 20 (W.lane_of z i) }
+    ensures { (i : ℕ) → i < W.LANES → W.lane_of result i ≡ int_shr (pos 5793 *ℤ W.lane_of z i +ℤ pos 2048) 12 }
+{
+    z.plus(W::turn(SQRT2 - 4096, z, 0, z))
+}
+
+// The same by twice the square root of 2, of which what is past 2 is rounded.
+#[inline(always)]
+fn by_two_roots<W: BlockWord>(z: W) -> W
+    requires { (i : ℕ) → i < W.LANES → FitsBits 20 (W.lane_of z i) }
+    ensures { (i : ℕ) → i < W.LANES → W.lane_of result i ≡ int_shr (pos 11586 *ℤ W.lane_of z i +ℤ pos 2048) 12 }
+{
+    let double = z.plus(z);
+    double.plus(W::turn(2 * SQRT2 - 8192, z, 0, z))
+}
+
+// What a value of 2^(k+1) becomes where it never wraps, in each lane.
+#[inline(always)]
+fn exactly_scaled<W: BlockWord>(k: usize, z: W) -> W
+    requires k_in { (1 ≤ k) × (k ≤ 4) }
+    requires fits { (i : ℕ) → i < W.LANES → FitsBits 20 (W.lane_of z i) }
+    ensures { (i : ℕ) → i < W.LANES → W.lane_of result i ≡ scaled_with exact k (W.lane_of z i) }
+{
+    if k == 1 {
+        return by_root(z);
+    }
+    if k == 3 {
+        return by_two_roots(z);
+    }
+    scaled_of(k, z)
+}
+
+#[inline(always)]
+pub(crate) fn exact_identity_of<W: BlockWord>(k: usize, input: &[W], output: &mut [W])
+    requires k_in { (1 ≤ k) × (k ≤ 4) }
+    requires input_len { length input.now ≡ 2 * 2 ^ k }
+    requires output_len { length output.old ≡ 2 * 2 ^ k }
+    requires fit { (i : ℕ) → i < W.LANES → AllFit 20 (column W.lane_of i input.now) }
+    ensures { (i : ℕ) → i < W.LANES → column W.lane_of i output.new ≡ identity_with exact k (column W.lane_of i input.now) }
+{
+    for p in 0..output.len() {
+        let z = input[p];
+        output[p] = exactly_scaled(k, z);
     }
 }
 

@@ -1,6 +1,6 @@
 //! The inverse transform of a block, added to its samples.
 
-ghost use Rattle.std.specs.Prelude.{◌≡◌, ℕ, ◌+◌, ◌-◌, ◌*◌, ◌<◌, ◌≤◌, ◌⊎◌, IfOk, IsTrue, OnOk, OnErr, ℤ, pos, ◌+ℤ◌, length, map, vec_len};
+ghost use Rattle.std.specs.Prelude.{◌≡◌, ℕ, ◌+◌, ◌-◌, ◌*◌, ◌<◌, ◌≤◌, ◌⊎◌, IfOk, IsTrue, OnOk, OnErr, false, ℤ, pos, ◌+ℤ◌, length, map, vec_len};
 ghost use Rattle.av1_blocks.specs.declared.transform.TxSize.TheVariants.{TX_4X4};
 ghost use Rattle.av1_blocks.specs.declared.transform.TxType.TheVariants.{WHT_WHT};
 ghost use Rattle.av1_blocks.specs.Depths.{IsDepth};
@@ -12,7 +12,7 @@ ghost use Rattle.av1_frame.specs.Areas.{AreRows};
 ghost use Rattle.av1_frame.specs.Samples.{paint};
 ghost use Rattle.av1_frame.specs.Regions.{InStorage, painted};
 ghost use Rattle.av1_itx.specs.LaneGroups.{lane_groups};
-ghost use Rattle.av1_itx.specs.Residue.{column_shift, residue};
+ghost use Rattle.av1_itx.specs.Residue.{column_shift, residue, residue_by};
 ghost use Rattle.av1_itx.specs.Scaffolding.{AreCoefficients, IsPlaceFor, IsSingleBlock};
 
 use crate::adding::{add_all, raise_all};
@@ -31,13 +31,16 @@ pub struct TxScratch {
     buffer: Vec<i32>,
     scaled: Vec<i32>,
     lanes: Lanes,
+    /// Whether identities along rows never wrap, as AV1 has it. New scratch has them wrap at 32 bits, as rav1e does.
+    pub by_av1: bool,
     ghost long: { (vec_len buffer ≡ 4096) × (vec_len scaled ≡ 2048) },
 }
 
 impl TxScratch {
     /// Room for every size, 64x64 included.
     pub fn new(alloc: Global) -> Result<TxScratch, OutOfMemory>
-        ensures { IfOk result (λ scratch. scratch.lanes.count.groups ≡ 0) }
+        ensures groups { IfOk result (λ scratch. scratch.lanes.count.groups ≡ 0) }
+        ensures rule { IfOk result (λ scratch. scratch.by_av1 ≡ false) }
     {
         let buffer = vec![in alloc; 0; 4096]?;
         let scaled = vec![in alloc; 0; 2048]?;
@@ -46,6 +49,7 @@ impl TxScratch {
             buffer,
             scaled,
             lanes,
+            by_av1: false,
         })
     }
 
@@ -109,7 +113,8 @@ fn add_single<T: Pixel, R: CosineColumns>(
     requires place { IsPlaceFor block place (length samples.old) }
     requires single { IsSingleBlock T.Coeff.val block.tx_type input.now }
     ensures painted { samples.new ≡ paint place.stride place.area
-        (λ r c v. T.pixel (clip block.bd (pos (T.num v) +ℤ residue block.tx_size block.tx_type block.bd (map T.Coeff.val input.now) r c))) samples.old }
+        (λ r c v. T.pixel (clip block.bd (pos (T.num v) +ℤ residue_by block.by_av1 block.tx_size block.tx_type block.bd (map T.Coeff.val input.now) r c)))
+        samples.old }
     ensures counts { R.tally lanes.new ≡ R.raised_by (R.tally lanes.old) (lane_groups block.tx_size block.tx_type) }
 {
     let top = top_value(first_of(input), block);
@@ -135,7 +140,8 @@ fn add_block<T: Pixel, R: CosineColumns>(
     requires buffer_len { length buffer.old ≡ tx_height block.tx_size * tx_width block.tx_size }
     requires scaled_len { length scaled.old ≡ tx_width block.tx_size * coded (tx_height block.tx_size) }
     ensures painted { samples.new ≡ paint place.stride place.area
-        (λ r c v. T.pixel (clip block.bd (pos (T.num v) +ℤ residue block.tx_size block.tx_type block.bd (map T.Coeff.val input.now) r c))) samples.old }
+        (λ r c v. T.pixel (clip block.bd (pos (T.num v) +ℤ residue_by block.by_av1 block.tx_size block.tx_type block.bd (map T.Coeff.val input.now) r c)))
+        samples.old }
     ensures counts { R.tally lanes.new ≡ R.raised_by (R.tally lanes.old) (lane_groups block.tx_size block.tx_type) }
 {
     row_pass(input, scaled, buffer, block);
@@ -160,7 +166,8 @@ fn add_over<T: Pixel, R: CosineColumns>(
     requires buffer_len { 4096 ≤ length buffer.old }
     requires scaled_len { 2048 ≤ length scaled.old }
     ensures painted { samples.new ≡ paint place.stride place.area
-        (λ r c v. T.pixel (clip block.bd (pos (T.num v) +ℤ residue block.tx_size block.tx_type block.bd (map T.Coeff.val input.now) r c))) samples.old }
+        (λ r c v. T.pixel (clip block.bd (pos (T.num v) +ℤ residue_by block.by_av1 block.tx_size block.tx_type block.bd (map T.Coeff.val input.now) r c)))
+        samples.old }
     ensures counts { R.tally lanes.new ≡ R.raised_by (R.tally lanes.old) (lane_groups block.tx_size block.tx_type) }
 {
     if is_single(input, block.tx_type) {
@@ -186,7 +193,8 @@ fn add_over<T: Pixel, R: CosineColumns>(
 ///
 /// The coefficient of row r and column c stands at `c * min(height, 32) + r` of `input`; the rows and columns from 32
 /// on have none. Those that `input` is too short for are 0, and cost nothing: a codec that knows the last column with a
-/// coefficient hands over the columns up to it. All samples outside the rectangle stay.
+/// coefficient hands over the columns up to it. All samples outside the rectangle stay. Whether identities along rows
+/// wrap, `by_av1` of the scratch says.
 pub fn inverse_transform_add_to<T: Pixel>(
     scratch: &mut TxScratch,
     input: &[T::Coeff],
@@ -205,7 +213,8 @@ pub fn inverse_transform_add_to<T: Pixel>(
     requires rows { AreRows stride area (length samples.old) }
     requires width { area.width ≡ tx_width tx_size }
     requires height { area.height ≡ tx_height tx_size }
-    ensures painted { samples.new ≡ paint stride area (λ r c v. T.pixel (clip bd (pos (T.num v) +ℤ residue tx_size tx_type bd (map T.Coeff.val input.now) r c)))
+    ensures painted { samples.new ≡
+        paint stride area (λ r c v. T.pixel (clip bd (pos (T.num v) +ℤ residue_by scratch.old.by_av1 tx_size tx_type bd (map T.Coeff.val input.now) r c)))
         samples.old }
     ensures lanes { scratch.new.lanes.count.groups ≡ raised scratch.old.lanes.count.groups (lane_groups tx_size tx_type) }
 {
@@ -219,6 +228,7 @@ pub fn inverse_transform_add_to<T: Pixel>(
         Block {
             tx_size,
             tx_type,
+            by_av1: scratch.by_av1,
             bd,
         },
     );
@@ -256,6 +266,7 @@ pub fn inverse_transform_add_in<T: Pixel>(
         Block {
             tx_size,
             tx_type,
+            by_av1: false,
             bd,
         },
     );
@@ -280,7 +291,7 @@ pub fn inverse_transform_add_with<T: Pixel>(
     requires columns { tx_width tx_size ≤ output.old.area.width }
     requires rows { tx_height tx_size ≤ output.old.area.height }
     ensures painted { output.new ≡ painted output.old (tx_width tx_size) (tx_height tx_size)
-        (λ r c v. T.pixel (clip bd (pos (T.num v) +ℤ residue tx_size tx_type bd (map T.Coeff.val input.now) r c))) }
+        (λ r c v. T.pixel (clip bd (pos (T.num v) +ℤ residue_by scratch.old.by_av1 tx_size tx_type bd (map T.Coeff.val input.now) r c))) }
     ensures fits { InStorage output.new }
     ensures lanes { scratch.new.lanes.count.groups ≡ raised scratch.old.lanes.count.groups (lane_groups tx_size tx_type) }
 {

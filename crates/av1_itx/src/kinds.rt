@@ -1,7 +1,8 @@
 //! Which one-dimensional transforms a type is made of.
 
-ghost use Rattle.std.specs.Prelude.{◌≡◌};
-ghost use Rattle.av1_itx.specs.Kinds.{column_kind, row_kind};
+ghost use Rattle.std.specs.Prelude.{◌≡◌, if◌then◌else◌};
+ghost use Rattle.av1_itx.specs.Kinds.{column_kind, row_kind, row_kind_by};
+ghost use Rattle.av1_itx.specs.declared.kinds.TxType1D.TheVariants.{EXACT_IDENTITY, IDENTITY};
 
 use av1_blocks::TxType;
 
@@ -16,6 +17,8 @@ pub enum TxType1D {
     FLIPADST,
     /// The identity, scaled, of 4 to 32 values.
     IDENTITY,
+    /// The same over whole numbers that never wrap, as AV1 has it. No type is made of it.
+    EXACT_IDENTITY,
     /// The Walsh-Hadamard transform, of 4 values.
     WHT,
 }
@@ -43,5 +46,27 @@ pub fn get_1d_tx_types(tx_type: TxType) -> (TxType1D, TxType1D)
         TxType::V_FLIPADST => (TxType1D::FLIPADST, TxType1D::IDENTITY),
         TxType::H_FLIPADST => (TxType1D::IDENTITY, TxType1D::FLIPADST),
         TxType::WHT_WHT => (TxType1D::WHT, TxType1D::WHT),
+    }
+}
+
+// The identity, which never wraps where `by_av1` says so.
+fn identity_kind(by_av1: bool) -> TxType1D
+    ensures { result ≡ (if by_av1 then EXACT_IDENTITY else IDENTITY) }
+{
+    if by_av1 {
+        TxType1D::EXACT_IDENTITY
+    } else {
+        TxType1D::IDENTITY
+    }
+}
+
+/// The transform along the rows of a type, where `by_av1` says whether an identity never wraps there, as AV1 has it.
+pub(crate) fn row_kind_of(tx_type: TxType, by_av1: bool) -> TxType1D
+    ensures { result ≡ row_kind_by by_av1 tx_type }
+{
+    let (_, kind) = get_1d_tx_types(tx_type);
+    match kind {
+        TxType1D::IDENTITY => identity_kind(by_av1),
+        _ => kind,
     }
 }

@@ -1,6 +1,6 @@
 //! Laws of the transforms, each a function that does nothing and ensures it.
 
-ghost use Rattle.std.specs.Prelude.{◌≡◌, ℕ, ◌*◌, ◌^◌, ◌≤◌, ◌↔◌, IsTrue, max, ℤ, pos, List, length, replicate, reverse};
+ghost use Rattle.std.specs.Prelude.{◌≡◌, ℕ, ◌*◌, ◌^◌, ◌≤◌, ◌↔◌, Bool, IsTrue, max, ℤ, pos, List, length, replicate, reverse};
 ghost use Rattle.std.specs.List.{All};
 ghost use Rattle.av1_blocks.specs.declared.transform.TxSize.{TxSize};
 ghost use Rattle.av1_blocks.specs.declared.transform.TxSize.TheVariants.{TX_4X4};
@@ -14,7 +14,7 @@ ghost use Rattle.av1_itx.specs.declared.kinds.TxType1D.TheVariants.{ADST, FLIPAD
 ghost use Rattle.av1_itx.specs.Kinds.{column_kind, row_kind};
 ghost use Rattle.av1_itx.specs.Walsh.{walsh};
 ghost use Rattle.av1_itx.specs.Networks.{HasNetwork, network, network_with};
-ghost use Rattle.av1_itx.specs.Residue.{HasNetworks, column_input, column_range, residue};
+ghost use Rattle.av1_itx.specs.Residue.{HasNetworks, column_input, column_range, residue, residue_by};
 
 /// A law: coefficients that are all zero have no residue, whatever the size, the type and the depth. So a block without
 /// coefficients needs no inverse transform.
@@ -53,6 +53,13 @@ pub fn valid_types_are_those_that_run()
 pub fn networks_never_wrap()
     ensures { (ops : Operations) → AreRight32 ops → (kind : TxType1D) (range k : ℕ) (x : List ℤ) → range ≤ 18 → All (FitsBits 18) x →
         network_with ops kind range k x ≡ network kind range k x }
+{}
+
+/// A law: at depths up to 10 no identity along rows wraps, so that each residue is the same by rav1e's rule and by
+/// AV1's.
+pub fn shallow_identities_never_wrap()
+    ensures { (by_av1 : Bool) (size : TxSize) (type : TxType) (depth : ℕ) (coefficients : List ℤ) (r c : ℕ) → depth ≤ 10 →
+        residue_by by_av1 size type depth coefficients r c ≡ residue size type depth coefficients r c }
 {}
 
 /// A law: at depths up to 12 the transforms of the columns have such inputs and such a range, whatever the rows gave.

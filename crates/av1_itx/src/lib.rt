@@ -5,11 +5,12 @@
 //! `av1_dct` for the inverse cosine transforms and the arithmetic of all of them, and on `av1_frame` for samples and
 //! the regions that they lie in. It promises to the walk above it:
 //!
-//! - `inverse_transform_add_to` turns each sample of a rectangle of a slice into itself plus `residue` of
-//!   `specs/Residue.antt`, clipped to the depth, and leaves all other samples as they were;
-//!   `inverse_transform_add_with` does so in a region. Both run over a `TxScratch` that is made once, allocate nothing
-//!   and always succeed. `inverse_transform_add_in` does the former over a `TxRoom`, a plain struct of arrays that C
-//!   may own, too. `inverse_transform_add` makes its own scratch; where memory is refused it changes nothing.
+//! - `inverse_transform_add_to` turns each sample of a rectangle of a slice into itself plus `residue_by` of
+//!   `specs/Residue.antt`, clipped to the depth, and leaves all other samples as they were (rav1e's `residue`, unless
+//!   `by_av1` of the scratch is set); `inverse_transform_add_with` does so in a region. Both run over a `TxScratch`
+//!   that is made once, allocate nothing and always succeed. `inverse_transform_add_in` does the former over a
+//!   `TxRoom`, a plain struct of arrays that C may own, too. `inverse_transform_add` makes its own scratch; where
+//!   memory is refused it changes nothing.
 //! - Columns that take the cosine transform, where there are eight or more, go eight at a time: over a scratch through
 //!   `cosine_lanes`, and the scratch counts these groups (`TxScratch::lane_groups`, which each call raises by
 //!   `lane_groups` of `specs/LaneGroups.antt`); over a `TxRoom` by `cosine_columns`, in place, or in lanes of 32 bits
@@ -22,13 +23,14 @@
 //!   of `output`.
 //! - the laws, functions that do nothing: zeros have no residue and are not changed by any transform, a flipped
 //!   transform is the plain one reversed, the Walsh-Hadamard transform loses nothing, every valid type has its two
-//!   transforms, and nothing wraps at 32 bits where inputs and range have 18, as those of the columns always do.
+//!   transforms, and nothing wraps at 32 bits where inputs and range have 18, as those of the columns always do; so at
+//!   depths up to 10 no identity does.
 //!
 //! A block is one of `TxSize`'s, `w` columns by `h` rows of samples. Its coefficients stand column by column, at most
 //! 32 of each column and 32 columns: that of row r and column c at `c * min(h, 32) + r`. Those past the end of the list
 //! that a call is given are 0. `bd` is the depth of the samples in bits, and `range` the number of bits that values
 //! within a transform are clamped to. At a depth of 12 sums of the rows can leave 32 bits; they wrap there, as in
-//! rav1e, and the definitions say so.
+//! rav1e, and the definitions say so. By AV1's rule, which `by_av1` of a scratch chooses, identities don't.
 #![tactic(auto)]
 
 mod adding;
@@ -59,7 +61,8 @@ pub use inverse::{
 pub use kinds::{TxType1D, get_1d_tx_types};
 pub use laws::{
     columns_never_wrap, flipped_is_reversed, networks_never_wrap, networks_of_zeros,
-    residue_of_zeros, valid_types_are_those_that_run, walsh_loses_nothing,
+    residue_of_zeros, shallow_identities_never_wrap, valid_types_are_those_that_run,
+    walsh_loses_nothing,
 };
 pub use shift::av1_round_shift_array;
 pub use walsh::av1_iwht4;

@@ -8,7 +8,7 @@ ghost use Rattle.av1_dct.specs.Word.{column};
 ghost use Rattle.av1_itx.specs.Networks.{network, HasNetwork};
 
 use crate::adst::adst_of;
-use crate::identity::identity_of;
+use crate::identity::{exact_identity_of, identity_of};
 use crate::kinds::TxType1D;
 use crate::walsh::walsh_of;
 use crate::words::BlockWord;
@@ -52,6 +52,7 @@ pub(crate) fn inverse_1d<W: BlockWord>(
             output.reverse();
         }
         TxType1D::IDENTITY => identity_of(k, input, output),
+        TxType1D::EXACT_IDENTITY => exact_identity_of(k, input, output),
         TxType1D::WHT => walsh_of(input, output),
     }
 }

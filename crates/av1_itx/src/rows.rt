@@ -13,7 +13,7 @@ ghost use Rattle.av1_itx.specs.Scaffolding.{AreCoefficients, AreRowsDone, block_
 
 use crate::block::Block;
 use crate::columns::{column_range_of, row_shift_of};
-use crate::kinds::get_1d_tx_types;
+use crate::kinds::row_kind_of;
 use crate::lane_columns::Columns;
 use crate::lanes::{LANES, run_columns};
 use crate::words::BlockWord;
@@ -249,9 +249,8 @@ fn rows_in(block: Block, count: usize) -> Columns
     requires { (8 ≤ block.bd) × (block.bd ≤ 12) }
     ensures { result ≡ block_rows block count }
 {
-    let (_, kind) = get_1d_tx_types(block.tx_type);
     Columns {
-        kind,
+        kind: row_kind_of(block.tx_type, block.by_av1),
         count,
         width: block.tx_size.height().min(32),
         height: block.tx_size.width(),

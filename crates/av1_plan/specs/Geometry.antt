@@ -12,6 +12,12 @@ use Rattle.av1_plan.specs.declared.header.Header.{Header}
 use Rattle.av1_plan.specs.declared.geometry.PlaneArea.{PlaneArea}
 use Rattle.av1_plan.specs.declared.geometry.TransformBlock.{TransformBlock}
 
+-- ---- versions
+
+-- Whether a plan comes to what the AV1 specification says where rav1e departs from it: in the third version.
+abbrev pub follows_av1 : Header → Bool
+follows_av1 h = h.version == 3
+
 -- ---- planes
 
 -- the logarithm to base 2 of how many luma columns a sample of plane p stands for: 1 in the chroma of 4:2:0 and 4:2:2

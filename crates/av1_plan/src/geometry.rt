@@ -45,7 +45,15 @@ pub fn coded_side(shown: u16) -> u16
 impl Header {
     ghost use Rattle.std.specs.Prelude.{◌≡◌, ◌≤◌, ◌<◌};
     ghost use Rattle.av1_plan.specs.Geometry.{xdec, ydec, plane_width, plane_height, shown_columns, shown_rows, plane_len};
-    ghost use Rattle.av1_plan.specs.Geometry.{has_slot, is_inside};
+    ghost use Rattle.av1_plan.specs.Geometry.{follows_av1, has_slot, is_inside};
+
+    /// Whether a plan with this header comes to what the AV1 specification says where rav1e departs from it: in the
+    /// third version.
+    pub fn follows_av1(&self) -> bool
+        ensures { result ≡ follows_av1 self.now }
+    {
+        self.version == 3
+    }
 
     /// The logarithm to base 2 of how many luma columns a sample of plane `p` stands for.
     #[tactic(auto, unfolding(crate::specs::Geometry::xdec))]

@@ -10,21 +10,21 @@ use Rattle.av1_plan.specs.Geometry.{shown_columns}
 use Rattle.av1_plan.specs.Plan.{PlanValue}
 use Rattle.av1_plan.specs.Validity.{has_reference}
 use Rattle.av1_references.specs.Laws.{CompoundMotionLiesWithin, SingleMotionLiesWithin}
-use Rattle.av1_references.specs.References.{ServesPlan, reference_plane, single_motion, slot_in, slot_samples}
+use Rattle.av1_references.specs.References.{ServesPlan, plan_filter, reference_plane, single_motion, slot_in, slot_samples}
 use Rattle.av1_references.proofs.Filled.{read_below}
 use Rattle.av1_references.proofs.Served.{plane_holds, plane_of_slot}
 use Rattle.av1_inter.proofs.Within.{compound_prediction_within, single_prediction_within}
 
 pub single_motion_within : SingleMotionLiesWithin
 single_motion_within value p reference mv area r c some_columns some_rows below =
-    single_prediction_within value.header.depth value.header.filter (reference_plane value (slot_in value.header reference) p) mv area r c some_columns
+    single_prediction_within value.header.depth (plan_filter value.header) (reference_plane value (slot_in value.header reference) p) mv area r c some_columns
     some_rows
     (λ x y _ _. read_below (slot_samples value (slot_in value.header reference) p) (2 ^ value.header.depth) (y * shown_columns value.header p + x)
     (pow_pos value.header.depth) below)
 
 pub compound_motion_within : CompoundMotionLiesWithin
 compound_motion_within value p references mvs area r c =
-    compound_prediction_within value.header.depth value.header.filter (reference_plane value (slot_in value.header (reference_in references 0)) p)
+    compound_prediction_within value.header.depth (plan_filter value.header) (reference_plane value (slot_in value.header (reference_in references 0)) p)
     (reference_plane value (slot_in value.header (reference_in references 1)) p) (vector_of mvs 0) (vector_of mvs 1) area r c
 
 -- So does each sample that is predicted from a reference that frame settings hold.
@@ -34,6 +34,6 @@ pub held_motion_within : {T : Type 0} (num : T → ℕ) (value : PlanValue) (fi 
 held_motion_within num value fi reference p mv area r c holds has below =
     let (plane, is) = plane_of_slot num value fi holds reference has p below in
     let held = plane_holds num value fi holds reference has p plane below is in
-    single_prediction_within value.header.depth value.header.filter (reference_plane value (slot_in value.header reference) p) mv area r c
+    single_prediction_within value.header.depth (plan_filter value.header) (reference_plane value (slot_in value.header reference) p) mv area r c
     (omega (arith, held.padded.whole.some_columns, held.width)) (omega (arith, held.padded.whole.some_rows, held.height))
     (λ x y a b. subst (λ (n : ℕ). n < 2 ^ value.header.depth) (held.shows x y a b) (held.within x y a b))

@@ -1,5 +1,5 @@
 -- A leaf's area that was predicted through a region shows the motion of the plan.
-use Rattle.std.proofs.Common.{ℕ, ◌<◌, ◌≡◌, ◌∙◌, ap, arith, true, List, Some, ℤ, pos, ◌+ℤ◌}
+use Rattle.std.proofs.Common.{ℕ, ◌<◌, ◌≡◌, ◌∙◌, ap, arith, Bool, true, List, Some, ℤ, pos, ◌+ℤ◌}
 use Rattle.std.proofs.lemmas.Int.{ints}
 use Rattle.av1_blocks.specs.declared.mc.FilterMode.{FilterMode}
 use Rattle.av1_blocks.specs.declared.mc.MotionVector.{MotionVector}
@@ -16,13 +16,15 @@ use Rattle.av1_frame.specs.Planes.{painted_plane}
 use Rattle.av1_frame.specs.Regions.{painted}
 use Rattle.av1_frame.proofs.Planes.{region_painted}
 use Rattle.av1_frame.proofs.Regions.{painted_same}
+use Rattle.av1_inter.specs.Filters.{mode_along}
 use Rattle.av1_inter.specs.Motion.{averaged}
 use Rattle.av1_inter.specs.Prediction.{compound_pixel, PredictsCompound, PredictsSingle, single_pixel}
-use Rattle.av1_inter.specs.Reference.{as_reference, prepared_in, single_in, slot_of, vector_of, reference_of as reference_in}
+use Rattle.av1_inter.specs.Reference.{as_reference, frame_filter, prepared_in, single_in, slot_of, vector_of, reference_of as reference_in}
 use Rattle.av1_plan.specs.declared.geometry.PlaneArea.{PlaneArea}
+use Rattle.av1_plan.specs.Geometry.{follows_av1}
 use Rattle.av1_plan.specs.Plan.{PlanValue}
 use Rattle.av1_plan.specs.Validity.{has_reference}
-use Rattle.av1_references.specs.References.{compound_motion, ServesPlan, leaf_area, reference_plane, single_motion, slot_in}
+use Rattle.av1_references.specs.References.{compound_motion, ServesPlan, leaf_area, plan_filter, reference_plane, single_motion, slot_in}
 use Rattle.av1_inter.proofs.SameReferences.{ShowSame, prepared_in_same, single_in_same}
 use Rattle.av1_references.proofs.Served.{held_same, plane_holds, plane_of_slot}
 
@@ -69,6 +71,12 @@ module _ {T : Type 0} (num : T → ℕ) (pixel : ℕ → T) (value : PlanValue) 
       ShowSame (as_reference num q) (reference_plane value (slot_in value.header reference) p)
   shown reference q has is = held_same num value (slot_in value.header reference) p q (plane_holds num value fi holds reference has p q below is)
 
+  -- the frame's filter is the plan's, along each side
+  filter_is : frame_filter fi ≡ plan_filter value.header
+  filter_is =
+      ap (λ (by_av1 : Bool). mode_along by_av1 fi.default_filter) holds.settings.short_by_av1
+      ∙ ap (λ (mode : FilterMode). mode_along (follows_av1 value.header) mode) holds.settings.filter
+
   -- a prediction from a plane, by the place and the sides of the leaf
   moved_to : (f : ℤ → ℤ → ℕ → ℕ → ℕ → ℕ → T → T) (g : ℕ → ℕ → T → T) → o ≡ painted r w h (f x y w h)
       → ((i j : ℕ) (v : T) → i < block_height area.size → j < block_width area.size →
@@ -89,24 +97,24 @@ module _ {T : Type 0} (num : T → ℕ) (pixel : ℕ → T) (value : PlanValue) 
       let a = leaf_area area in
       moved_to (λ (x y : ℤ) (w h : ℕ). single_pixel num pixel fi q x y mv w h) (λ i j _. pixel (single_motion value p reference mv a i j)) (predicts q is)
       (λ i j v l k. ap pixel (
-      ap (λ (d : ℕ). single_in d fi.default_filter (as_reference num q) (pos a.x) (pos a.y) mv a.width a.height i j) holds.settings.depth
-      ∙ ap (λ (m : FilterMode). single_in value.header.depth m (as_reference num q) (pos a.x) (pos a.y) mv a.width a.height i j) holds.settings.filter
+      ap (λ (d : ℕ). single_in d (frame_filter fi) (as_reference num q) (pos a.x) (pos a.y) mv a.width a.height i j) holds.settings.depth
+      ∙ ap (λ (m : ℕ → FilterMode). single_in value.header.depth m (as_reference num q) (pos a.x) (pos a.y) mv a.width a.height i j) filter_is
       ∙ single_in_same (as_reference num q) (reference_plane value (slot_in value.header reference) p)
-      (shown reference q has is) value.header.depth value.header.filter (pos a.x) (pos a.y) mv a.width a.height i j))
+      (shown reference q has is) value.header.depth (plan_filter value.header) (pos a.x) (pos a.y) mv a.width a.height i j))
 
   -- what is prepared of a reference
   prepared_same : (reference : RefType) (q : Plane T) (mv : MotionVector) → has_reference value.header reference ≡ true →
       slot_plane fi (slot_of fi reference) p ≡ Some q → (i j : ℕ)
       → i < block_height area.size → j < block_width area.size
-      → prepared_in fi.bit_depth fi.default_filter (as_reference num q) (pos area.x) (pos area.y) mv (block_width area.size) (block_height area.size) i j
-      ≡ prepared_in value.header.depth value.header.filter (reference_plane value (slot_in value.header reference) p) (pos area.x)
+      → prepared_in fi.bit_depth (frame_filter fi) (as_reference num q) (pos area.x) (pos area.y) mv (block_width area.size) (block_height area.size) i j
+      ≡ prepared_in value.header.depth (plan_filter value.header) (reference_plane value (slot_in value.header reference) p) (pos area.x)
       (pos area.y) mv (block_width area.size) (block_height area.size) i j
   prepared_same reference q mv has is i j l k =
       let a = leaf_area area in
-      ap (λ (d : ℕ). prepared_in d fi.default_filter (as_reference num q) (pos a.x) (pos a.y) mv a.width a.height i j) holds.settings.depth
-      ∙ ap (λ (m : FilterMode). prepared_in value.header.depth m (as_reference num q) (pos a.x) (pos a.y) mv a.width a.height i j) holds.settings.filter
+      ap (λ (d : ℕ). prepared_in d (frame_filter fi) (as_reference num q) (pos a.x) (pos a.y) mv a.width a.height i j) holds.settings.depth
+      ∙ ap (λ (m : ℕ → FilterMode). prepared_in value.header.depth m (as_reference num q) (pos a.x) (pos a.y) mv a.width a.height i j) filter_is
       ∙ prepared_in_same (as_reference num q) (reference_plane value (slot_in value.header reference) p)
-      (shown reference q has is) value.header.depth value.header.filter (pos a.x) (pos a.y) mv a.width a.height i j
+      (shown reference q has is) value.header.depth (plan_filter value.header) (pos a.x) (pos a.y) mv a.width a.height i j
 
   pub compound_region : (references : List RefType) (mvs : List MotionVector) → has_reference value.header (reference_in references 0) ≡ true
       → has_reference value.header (reference_in references 1) ≡ true → PredictsCompound num pixel fi p references x y mvs w h r o
@@ -115,11 +123,15 @@ module _ {T : Type 0} (num : T → ℕ) (pixel : ℕ → T) (value : PlanValue) 
       let (q, q_is) = plane_of_slot num value fi holds (reference_in references 0) has_first p below in
       let (t, t_is) = plane_of_slot num value fi holds (reference_in references 1) has_second p below in
       let a = leaf_area area in
-      let one = λ (i j : ℕ). prepared_in fi.bit_depth fi.default_filter (as_reference num q) (pos a.x) (pos a.y) (vector_of mvs 0) a.width a.height i j in
-      let two = λ (i j : ℕ). prepared_in fi.bit_depth fi.default_filter (as_reference num t) (pos a.x) (pos a.y) (vector_of mvs 1) a.width a.height i j in
-      let second = λ (i j : ℕ). prepared_in value.header.depth value.header.filter (reference_plane value (slot_in value.header (reference_in references 1)) p)
+      let one = λ (i j : ℕ). prepared_in fi.bit_depth (frame_filter fi) (as_reference num q) (pos a.x) (pos a.y) (vector_of mvs 0) a.width a.height i j in
+      let two = λ (i j : ℕ). prepared_in fi.bit_depth (frame_filter fi) (as_reference num t) (pos a.x) (pos a.y) (vector_of mvs 1) a.width a.height i j in
+      let second =
+      λ (i j : ℕ). prepared_in value.header.depth (plan_filter value.header)
+      (reference_plane value (slot_in value.header (reference_in references 1)) p)
       (pos a.x) (pos a.y) (vector_of mvs 1) a.width a.height i j in
-      let first = λ (i j : ℕ). prepared_in value.header.depth value.header.filter (reference_plane value (slot_in value.header (reference_in references 0)) p)
+      let first =
+      λ (i j : ℕ). prepared_in value.header.depth (plan_filter value.header)
+      (reference_plane value (slot_in value.header (reference_in references 0)) p)
       (pos a.x) (pos a.y) (vector_of mvs 0) a.width a.height i j in
       moved_to (λ (x y : ℤ) (w h : ℕ). compound_pixel num pixel fi q t x y mvs w h) (λ i j _. pixel (compound_motion value p references mvs a i j))
       (predicts q t q_is t_is) (λ i j v l k. ap pixel (

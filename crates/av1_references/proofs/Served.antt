@@ -54,7 +54,7 @@ some_of None e = absurd cc
 -- settings that hold all references of a plan serve it
 pub holds_serves : {T : Type 0} (num : T → ℕ) (value : PlanValue) (fi : FrameInvariants T) → HoldsReferences num value fi → ServesPlan num value fi
 holds_serves {T} num value fi holds = record {
-  settings = record { depth = holds.settings.depth; filter = holds.settings.filter };
+  settings = record { depth = holds.settings.depth; filter = holds.settings.filter; short_by_av1 = holds.settings.short_by_av1 };
   depth = holds.depth;
   named = λ reference has. omega (arith, slot_is reference, (offered value.header reference has).slot);
   filled = λ reference p has h.

@@ -10,7 +10,7 @@ use Rattle.av1_frame.specs.declared.plane.Plane.{Plane}
 use Rattle.av1_frame.specs.declared.slots.Slot.{Slot}
 use Rattle.av1_frame.specs.Frames.{new_frame, plane_of, slot_plane}
 use Rattle.av1_blocks.specs.Depths.{IsDepth}
-use Rattle.av1_plan.specs.Geometry.{has_slot}
+use Rattle.av1_plan.specs.Geometry.{follows_av1, has_slot}
 use Rattle.av1_plan.specs.Plan.{PlanValue}
 use Rattle.av1_references.specs.References.{HasSettings, HoldsPlane, HoldsReferences, slot_samples}
 
@@ -28,11 +28,11 @@ all_same zero i x = refl
 all_same (suc n) zero x = refl
 all_same (suc n) (suc i) x = all_same n i x
 
--- a new frame holds no slot yet
+-- a new frame with the filter of a header holds no slot yet
 pub holds_none : {T : Type 0} (num : T → ℕ) (value : PlanValue) (fi : FrameInvariants T) → let h = value.header
-    in fi ≡ new_frame h.width h.height h.filter h.depth h.edge_filter h.slots → HoldsFirst num value 0 fi
+    in fi ≡ record (new_frame h.width h.height h.filter h.depth h.edge_filter h.slots) { short_by_av1 = follows_av1 h } → HoldsFirst num value 0 fi
 holds_none {T} num value fi e = subst (λ (f : FrameInvariants T). HoldsFirst num value 0 f) (sym e) (record {
-  settings = record { columns = refl; rows = refl; depth = refl; filter = refl; edge_filter = refl; slots = refl };
+  settings = record { columns = refl; rows = refl; depth = refl; filter = refl; short_by_av1 = refl; edge_filter = refl; slots = refl };
   count = refl;
   filled = λ slot p l _. absurd (omega (arith, l));
   planes = λ slot p plane l _ _. absurd (omega (arith, l));
@@ -83,6 +83,7 @@ module _ {T : Type 0} (num : T → ℕ) (value : PlanValue) (n : ℕ) (fi : Fram
         rows = holds.settings.rows;
         depth = holds.settings.depth;
         filter = holds.settings.filter;
+        short_by_av1 = holds.settings.short_by_av1;
         edge_filter = holds.settings.edge_filter;
         slots = holds.settings.slots;
       };

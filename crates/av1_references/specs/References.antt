@@ -2,6 +2,7 @@
 -- predicts from them. AV1 specification: inter prediction process, motion vector scaling process.
 use Rattle.std.specs.Prelude.{◌≡◌, true, ℕ, ◌+◌, ◌*◌, ◌/◌, ◌-◌, ◌^◌, ◌<◌, ◌≤◌, List, [], Some, is_some, unwrap_or}
 use Rattle.std.specs.Prelude.{slice_index}
+use Rattle.av1_blocks.specs.declared.mc.FilterMode.{FilterMode}
 use Rattle.av1_blocks.specs.declared.mc.MotionVector.{MotionVector}
 use Rattle.av1_blocks.specs.declared.partition.RefType.{RefType}
 use Rattle.av1_blocks.specs.Blocks.{block_width, block_height}
@@ -12,11 +13,12 @@ use Rattle.av1_frame.specs.Areas.{VisibleArea}
 use Rattle.av1_frame.specs.Frames.{slot_plane}
 use Rattle.av1_frame.specs.Planes.{sample_at}
 use Rattle.av1_blocks.specs.Depths.{IsDepth}
+use Rattle.av1_inter.specs.Filters.{mode_along}
 use Rattle.av1_inter.specs.Prediction.{compound_prediction, single_prediction}
 use Rattle.av1_inter.specs.Reference.{IsPadded, ReferencePlane, slot_of, vector_of, reference_of as reference_in}
 use Rattle.av1_plan.specs.declared.geometry.PlaneArea.{PlaneArea}
 use Rattle.av1_plan.specs.declared.header.Header.{Header}
-use Rattle.av1_plan.specs.Geometry.{has_slot, shown_rows, shown_columns, xdec, ydec}
+use Rattle.av1_plan.specs.Geometry.{follows_av1, has_slot, shown_rows, shown_columns, xdec, ydec}
 use Rattle.av1_plan.specs.Plan.{PlanValue, carried_plane}
 use Rattle.av1_plan.specs.Validity.{has_reference}
 
@@ -46,16 +48,20 @@ slot_in h reference = slice_index h.slots (reference_number reference - 1)
 abbrev pub leaf_area : PlaneArea → VisibleArea
 leaf_area a = record { x = a.x; y = a.y; width = block_width a.size; height = block_height a.size }
 
+-- the filter of a frame along a side of such a rectangle: in the third version AV1's, before it rav1e's
+abbrev pub plan_filter : Header → (side : ℕ) → FilterMode
+plan_filter h = mode_along (follows_av1 h) h.filter
+
 -- the sample at row r and column c of an area of plane p that a vector predicts from a reference
 abbrev pub single_motion : PlanValue → (p : ℕ) → RefType → MotionVector → VisibleArea → (r c : ℕ) → ℕ
 single_motion value p reference mv area r c =
-    single_prediction value.header.depth value.header.filter (reference_plane value (slot_in value.header reference) p)
-    mv area r c
+    single_prediction value.header.depth (plan_filter value.header)
+    (reference_plane value (slot_in value.header reference) p) mv area r c
 
 -- and that two vectors predict, each from its reference
 abbrev pub compound_motion : PlanValue → (p : ℕ) → List RefType → List MotionVector → VisibleArea → (r c : ℕ) → ℕ
 compound_motion value p references mvs area r c =
-    compound_prediction value.header.depth value.header.filter
+    compound_prediction value.header.depth (plan_filter value.header)
     (reference_plane value (slot_in value.header (reference_in references 0)) p)
     (reference_plane value (slot_in value.header (reference_in references 1)) p)
     (vector_of mvs 0) (vector_of mvs 1) area r c
@@ -84,6 +90,7 @@ pub record HasSettings {T : Type 0} (h : Header) (fi : FrameInvariants T) : Type
   pub rows : fi.h_in_b ≡ h.height / 4
   pub depth : fi.bit_depth ≡ h.depth
   pub filter : fi.default_filter ≡ h.filter
+  pub short_by_av1 : fi.short_by_av1 ≡ follows_av1 h
   pub edge_filter : fi.enable_intra_edge_filter ≡ h.edge_filter
   pub slots : fi.ref_frames ≡ h.slots
 
@@ -100,6 +107,7 @@ pub record HoldsReferences {T : Type 0} (num : T → ℕ) (value : PlanValue) (f
 pub record PredictsAs {T : Type 0} (h : Header) (fi : FrameInvariants T) : Type 0 where
   pub depth : fi.bit_depth ≡ h.depth
   pub filter : fi.default_filter ≡ h.filter
+  pub short_by_av1 : fi.short_by_av1 ≡ follows_av1 h
 
 -- The frame predicts as the plan's header says, and each reference that the header has names a filled slot of the
 -- frame, with the planes of the plan's slot. In which slots the frame keeps planes, and which others it keeps, is not

@@ -86,6 +86,7 @@ pub fn frame_invariants<T: Pixel>(
         header.edge_filter,
         header.slots,
     )?;
+    fi.short_by_av1 = header.follows_av1();
     for slot in 0..SLOTS {
         if header.has_slot(slot) {
             let y = slot_plane(alloc, plan, slot, 0)?;

@@ -1,5 +1,6 @@
 -- Frames that are kept at places serve the plan of the next frame, once its references name these places.
-use Rattle.std.proofs.Common.{ℕ, zero, suc, ◌-◌, ◌<◌, ◌≡◌, ◌∙◌, true, Bool, List, [], length, get_or, Option, Some, None, refl, ap, sym, subst, arith, inl, inr}
+use Rattle.std.proofs.Common.{ℕ, zero, suc, ◌-◌, ◌<◌, ◌≡◌, ◌∙◌, true, Bool, List, [], length, get_or, Option, Some, None, refl, ap, sym, subst}
+use Rattle.std.proofs.Common.{arith, inl, inr}
 use Rattle.std.proofs.Common.{slice_index, slice_index_or, is_some, replicate, if◌then◌else◌, ltb}
 use Rattle.std.specs.Prelude.{◌&&◌, unwrap_or}
 use Rattle.std.specs.Option.{option_map}
@@ -16,7 +17,7 @@ use Rattle.av1_frame.specs.Frames.{plane_of, slot_plane}
 use Rattle.av1_inter.specs.Reference.{slot_of as place_named}
 use Rattle.av1_lists.proofs.Lists.{get_or-by_index}
 use Rattle.av1_plan.specs.declared.header.Header.{Header}
-use Rattle.av1_plan.specs.Geometry.{has_slot}
+use Rattle.av1_plan.specs.Geometry.{follows_av1, has_slot}
 use Rattle.av1_plan.specs.Plan.{LeafValue, PlanValue, carried_plane}
 use Rattle.av1_plan.specs.ReadPlans.{IsReadFrame}
 use Rattle.av1_plan.specs.Validity.{has_reference}
@@ -79,7 +80,7 @@ chosen b o e = rw e refl
 module _ {T : Type 0} (num : T → ℕ) (h : Header) (fi new : FrameInvariants T) (places : List (Option ℕ)) (head : FrameHead)
     (keeps : KeepsFrames num h fi places) (is : IsHead head)
     (leaves : List LeafValue)
-    (kept : new.slots ≡ fi.slots) (depth : new.bit_depth ≡ fi.bit_depth) (filter : new.default_filter ≡ head.filter)
+    (kept : new.slots ≡ fi.slots) (depth : new.bit_depth ≡ fi.bit_depth) (filter : new.default_filter ≡ head.filter) (short : new.short_by_av1 ≡ follows_av1 h)
     (named : (i place : ℕ) → i < 7 → slice_index_or places (slice_index head.slots i) None ≡ Some place → slice_index new.ref_frames i ≡ place) where
   abbrev slots : Slots
   slots = slots_shown num h fi places
@@ -125,7 +126,7 @@ module _ {T : Type 0} (num : T → ℕ) (h : Header) (fi new : FrameInvariants T
 
   pub serves : ServesPlan num value new
   serves = record {
-    settings = record { depth = depth ∙ keeps.depth; filter = filter };
+    settings = record { depth = depth ∙ keeps.depth; filter = filter; short_by_av1 = short };
     depth = subst IsDepth (sym (depth ∙ keeps.depth)) (depth_is h.depth keeps.frame.depth);
     named = λ reference has. let d = placed reference has in omega (arith, d.names, d.stands.below);
     filled = λ reference p has few.
@@ -203,15 +204,15 @@ keeps_none num h fi places is depth empty none = record {
 -- the settings serve a plan with this header and these references
 pub serves_plan : {T : Type 0} (num : T → ℕ) (h : Header) (fi new : FrameInvariants T) (places : List (Option ℕ)) (head : FrameHead) →
     KeepsFrames num h fi places → IsHead head →
-    new.slots ≡ fi.slots → new.bit_depth ≡ fi.bit_depth → new.default_filter ≡ head.filter
+    new.slots ≡ fi.slots → new.bit_depth ≡ fi.bit_depth → new.default_filter ≡ head.filter → new.short_by_av1 ≡ follows_av1 h
     → ((i place : ℕ) → i < 7 → slice_index_or places (slice_index head.slots i) None ≡ Some place → slice_index new.ref_frames i ≡ place)
     → (plan : PlanValue) → plan.header ≡ frame_header h (slots_shown num h fi places) head →
     plan.references ≡ frame_references (slots_shown num h fi places) head →
     ServesPlan num plan new
-serves_plan num h fi new places head keeps is kept depth filter named plan eh er =
+serves_plan num h fi new places head keeps is kept depth filter short named plan eh er =
     subst (λ (v : PlanValue). ServesPlan num v new)
     (plan_is plan (frame_header h (slots_shown num h fi places) head) (frame_references (slots_shown num h fi places) head) eh er)
-    (serves num h fi new places head keeps is plan.leaves kept depth filter named)
+    (serves num h fi new places head keeps is plan.leaves kept depth filter short named)
   where
     plan_is : (plan : PlanValue) (g : Header) (rs : List (Option Frame)) → plan.header ≡ g → plan.references ≡ rs →
         record { header = g; references = rs; leaves = plan.leaves } ≡ plan

@@ -16,7 +16,7 @@ use Rattle.av1_plan.specs.declared.geometry.TransformBlock.{TransformBlock}
 use Rattle.av1_blocks.specs.declared.mc.FilterMode.TheVariants.{REGULAR}
 use Rattle.av1_plan.specs.declared.header.Header.{Header}
 use Rattle.av1_plan.specs.declared.leaf.Triple.{Triple}
-use Rattle.av1_plan.specs.Geometry.{block_count, blocks_across, transform_block}
+use Rattle.av1_plan.specs.Geometry.{block_count, blocks_across, follows_av1, transform_block}
 use Rattle.av1_plan.specs.Plan.{PlanValue}
 use Rattle.av1_references.specs.References.{ServesPlan, leaf_area}
 use Rattle.av1_tile.specs.declared.block.BlockPlace.{BlockPlace}
@@ -120,7 +120,7 @@ module _ {T : Type 0} (num : T → ℕ) (pixel : ℕ → T) (law : (v : ℕ) →
 
   module _ (triples : List Triple) (after : Plane T)
       (painted : after ≡ painted_plane between (area_at block at)
-      (λ r c v. pixel (added h.depth (num v) (block_residue h.depth block triples at.number r c)))) where
+      (λ r c v. pixel (added h.depth (num v) (block_residue (follows_av1 h) h.depth block triples at.number r c)))) where
     added_is : (value : PlanValue) → after ≡ turn value between (add block triples at.number (area_at block at))
     unfolding fast_in
     added_is value = painted

@@ -17,12 +17,12 @@ use Rattle.av1_frame.specs.Arithmetic.{clip}
 use Rattle.av1_frame.specs.Samples.{in_area, paint}
 use Rattle.av1_frame.proofs.Update.{update_is}
 use Rattle.av1_itx.proofs.Passes.{residue-zero}
-use Rattle.av1_itx.specs.Residue.{residue}
+use Rattle.av1_itx.specs.Residue.{residue_by}
 use Rattle.std.proofs.lemmas.Int.{ints}
 use Rattle.av1_plan.specs.declared.geometry.TransformBlock.{TransformBlock}
 use Rattle.av1_plan.specs.declared.header.Header.{Header}
 use Rattle.av1_plan.specs.declared.leaf.Triple.{Triple}
-use Rattle.av1_plan.specs.Geometry.{block_count, transform_block}
+use Rattle.av1_plan.specs.Geometry.{block_count, follows_av1, transform_block}
 use Rattle.av1_plan.specs.Plan.{PlanValue}
 use Rattle.av1_tile.specs.declared.plane_block.PlaneBlock.{PlaneBlock}
 use Rattle.av1_tile.specs.PlaneBlocks.{is_whole}
@@ -44,16 +44,17 @@ all_zero zero k d l = absurd (omega arith)
 all_zero (suc n) zero d l = refl
 all_zero (suc n) (suc k) d l = all_zero n k d (omega arith)
 
-pub none_added : (depth : ℕ) (block : PlaneBlock) (ts : List Triple) (n v r c : ℕ) → length ts ≡ 0 →
-    added depth v (block_residue depth block ts n r c) ≡ min v (2 ^ depth - 1)
+pub none_added : (by_av1 : Bool) (depth : ℕ) (block : PlaneBlock) (ts : List Triple) (n v r c : ℕ) → length ts ≡ 0 →
+    added depth v (block_residue by_av1 depth block ts n r c) ≡ min v (2 ^ depth - 1)
 unfolding block_residue coefficients
-none_added depth block [] n v r c e =
+none_added by_av1 depth block [] n v r c e =
     let zero_residue =
-    residue-zero block.area.tx_size block.tx_type depth (replicate (coded_area block.area.tx_size) (pos 0)) r c (all_zero (coded_area block.area.tx_size))
+    residue-zero by_av1 block.area.tx_size block.tx_type depth (replicate (coded_area block.area.tx_size) (pos 0)) r c
+    (all_zero (coded_area block.area.tx_size))
     in
     let same : pos v +ℤ pos 0 ≡ pos v = omega (arith, ints) in
     ap (clip depth) (ap (λ z. pos v +ℤ z) zero_residue ∙ same)
-none_added depth block (t ∷ ts) n v r c e = absurd (omega arith)
+none_added by_av1 depth block (t ∷ ts) n v r c e = absurd (omega arith)
 
 -- and stay, where they lie within the depth
 if_stays : {X : Type 0} (b : Bool) (x y : X) → x ≡ y → (if b then x else y) ≡ y
@@ -61,10 +62,11 @@ if_stays true x y e = e
 if_stays false x y e = refl
 
 pub none_painted : {T : Type 0} (num : T → ℕ) (pixel : ℕ → T) → ((x : T) → pixel (num x) ≡ x) →
-    (depth : ℕ) (block : PlaneBlock) (ts : List Triple) (n : ℕ) (p : Plane T) (a : VisibleArea) → length ts ≡ 0 → All (λ v. num v < 2 ^ depth) p.samples
-    → p ≡ painted_plane p a (λ r c v. pixel (added depth (num v) (block_residue depth block ts n r c)))
+    (by_av1 : Bool) (depth : ℕ) (block : PlaneBlock) (ts : List Triple) (n : ℕ) (p : Plane T) (a : VisibleArea) → length ts ≡ 0 →
+    All (λ v. num v < 2 ^ depth) p.samples
+    → p ≡ painted_plane p a (λ r c v. pixel (added depth (num v) (block_residue by_av1 depth block ts n r c)))
 unfolding paint
-none_painted num pixel back depth block ts n p a none within =
+none_painted num pixel back by_av1 depth block ts n p a none within =
     let area = stored_area p.plane_cfg a in
     let stride = p.plane_cfg.stride in
     ap (λ (s : List _). record p { samples = s })
@@ -72,7 +74,7 @@ none_painted num pixel back depth block ts n p a none within =
     let few : num (get_or p.samples k d) < 2 ^ depth = within k d l in
     let same : min (num (get_or p.samples k d)) (2 ^ depth - 1) ≡ num (get_or p.samples k d) = omega (arith, few) in
     sym (if_stays (in_area area (k % stride) (k / stride)) _ (get_or p.samples k d)
-    (ap pixel (none_added depth block ts n (num (get_or p.samples k d)) (k / stride - area.y) (k % stride - area.x) none ∙ same)
+    (ap pixel (none_added by_av1 depth block ts n (num (get_or p.samples k d)) (k / stride - area.y) (k % stride - area.x) none ∙ same)
     ∙ back (get_or p.samples k d)))))
 
 -- the transform blocks of an area that is predicted as a whole, without triples
@@ -103,7 +105,7 @@ module _ (block : PlaneBlock) (ts : List Triple) (whole : is_whole block.predict
       (plane : Plane T) (none : length ts ≡ 0) (within : All (λ v. num v < 2 ^ plan.header.depth) plane.samples) where
     none_adds : (n : ℕ) (a : VisibleArea) → plane ≡ fast_in num pixel plan block.plane luma plane (add block ts n a)
     unfolding fast_in
-    none_adds n a = none_painted num pixel back plan.header.depth block ts n plane a none within
+    none_adds n a = none_painted num pixel back (follows_av1 plan.header) plan.header.depth block ts n plane a none within
 
     pub none_walked : plane ≡ fold (fast_in num pixel plan block.plane luma) plane (joined (block_count block.area) (steps_at plan.header block ts))
     none_walked = none_taken (fast_in num pixel plan block.plane luma) plan.header plane none_adds
@@ -194,7 +196,8 @@ module _ {T : Type 0} (num : T → ℕ) (pixel : ℕ → T) (plan : PlanValue) (
       fast_in num pixel plan p luma q (add block all n a)
   unfolding fast_in block_residue
   own_adds q a =
-      ap (λ cs. painted_plane q a (λ r c v. pixel (added plan.header.depth (num v) (residue block.area.tx_size block.tx_type plan.header.depth cs r c))))
+      ap (λ cs. painted_plane q a
+      (λ r c v. pixel (added plan.header.depth (num v) (residue_by (follows_av1 plan.header) block.area.tx_size block.tx_type plan.header.depth cs r c))))
       (own_coefficients block.area.tx_size n all at end is)
 
   -- so its own triples do as well as all

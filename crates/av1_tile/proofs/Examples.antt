@@ -11,7 +11,7 @@ use Rattle.av1_dct.specs.Operations.{half_btf_with}
 use Rattle.av1_dct.specs.Cosine.{brev, cos128, cosine_with, odd_half_with, group_sum_with, inner_turn_with, mirror_sum_with, outer_turn_with, rounds_with}
 use Rattle.av1_intra.specs.Predicted.{predicted as intra_predicted}
 use Rattle.av1_itx.specs.Networks.{network_with}
-use Rattle.av1_itx.specs.Residue.{residue, transformed_column, column_network, transformed_row, row_input, row_value}
+use Rattle.av1_itx.specs.Residue.{residue_by, transformed_column, column_network, transformed_row, row_input, row_value}
 use Rattle.av1_plan.specs.declared.header.Header.{Header}
 use Rattle.av1_plan.specs.declared.leaf.Triple.{Triple}
 use Rattle.av1_plan.specs.declared.leaf.LeafKind.TheVariants.{Intra}
@@ -67,5 +67,5 @@ unfolding header leaf plan xdec ydec plane_width plane_height shown_columns show
     blocks_across block_count
     block_at has_block transform_block is_inside edge by_prediction intra_predicted predicted joined steps_at steps_of coefficients block_residue slow_in
     slow_step slow_walk visible planes_of clamp_value half_btf_with brev cos128 cosine_with odd_half_with group_sum_with inner_turn_with mirror_sum_with
-    outer_turn_with rounds_with network_with residue transformed_column column_network transformed_row row_input row_value int_wrap
+    outer_turn_with rounds_with network_with residue_by transformed_column column_network transformed_row row_input row_value int_wrap
 worked_planes = refl

@@ -17,7 +17,7 @@ use Rattle.av1_frame.proofs.RowParts.{part_sample}
 use Rattle.av1_frame.proofs.Update.{get_or-update, length-update, update_is}
 use Rattle.av1_plan.specs.declared.header.Header.{Header}
 use Rattle.av1_plan.specs.declared.leaf.Triple.{Triple}
-use Rattle.av1_plan.specs.Geometry.{transform_block}
+use Rattle.av1_plan.specs.Geometry.{follows_av1, transform_block}
 use Rattle.av1_plan.specs.Plan.{PlanValue}
 use Rattle.av1_references.specs.References.{leaf_area}
 use Rattle.av1_tile.specs.declared.block.BlockPlace.{BlockPlace}
@@ -170,7 +170,8 @@ pub block_kept : {T : Type 0} (num : T → ℕ) (pixel : ℕ → T) (plan : Plan
     → between ≡ fold (fast_in num pixel plan block.plane luma) plane (own_prediction block at.number (area_at block at))
     → next ≡ fold (kept_in num pixel block.plane between) kept (own_prediction block at.number (area_at block at))
     → after ≡ painted_plane between (area_at block at)
-    (λ r c v. pixel (added plan.header.depth (num v) (block_residue plan.header.depth block triples at.number r c)))
+    (λ r c v.
+    pixel (added plan.header.depth (num v) (block_residue (follows_av1 plan.header) plan.header.depth block triples at.number r c)))
     → (after, next) ≡ fold (keeping_in num pixel plan block.plane luma) (plane, kept) (steps_at h block triples at.number)
 unfolding keeping_in kept_in fast_in
 block_kept num pixel plan luma h block at triples plane between after kept next found predicted keeps painted =

@@ -91,7 +91,7 @@ module _ {T : Type 0} (num : T → ℕ) (plan : PlanValue) where
   own_settings fi holds =
       let own = holds.settings in
       record {
-        settings = record { columns = own.columns; rows = own.rows; depth = own.depth; filter = refl; edge_filter = refl; slots = refl };
+        settings = record { columns = own.columns; rows = own.rows; depth = own.depth; filter = refl; short_by_av1 = refl; edge_filter = refl; slots = refl };
         depth = holds.depth;
         filled = holds.filled;
         planes = holds.planes;

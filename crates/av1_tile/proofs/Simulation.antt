@@ -25,7 +25,7 @@ use Rattle.av1_intra.specs.declared.neighbours.IntraEdgeFilterParameters.{IntraE
 use Rattle.av1_intra.proofs.SameLuma.{leaf_difference_same, predicted_luma}
 use Rattle.av1_order.proofs.Plans.{halved_x, halved_y}
 use Rattle.av1_plan.specs.declared.header.Header.{Header}
-use Rattle.av1_plan.specs.Geometry.{plane_width, plane_height}
+use Rattle.av1_plan.specs.Geometry.{follows_av1, plane_width, plane_height}
 use Rattle.av1_plan.specs.Plan.{PlanValue}
 use Rattle.av1_tile.specs.declared.extent.PlaneExtent.{PlaneExtent}
 use Rattle.av1_tile.specs.declared.plane_block.LumaBlock.{LumaBlock}
@@ -313,8 +313,8 @@ module _ {T : Type 0} (num : T → ℕ) (pixel : ℕ → T) (law : (v : ℕ) →
   plane_agrees plan before k (add block triples n a) planes ready s t =
       let depth = plan.header.depth in
       agrees_drawn (plane_of k planes) (walked plan before k) a _ _ (s.plane k).whole
-      (λ r c m v o hr hc q w. law _ ∙ ap (λ (u : ℕ). added depth u (block_residue depth block triples n r c)) (law v)
-      ∙ added_is (λ u. added depth u (block_residue depth block triples n r c)) o m v q w) (t k)
+      (λ r c m v o hr hc q w. law _ ∙ ap (λ (u : ℕ). added depth u (block_residue (follows_av1 plan.header) depth block triples n r c)) (law v)
+      ∙ added_is (λ u. added depth u (block_residue (follows_av1 plan.header) depth block triples n r c)) o m v q w) (t k)
 
   pub step_agrees : (plan : PlanValue) (before : List PlaneStep) (s : PlaneStep) (planes : Planes T) → StepReady plan.header before s →
       AllWhole plan.header planes → AllAgree num planes (walked plan before) →

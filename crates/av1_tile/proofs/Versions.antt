@@ -1,15 +1,27 @@
--- The planes of a plan are the same in each version: no step of the slow definition reads it.
-use Rattle.std.proofs.Common.{ℕ, ◌≡◌, ◌++◌, if◌then◌else◌, Some, ℤ, List, [], ◌∷◌, refl, ap, ◌∙◌}
+-- The planes of a plan are the same in each version by whose rules its frame goes: else no step of the slow definition reads the version.
+use Rattle.std.proofs.Common.{ℕ, zero, suc, ◌≡◌, ◌≢◌, ◌≤◌, ◌==◌, ◌++◌, if◌then◌else◌, Bool, true, false, Some, option_map, ℤ, List, [], ◌∷◌, refl, ap, sym}
+use Rattle.std.proofs.Common.{◌∙◌, arith}
 use Rattle.std.specs.List.{fold, flat_map}
 use mathlib.Core.Path.{fun_ext}
+use Rattle.av1_blocks.specs.declared.mc.FilterMode.{FilterMode}
+use Rattle.av1_blocks.specs.declared.mc.FilterMode.TheVariants.{REGULAR, SMOOTH, SHARP, BILINEAR, SWITCHABLE}
+use Rattle.av1_blocks.specs.declared.mc.MotionVector.{MotionVector}
+use Rattle.av1_blocks.specs.declared.partition.RefType.{RefType}
 use Rattle.av1_blocks.specs.declared.predict.PredictionMode.{PredictionMode}
 use Rattle.av1_edges.specs.Edges.{Edge}
 use Rattle.av1_frame.specs.Areas.{VisibleArea}
+use Rattle.av1_inter.specs.Filters.{mode_along}
+use Rattle.av1_inter.specs.Prediction.{compound_prediction, single_prediction}
+use Rattle.av1_inter.specs.Reference.{vector_of, reference_of as reference_in}
+use Rattle.av1_itx.specs.Residue.{residue_by}
+use Rattle.av1_itx.proofs.NoWrap.{shallow_residue}
 use Rattle.av1_plan.specs.declared.header.Header.{Header}
+use Rattle.av1_plan.specs.declared.leaf.Triple.{Triple}
 use Rattle.av1_plan.specs.Geometry.{xdec, ydec, plane_width, plane_height, carries_chroma, covers_plane, plane_place, plane_size, plane_tx_size, plane_area}
-use Rattle.av1_plan.specs.Geometry.{has_block, transform_block, shown_columns, shown_rows}
+use Rattle.av1_plan.specs.Geometry.{follows_av1, has_block, transform_block, shown_columns, shown_rows}
 use Rattle.av1_plan.specs.Plan.{LeafValue, PlanValue}
 use Rattle.av1_plan.specs.Versions.{header_in, plan_in}
+use Rattle.av1_references.specs.References.{compound_motion, plan_filter, reference_plane, single_motion, slot_in}
 use Rattle.av1_tile.specs.declared.plane_block.PlaneBlock.{PlaneBlock}
 use Rattle.av1_tile.specs.declared.plane_block.Prediction.{Prediction}
 use Rattle.av1_tile.specs.declared.plane_block.Prediction.TheVariants as predictions
@@ -17,9 +29,9 @@ use Rattle.av1_tile.specs.Canvas.{Component, Y, U, V, Canvas, blank, drawn, with
 use Rattle.av1_tile.specs.Edge.{sample_of}
 use Rattle.av1_tile.specs.Output.{visible, planes_of}
 use Rattle.av1_tile.specs.PlaneBlocks.{number, plane_block}
-use Rattle.av1_tile.specs.Reference.{by_prediction, predicted, slow_in, slow_step, slow_walk}
+use Rattle.av1_tile.specs.Reference.{added, block_residue, by_prediction, coefficients, predicted, slow_in, slow_step, slow_walk}
 use Rattle.av1_tile.specs.Steps.{Step, predict, add, PlaneStep, steps_at, steps_of, component_steps, leaf_steps, steps_after, steps}
-use Rattle.av1_tile.specs.Versions.{VersionsShowTheSame}
+use Rattle.av1_tile.specs.Versions.{AgreesIn, EarlierKeepFilter, EarlyAgree, ElsewhereAgree, VersionsShowTheSame}
 
 -- ---- steps
 
@@ -44,22 +56,43 @@ module _ (n : ℕ) (h : Header) where
 
 -- ---- what a step writes
 
-module _ (n : ℕ) (plan : PlanValue) where
+module _ (n : ℕ) (plan : PlanValue) (agrees : AgreesIn n plan.header) where
+  filters_same : plan_filter (header_in n plan.header) ≡ plan_filter plan.header
+  filters_same = fun_ext agrees.filter
+
+  single_same : (c : Component) (reference : RefType) (mv : MotionVector) (a : VisibleArea) (r k : ℕ)
+      → single_motion (plan_in n plan) (number c) reference mv a r k ≡ single_motion plan (number c) reference mv a r k
+  unfolding shown_columns shown_rows xdec ydec
+  single_same Y reference mv a r k =
+      ap (λ (f : ℕ → FilterMode). single_prediction plan.header.depth f (reference_plane plan (slot_in plan.header reference) 0) mv a r k) filters_same
+  single_same U reference mv a r k =
+      ap (λ (f : ℕ → FilterMode). single_prediction plan.header.depth f (reference_plane plan (slot_in plan.header reference) 1) mv a r k) filters_same
+  single_same V reference mv a r k =
+      ap (λ (f : ℕ → FilterMode). single_prediction plan.header.depth f (reference_plane plan (slot_in plan.header reference) 2) mv a r k) filters_same
+
+  compound_by : (p : ℕ) (references : List RefType) (mvs : List MotionVector) (a : VisibleArea) (r k : ℕ) (f : ℕ → FilterMode) → ℕ
+  compound_by p references mvs a r k f =
+      compound_prediction plan.header.depth f (reference_plane plan (slot_in plan.header (reference_in references 0)) p)
+      (reference_plane plan (slot_in plan.header (reference_in references 1)) p) (vector_of mvs 0) (vector_of mvs 1) a r k
+
+  compound_same : (c : Component) (references : List RefType) (mvs : List MotionVector) (a : VisibleArea) (r k : ℕ)
+      → compound_motion (plan_in n plan) (number c) references mvs a r k ≡ compound_motion plan (number c) references mvs a r k
+  unfolding compound_by shown_columns shown_rows xdec ydec
+  compound_same Y references mvs a r k = ap (compound_by 0 references mvs a r k) filters_same
+  compound_same U references mvs a r k = ap (compound_by 1 references mvs a r k) filters_same
+  compound_same V references mvs a r k = ap (compound_by 2 references mvs a r k) filters_same
+
   prediction_same : (c : Component) (prediction : Prediction) (a : VisibleArea) (edge : PredictionMode → ℤ → Edge) (luma : ℕ → ℕ → ℤ) (r k : ℕ)
       → by_prediction (plan_in n plan) (number c) prediction a edge luma r k ≡ by_prediction plan (number c) prediction a edge luma r k
-  unfolding by_prediction plane_width plane_height shown_columns shown_rows xdec ydec
+  unfolding by_prediction plane_width plane_height xdec ydec
   prediction_same Y (predictions.Intra mode step filter) a edge luma r k = refl
-  prediction_same Y (predictions.FromLuma alpha) a edge luma r k = refl
-  prediction_same Y (predictions.Single mode reference mv) a edge luma r k = refl
-  prediction_same Y (predictions.Compound mode references mvs) a edge luma r k = refl
   prediction_same U (predictions.Intra mode step filter) a edge luma r k = refl
-  prediction_same U (predictions.FromLuma alpha) a edge luma r k = refl
-  prediction_same U (predictions.Single mode reference mv) a edge luma r k = refl
-  prediction_same U (predictions.Compound mode references mvs) a edge luma r k = refl
   prediction_same V (predictions.Intra mode step filter) a edge luma r k = refl
+  prediction_same Y (predictions.FromLuma alpha) a edge luma r k = refl
+  prediction_same U (predictions.FromLuma alpha) a edge luma r k = refl
   prediction_same V (predictions.FromLuma alpha) a edge luma r k = refl
-  prediction_same V (predictions.Single mode reference mv) a edge luma r k = refl
-  prediction_same V (predictions.Compound mode references mvs) a edge luma r k = refl
+  prediction_same c (predictions.Single mode reference mv) a edge luma r k = single_same c reference mv a r k
+  prediction_same c (predictions.Compound mode references mvs) a edge luma r k = compound_same c references mvs a r k
 
   predicted_same : (canvas : Canvas) (c : Component) (block : PlaneBlock) (a : VisibleArea) (r k : ℕ) →
       predicted (plan_in n plan) canvas c block a r k ≡ predicted plan canvas c block a r k
@@ -68,11 +101,19 @@ module _ (n : ℕ) (plan : PlanValue) where
   predicted_same canvas U block a r k = prediction_same U block.prediction a _ _ r k
   predicted_same canvas V block a r k = prediction_same V block.prediction a _ _ r k
 
+  residue_same : (block : PlaneBlock) (triples : List Triple) (m r k : ℕ)
+      → block_residue (follows_av1 (header_in n plan.header)) plan.header.depth block triples m r k
+      ≡ block_residue (follows_av1 plan.header) plan.header.depth block triples m r k
+  unfolding block_residue
+  residue_same block triples m r k = agrees.residue block.area.tx_size block.tx_type (coefficients block.area.tx_size m triples) r k
+
   written_same : (canvas : Canvas) (c : Component) (s : Step) → slow_in (plan_in n plan) canvas c s ≡ slow_in plan canvas c s
   unfolding slow_in
   written_same canvas c (predict block m a) =
       ap (λ (f : ℕ → ℕ → ℕ). drawn a (λ r k _. Some (f r k)) (canvas c)) (fun_ext (λ r. fun_ext (λ k. predicted_same canvas c block a r k)))
-  written_same canvas c (add block triples m a) = refl
+  written_same canvas c (add block triples m a) =
+      ap (λ (f : ℕ → ℕ → ℤ). drawn a (λ r k o. option_map (λ v. added plan.header.depth v (f r k)) o) (canvas c))
+      (fun_ext (λ r. fun_ext (λ k. residue_same block triples m r k)))
 
   step_same : (canvas : Canvas) (s : PlaneStep) → slow_step (plan_in n plan) canvas s ≡ slow_step plan canvas s
   unfolding slow_step
@@ -85,12 +126,46 @@ module _ (n : ℕ) (plan : PlanValue) where
       (fun_ext (λ canvas. fun_ext (λ s. step_same canvas s)))
       ∙ ap (λ (ss : List PlaneStep). fold (slow_step plan) blank ss) (steps_same n plan.header [] plan.leaves)
 
-  shown_same : (f : Component → ℕ → ℕ → ℕ) → visible (header_in n plan.header) f ≡ visible plan.header f
-  unfolding visible shown_columns shown_rows xdec ydec
-  shown_same f = refl
+shown_same : (n : ℕ) (plan : PlanValue) (f : Component → ℕ → ℕ → ℕ) → visible (header_in n plan.header) f ≡ visible plan.header f
+unfolding visible shown_columns shown_rows xdec ydec
+shown_same n plan f = refl
 
 pub versions_show_the_same : VersionsShowTheSame
 unfolding planes_of
-versions_show_the_same n plan =
-    ap (λ (w : Canvas). visible (header_in n plan.header) (λ c x y. sample_of (w c x y))) (walk_same n plan)
+versions_show_the_same n plan agrees =
+    ap (λ (w : Canvas). visible (header_in n plan.header) (λ c x y. sample_of (w c x y))) (walk_same n plan agrees)
     ∙ shown_same n plan (λ c x y. sample_of (slow_walk plan c x y))
+
+-- ---- versions that agree
+
+not_third : (version : ℕ) → version ≤ 2 → (version == 3) ≡ false
+not_third zero few = refl
+not_third (suc zero) few = refl
+not_third (suc (suc zero)) few = refl
+not_third (suc (suc (suc n))) few = absurd (omega (arith, few))
+
+-- no filter but the sharp one gives way along short sides
+stays : (by_av1 : Bool) (mode : FilterMode) (side : ℕ) → mode ≢ SHARP → mode_along by_av1 mode side ≡ mode
+stays false mode side other = refl
+stays true REGULAR side other = refl
+stays true SMOOTH side other = refl
+stays true SHARP side other = absurd (other refl)
+stays true BILINEAR side other = refl
+stays true SWITCHABLE side other = refl
+
+pub earlier_versions_keep_the_short_filter : EarlierKeepFilter
+earlier_versions_keep_the_short_filter h few side = ap (λ (b : Bool). mode_along b h.filter side) (not_third h.version few)
+
+pub versions_agree_early : EarlyAgree
+versions_agree_early version h few own = record {
+  filter = λ side. ap (λ (b : Bool). mode_along b h.filter side) (not_third version few ∙ sym (not_third h.version own));
+  residue = λ size type cs r c. ap (λ (b : Bool). residue_by b size type h.depth cs r c) (not_third version few ∙ sym (not_third h.version own));
+}
+
+pub versions_agree_elsewhere : ElsewhereAgree
+versions_agree_elsewhere version h other shallow = record {
+  filter = λ side. stays (follows_av1 (header_in version h)) h.filter side other ∙ sym (stays (follows_av1 h) h.filter side other);
+  residue = λ size type cs r c.
+      shallow_residue (follows_av1 (header_in version h)) size type h.depth cs r c shallow
+      ∙ sym (shallow_residue (follows_av1 h) size type h.depth cs r c shallow);
+}

@@ -1,7 +1,8 @@
 -- The slow definition of a plan's samples: its steps in coding order, over a canvas that is empty at first.
 -- AV1 specification: decode block syntax, compute prediction syntax (which calls the prediction processes),
 -- reconstruction process.
-use Rattle.std.specs.Prelude.{ℕ, ◌-◌, ◌==◌, List, replicate, slice_set, if◌then◌else◌, ℤ, pos, ◌+ℤ◌, Option, Some, None}
+use Rattle.std.specs.Prelude.{Bool, ℕ, ◌-◌, ◌==◌, List, replicate, slice_set, if◌then◌else◌, ℤ, pos, ◌+ℤ◌, Option}
+use Rattle.std.specs.Prelude.{Some, None}
 use Rattle.std.specs.Prelude.{option_map, unsigned_abs}
 use Rattle.std.specs.List.{fold}
 use Rattle.av1_blocks.specs.declared.predict.PredictionMode.{PredictionMode}
@@ -19,10 +20,10 @@ use Rattle.av1_intra.specs.declared.neighbours.IntraEdgeFilterParameters.{IntraE
 use Rattle.av1_intra.specs.ChromaFromLuma.{leaf_difference}
 use Rattle.av1_intra.specs.Neighbours.{uses_smooth_filter}
 use Rattle.av1_intra.specs.Predicted.{predicted as intra_predicted, variant_at, angle_or_alpha}
-use Rattle.av1_itx.specs.Residue.{residue}
+use Rattle.av1_itx.specs.Residue.{residue_by}
 use Rattle.av1_plan.specs.declared.header.Header.{Header}
 use Rattle.av1_plan.specs.declared.leaf.Triple.{Triple}
-use Rattle.av1_plan.specs.Geometry.{xdec, ydec, plane_width, plane_height}
+use Rattle.av1_plan.specs.Geometry.{follows_av1, xdec, ydec, plane_width, plane_height}
 use Rattle.av1_plan.specs.Plan.{PlanValue}
 use Rattle.av1_references.specs.References.{single_motion, compound_motion}
 use Rattle.av1_tile.specs.declared.extent.PlaneExtent.{PlaneExtent}
@@ -107,10 +108,10 @@ with_triple n coefficients t = if t.block == n then slice_set coefficients t.pla
 unfoldable pub coefficients : TxSize → (n : ℕ) → List Triple → List ℤ
 coefficients size n triples = fold (with_triple n) (replicate (coded_area size) (pos 0)) triples
 
--- what is added to the sample at row r and column c of transform block n
-unfoldable pub block_residue : (depth : ℕ) → PlaneBlock → List Triple → (n r c : ℕ) → ℤ
-block_residue depth block triples n r c =
-    residue block.area.tx_size block.tx_type depth (coefficients block.area.tx_size n triples) r c
+-- what is added to the sample at row r and column c of transform block n: by AV1's rule of identities, or by rav1e's
+unfoldable pub block_residue : (by_av1 : Bool) (depth : ℕ) → PlaneBlock → List Triple → (n r c : ℕ) → ℤ
+block_residue by_av1 depth block triples n r c =
+    residue_by by_av1 block.area.tx_size block.tx_type depth (coefficients block.area.tx_size n triples) r c
 
 -- what a sample is with z added: clipped to the depth
 abbrev pub added : (depth : ℕ) → ℕ → ℤ → ℕ
@@ -123,8 +124,9 @@ unfoldable pub slow_in : PlanValue → Canvas → Component → Step → Written
 slow_in plan canvas component (predict block n a) =
     drawn a (λ r c _. Some (predicted plan canvas component block a r c)) (canvas component)
 slow_in plan canvas component (add block triples n a) =
-    drawn a (λ r c o. option_map (λ v. added plan.header.depth v (block_residue plan.header.depth block triples n r c))
-    o) (canvas component)
+    let h = plan.header in
+    drawn a (λ r c o. option_map (λ v. added h.depth v (block_residue (follows_av1 h) h.depth block triples n r c)) o)
+    (canvas component)
 
 -- the canvas after a step of the plan
 unfoldable pub slow_step : PlanValue → Canvas → PlaneStep → Canvas

@@ -5,6 +5,7 @@ use Rattle.av1_lists.specs.Lists.{by_index}
 use Rattle.av1_frame.specs.declared.frame_invariants.FrameInvariants.{FrameInvariants}
 use Rattle.av1_frame.specs.Planes.{sample_at}
 use Rattle.av1_plan.specs.declared.header.Header.{Header}
+use Rattle.av1_plan.specs.Geometry.{follows_av1}
 use Rattle.av1_plan.specs.Plan.{PlanValue}
 use Rattle.av1_references.specs.References.{HoldsReferences}
 use Rattle.av1_tile.specs.declared.planes.Planes.{Planes}
@@ -52,7 +53,12 @@ pub record AreAlike (h k : Header) : Type 0 where
 -- frame settings with what a header says of prediction in place of their own, and the same slots
 abbrev pub with_settings : {T : Type 0} → Header → FrameInvariants T → FrameInvariants T
 with_settings h fi =
-    record fi { default_filter = h.filter; enable_intra_edge_filter = h.edge_filter; ref_frames = h.slots }
+    record fi {
+      default_filter = h.filter;
+      short_by_av1 = follows_av1 h;
+      enable_intra_edge_filter = h.edge_filter;
+      ref_frames = h.slots;
+    }
 
 -- The state was made for the plan, or for one that is laid out alike and has its reference samples. The rest of the
 -- header is the plan's own: the edge filter, the interpolation filter, and the slots that references name.

@@ -40,7 +40,7 @@ use Rattle.av1_plan.specs.declared.leaf.Leaf.{Leaf}
 use Rattle.av1_plan.specs.declared.leaf.LeafKind.TheVariants.{Intra}
 use Rattle.av1_plan.specs.declared.leaf.Triple.{Triple}
 use Rattle.av1_plan.specs.Geometry.{xdec, ydec, plane_width, plane_height, shown_columns, shown_rows, plane_area}
-use Rattle.av1_plan.specs.Geometry.{carries_chroma, block_count, blocks_across}
+use Rattle.av1_plan.specs.Geometry.{carries_chroma, block_count, blocks_across, follows_av1}
 use Rattle.av1_plan.specs.Plan.{LeafValue, PlanValue}
 use Rattle.av1_plan.specs.ReadPlans.{IsOtherFrame, IsReadFrame}
 use Rattle.av1_plan.specs.Validity.{has_reference}
@@ -119,7 +119,9 @@ fast_in num pixel plan p luma plane (predict block n a) =
     (luma block) r c))
 fast_in num pixel plan p luma plane (add block triples n a) =
     painted_plane plane a
-    (λ r c v. pixel (added plan.header.depth (num v) (block_residue plan.header.depth block triples n r c)))
+    (λ r c v.
+    pixel (added plan.header.depth (num v)
+    (block_residue (follows_av1 plan.header) plan.header.depth block triples n r c)))
 
 abbrev pub plane_of : {T : Type 0} → Component → Planes T → Plane T
 plane_of Y planes = planes.y

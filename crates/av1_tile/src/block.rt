@@ -9,7 +9,7 @@ ghost use Rattle.av1_lists.specs.Counts.{counted};
 ghost use Rattle.av1_frame.specs.Areas.{stored_area};
 ghost use Rattle.av1_frame.specs.Planes.{InPlane, painted_plane};
 ghost use Rattle.av1_frame.specs.Regions.{InStorage, painted};
-ghost use Rattle.av1_plan.specs.Geometry.{plane_width, plane_height};
+ghost use Rattle.av1_plan.specs.Geometry.{follows_av1, plane_width, plane_height};
 ghost use Rattle.av1_tile.specs.Reference.{added, block_residue};
 ghost use Rattle.av1_tile.specs.Walk.{area_at, edge_for, predicted_at, EdgePredictionFits, IsPlaceIn, Stores, TripleFits};
 
@@ -179,7 +179,7 @@ fn add_residue<T: Pixel>(
     requires lossless { block.now.tx_type ≡ WHT_WHT → block.now.area.tx_size ≡ TX_4X4 }
     requires triples { All (TripleFits bit_depth block.now) triples.now }
     ensures painted { output.new ≡ painted output.old (tx_width block.now.area.tx_size) (tx_height block.now.area.tx_size)
-        (λ r c v. T.pixel (added bit_depth (T.num v) (block_residue bit_depth block.now triples.now number r c))) }
+        (λ r c v. T.pixel (added bit_depth (T.num v) (block_residue scratch.old.by_av1 bit_depth block.now triples.now number r c))) }
     ensures fits { InStorage output.new }
 {
     let count = coefficients_up_to(triples);
@@ -213,7 +213,7 @@ pub fn add_block<T: Pixel>(
     requires triples { All (TripleFits header.now.depth block.now) triples.now }
     ensures painted { let depth = header.now.depth
         in plane.new ≡ painted_plane plane.old (area_at block.now at)
-        (λ r c v. T.pixel (added depth (T.num v) (block_residue depth block.now triples.now at.number r c))) }
+        (λ r c v. T.pixel (added depth (T.num v) (block_residue (follows_av1 header.now) depth block.now triples.now at.number r c))) }
     ensures fits { InPlane (area_at block.now at) plane.new }
 {
     if triples.is_empty() {
@@ -223,6 +223,7 @@ pub fn add_block<T: Pixel>(
     let area = visible_area(at.x, at.y, tx_size.width(), tx_size.height());
     let mut region = plane.region_mut(area);
     let bit_depth = usize::from(header.depth);
+    room.scratch.by_av1 = header.follows_av1();
     add_residue(
         &mut region,
         room.coefficients.as_mut_slice(),

@@ -2,11 +2,26 @@
 
 ghost use Rattle.av1_tile.specs.Lookups.{OutputIsThere, StepsAreAnswered, StepsFindSamples};
 ghost use Rattle.av1_tile.specs.Residues.{SamplesAreSums};
-ghost use Rattle.av1_tile.specs.Versions.{VersionsShowTheSame};
+ghost use Rattle.av1_tile.specs.Versions.{EarlierKeepFilter, EarlyAgree, ElsewhereAgree, VersionsShowTheSame};
 
-/// A law: the planes of a plan are the same in each version of the plan format.
+/// A law: the planes of a plan are the same in each version of the plan format by whose rules its frame goes.
 pub fn versions_show_the_same()
     ensures { VersionsShowTheSame }
+{}
+
+/// A law: in the first and the second version the filter along a side up to 4 is rav1e's, as along all other sides.
+pub fn earlier_versions_keep_the_short_filter()
+    ensures { EarlierKeepFilter }
+{}
+
+/// A law: each frame goes by the same rules in the first version and in the second.
+pub fn versions_agree_early()
+    ensures { EarlyAgree }
+{}
+
+/// A law: a frame whose filter isn't the sharp one, and whose depth isn't 12, goes by the same rules in each version.
+pub fn versions_agree_elsewhere()
+    ensures { ElsewhereAgree }
 {}
 
 /// A law: what the slow walk of a valid plan looks up has been written, at each of its steps and at its end, so that no

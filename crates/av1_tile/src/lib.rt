@@ -39,7 +39,10 @@ mod tile;
 mod walk;
 
 pub use extent::PlaneExtent;
-pub use laws::{look_ups_find_samples, samples_are_sums, versions_show_the_same};
+pub use laws::{
+    earlier_versions_keep_the_short_filter, look_ups_find_samples, samples_are_sums,
+    versions_agree_early, versions_agree_elsewhere, versions_show_the_same,
+};
 pub use memory::WalkMemory;
 pub use plane_block::{LumaBlock, PlaneBlock, Prediction};
 pub use planes::{Planes, visible_row};

@@ -688,7 +688,7 @@ function differencesIn(frame, area, p, planes, given) {
   return { first, greatest };
 }
 
-// ---- Leaves that depart from AV1: by rav1e's rule, which plans follow, their samples can be others than AV1's.
+// ---- Leaves that depart from AV1: by rav1e's rule, which plans follow there, their samples can be others than AV1's.
 
 const SHORT_FILTER = 'the sharp filter along a short side: rav1e takes the smooth filter of four weights there, AV1 the regular one';
 const WRAPPED_IDENTITY = 'an identity wraps: along rows it passes 32 bits, where rav1e wraps and AV1 does not';
@@ -717,8 +717,9 @@ function wrapsIn(plan, leaf, p) {
   });
 }
 
-// Why a leaf departs, or nothing.
+// Why a leaf departs, or nothing. In version 3 none does.
 function departureOf(plan, leaf) {
+  if (plan.frame.version > 2) return null;
   if (meetsShortFilter(plan.frame, leaf)) return SHORT_FILTER;
   if (plan.frame.depth === 12 && leaf.triples.some((t, p) => t.count > 0 && wrapsIn(plan, leaf, p))) return WRAPPED_IDENTITY;
   return null;

@@ -15,6 +15,7 @@ MODULES = ("recorder", "drawing", "levels")
 ENCODER = "src/encoder.rs"
 PARTITION = "src/partition.rs"
 RDO = "src/rdo.rs"
+INVERSE = "src/transform/inverse.rs"
 POST = ("pub fn encode_block_post_cdef<", "pub fn luma_ac<")
 BLOCK = ("pub fn encode_tx_block<", "pub fn motion_compensate<")
 
@@ -81,6 +82,8 @@ SETTINGS = [
          "    fi.default_filter = crate::recorder::filter_of(output_frameno_in_gop as usize);\n"
          "    fi.pyramid_level = inter_cfg.get_level(fi.idx_in_group_output);\n"),
     Edit("the short filter", "src/mc.rs", "(mode as usize).min(1) + 4", "crate::recorder::short_filter(mode as usize) + 4"),
+    Edit("the identity of 4", INVERSE, "round_shift(SQRT2 * *inp, 12)", "crate::recorder::scaled(SQRT2, *inp)"),
+    Edit("the identity of 16", INVERSE, "round_shift(SQRT2 * 2 * *inp, 12)", "crate::recorder::scaled(SQRT2 * 2, *inp)"),
 ]
 
 # What a plan can't say is left out of the search, and what rav1e doesn't try comes in.

@@ -11,7 +11,7 @@ SWITCHES = {
     "--earlier-versions": ("RECORD_EARLIER_VERSIONS", "write plans of versions 1 and 2, whose sides are multiples of 8"),
     "--short-as-av1": ("RECORD_SHORT_AS_AV1", "with plans of versions 1 and 2 take AV1's short filter for the sharp one"),
     "--short-sharp": ("RECORD_SHORT_SHARP", "with such plans draw the sharp filter along short sides, too"),
-    "--wrapping": ("RECORD_WRAPPING", "draw coefficients at depth 12 at which rav1e's identities wrap, too"),
+    "--wrapping": ("RECORD_WRAPPING", "draw coefficients at depth 12 that pass 32 bits in an identity, too"),
 }
 VALUES = {
     "--seed": ("RECORD_SEED", "N", "draw all decisions from the number N in place of the search"),

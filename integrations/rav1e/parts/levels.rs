@@ -56,8 +56,8 @@ pub fn draw<C: Coefficient>(
   scan.iter().rposition(|&place| levels[place as usize] != C::cast_from(0)).map_or(0, |last| last + 1)
 }
 
-/// The end of what a coefficient may be: depth + 8 bits.  At depth 12 rav1e's identities of 4 and 16 along rows wrap at 32 bits
-/// where AV1's don't; such coefficients are kept below that, unless RECORD_WRAPPING is set.
+/// The end of what a coefficient may be: depth + 8 bits.  At depth 12 identities of 4 and 16 along rows wrap at 32 bits in rav1e
+/// and in some of dav1d's assembly, where AV1's don't; such coefficients are kept below that, unless RECORD_WRAPPING is set.
 fn greatest_magnitude(size: TxSize, kind: TxType, depth: usize) -> i64 {
   let end = (1i64 << (depth + 7)) - 1;
   let identity = matches!(kind, TxType::IDTX | TxType::V_DCT | TxType::V_ADST | TxType::V_FLIPADST);

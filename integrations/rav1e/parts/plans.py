@@ -161,7 +161,9 @@ class Plan(Frame):
     def departure(self, leaf):
         """What docs/DIFFERENCES.md lists of this leaf, where rav1e departs from AV1, or None."""
         sides = (leaf.w >> self.xdec, leaf.h >> self.ydec)
-        if self.version < 3 and self.filter == 2 and leaf.references and min(sides) <= 4:
+        if self.version == 3:
+            return None
+        if self.filter == 2 and leaf.references and min(sides) <= 4:
             return "the sharp filter along a short side"
         if self.depth == 12 and any(wraps(*block) for block in self.transforms(leaf)):
             return "an identity that wraps at 32 bits"

@@ -118,6 +118,17 @@ pub fn short_filter(filter: usize) -> usize {
   }
 }
 
+/// A value that an identity scales by so many 4096ths: as AV1 has it, or with plans of versions 1 and 2 as rav1e, where it wraps
+/// at 32 bits.
+pub fn scaled(factor: i32, value: i32) -> i32 {
+  static WRAPS: OnceLock<bool> = OnceLock::new();
+  if *WRAPS.get_or_init(earlier_versions) {
+    factor.wrapping_mul(value).wrapping_add(1 << 11) >> 12
+  } else {
+    (factor as i64 * value as i64 + (1 << 11) >> 12) as i32
+  }
+}
+
 /// The interpolation filter of a frame: RECORD_FILTER is its number, `turn` for all but the sharp one in turn, or `drawn`.
 pub fn filter_of(frame: usize) -> FilterMode {
   let number = match setting("RECORD_FILTER").as_deref() {

@@ -1,6 +1,6 @@
 // Frames of any sides.
+use super::support::planes_of;
 use av1_recon::{MemSink, ReconError, SliceSource, reconstruct_plan};
-use std::alloc::Global;
 use std::test::Fail;
 
 /// One sample of luma at depth 8 in 4:2:0, and one leaf that is predicted by DC.
@@ -26,18 +26,6 @@ const PLANES: usize = 216;
 
 /// How many bytes the plan has that reads past the last column.
 const LEN: usize = 252;
-
-/// What a plan comes to.
-fn planes_of(alloc: Global, bytes: &[u8]) -> Result<Vec<u8>, Fail> {
-    let mut source = SliceSource::new(bytes, 65536, &[]);
-    let mut sink = MemSink::new(alloc, 1000, 65536, &[])?;
-    let Ok(()) = reconstruct_plan(alloc, &mut source, &mut sink) else {
-        return Err(Fail::new("the plan is reconstructed"));
-    };
-    let mut planes = Vec::new(alloc);
-    planes.extend_from_slice(sink.bytes())?;
-    Ok(planes)
-}
 
 /// A row of nine samples eight times.
 fn eight_of(row: [u8; 9]) -> [u8; 72] {

@@ -1,4 +1,7 @@
-// A worked plan and its planes.
+// A worked plan and its planes, and what any plan comes to.
+use av1_recon::{MemSink, SliceSource, reconstruct_plan};
+use std::alloc::Global;
+use std::test::Fail;
 
 /// An 8x8 frame in 4:4:4 at depth 8, split down to four leaves of 4x4. All are predicted by DC, and the first has the
 /// coefficient 100 at place 0 of its luma block.
@@ -19,4 +22,16 @@ pub fn are_planes(bytes: &[u8]) -> bool {
     let mut planes = [128; PLANES];
     planes[..64].fill(131);
     bytes == planes.as_slice()
+}
+
+/// What a plan comes to.
+pub fn planes_of(alloc: Global, bytes: &[u8]) -> Result<Vec<u8>, Fail> {
+    let mut source = SliceSource::new(bytes, 65536, &[]);
+    let mut sink = MemSink::new(alloc, 2000, 65536, &[])?;
+    let Ok(()) = reconstruct_plan(alloc, &mut source, &mut sink) else {
+        return Err(Fail::new("the plan is reconstructed"));
+    };
+    let mut planes = Vec::new(alloc);
+    planes.extend_from_slice(sink.bytes())?;
+    Ok(planes)
 }

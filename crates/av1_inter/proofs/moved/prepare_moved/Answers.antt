@@ -16,8 +16,8 @@ returns g c = λ r q l h.
     let rx : FitsSigned w32 c.sixteenths-col_frac.result = search rules in
     let ry : FitsSigned w32 c.sixteenths-row_frac.result = search rules in
     c.prep_8tap.ensures.value r q l h
-    ∙ prepared_is c.args.bit_depth c.args.mode c.args.block.width c.args.block.height _ _ _ _ (samples_from num (corner_of c.moved_slice-src.result))
-    (moved num c.args.plane.now c.args.block.at.x c.args.block.at.y c.args.mv)
+    ∙ prepared_is c.args.fi.now.bit_depth _ _ _ _ c.args.block.width c.args.block.height _ _ _ _ (samples_from num (corner_of c.moved_slice-src.result))
+    (moved num c.args.plane.now c.args.block.at.x c.args.block.at.y c.args.mv) c.frame_filter.ensures c.frame_filter-2.ensures
     (fraction_is _ c.args.mv.col _ cfg.xdec rx fc ex c.sixteenths-col_frac.ensures.value)
     (fraction_is _ c.args.mv.row _ cfg.ydec ry fr ey c.sixteenths-row_frac.ensures.value)
     (λ x y a b. c.moved_slice-src.ensures.samples x y (omega (arith, c.requires.reference.xpad)) (omega (arith, c.requires.reference.ypad))) r q l h

@@ -1,7 +1,7 @@
 use Rattle.std.proofs.Common.{ap, ◌∙◌, ℤ, pos, ◌+ℤ◌}
 use Rattle.av1_frame.specs.Regions.{painted}
 use Rattle.av1_inter.specs.Motion.{averaged}
-use Rattle.av1_inter.specs.Reference.{moved_prepared, vector_of}
+use Rattle.av1_inter.specs.Reference.{frame_filter, moved_prepared, vector_of}
 use Rattle.av1_inter.proofs.predict.predict_inter_compound.Goals as goal
 
 pub returns-clause-painted : goal.returns-clause-painted
@@ -9,8 +9,8 @@ returns-clause-painted g c = λ first second hf hs.
     let d = c.args.fi.now.bit_depth in
     let w = c.args.width in
     let h = c.args.height in
-    let one = λ (x y : ℤ). moved_prepared g.T.Pixel.num d c.args.fi.now.default_filter first x y (vector_of c.args.mvs 0) w h in
-    let two = λ (x y : ℤ). moved_prepared g.T.Pixel.num d c.args.fi.now.default_filter second x y (vector_of c.args.mvs 1) w h in
+    let one = λ (x y : ℤ). moved_prepared g.T.Pixel.num d (frame_filter c.args.fi.now) first x y (vector_of c.args.mvs 0) w h in
+    let two = λ (x y : ℤ). moved_prepared g.T.Pixel.num d (frame_filter c.args.fi.now) second x y (vector_of c.args.mvs 1) w h in
     c.predict_over.ensures.painted first second hf hs
     ∙ ap (λ x.
     painted c.args.dst.now w h

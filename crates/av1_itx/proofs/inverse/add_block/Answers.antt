@@ -54,4 +54,5 @@ returns-clause-painted g c =
     let h : r < tx_height size = omega (arith, c.requires.place.height) in
     let k : q < tx_width size = omega (arith, c.requires.place.width) in
     ap (λ z. put_on z v)
-    (residue_is size type c.args.block.bd cs c.row_pass.new.buffer r q _ (c.column_pass.ensures.value r q h k) (λ y hy. c.row_pass.ensures y q hy k)))
+    (residue_is c.args.block.by_av1 size type c.args.block.bd cs c.row_pass.new.buffer r q _ (c.column_pass.ensures.value r q h k)
+    (λ y hy. c.row_pass.ensures y q hy k)))

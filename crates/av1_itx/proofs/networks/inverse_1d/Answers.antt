@@ -15,6 +15,9 @@ adst_of-requires-in-FLIPADST-clause-fit g c = fits _ c.requires.range_in c.requi
 pub identity_of-requires-clause-fit : goal.identity_of-requires-clause-fit
 identity_of-requires-clause-fit g c = fits _ c.requires.range_in c.requires.fit
 
+pub exact_identity_of-requires-clause-fit : goal.exact_identity_of-requires-clause-fit
+exact_identity_of-requires-clause-fit g c = fits _ c.requires.range_in c.requires.fit
+
 pub walsh_of-requires-clause-fit : goal.walsh_of-requires-clause-fit
 walsh_of-requires-clause-fit g c = λ i h. all-fit c.args.range 29 (column g.W.Word.lane_of i c.args.input.now) (omega arith) (c.requires.fit i h)
 
@@ -37,6 +40,11 @@ pub returns-in-IDENTITY : goal.returns-in-IDENTITY
 unfolding network_with
 returns-in-IDENTITY g c = λ i h. c.identity_of.ensures i h
     ∙ ap (λ k. network k c.args.range c.args.k (column g.W.Word.lane_of i c.args.input.now)) (sym c.in-IDENTITY.is)
+
+pub returns-in-EXACT_IDENTITY : goal.returns-in-EXACT_IDENTITY
+unfolding network_with
+returns-in-EXACT_IDENTITY g c = λ i h. c.exact_identity_of.ensures i h
+    ∙ ap (λ k. network k c.args.range c.args.k (column g.W.Word.lane_of i c.args.input.now)) (sym c.in-EXACT_IDENTITY.is)
 
 pub returns-in-WHT : goal.returns-in-WHT
 unfolding network_with

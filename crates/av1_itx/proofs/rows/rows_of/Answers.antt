@@ -44,7 +44,7 @@ write_groups-requires-clause-fit g c = λ x r hx hr.
     let run = subst (λ (columns : _). AreTransformed columns c.fill_rows.new.scaled c.run_columns.new.buffer) c.rows_in.ensures c.run_columns.ensures in
     let is = run x r (omega (arith, hx, c.width-w.ensures.value)) live
     ∙ tile_row block cs c.fill_rows.new.scaled r x below (λ y hy. c.fill_rows.ensures y r hy below) in
-    subst Q (sym rows) (subst P (sym is) (row-fits size block.tx_type block.bd cs r x (omega arith)))
+    subst Q (sym rows) (subst P (sym is) (row-fits block.by_av1 size block.tx_type block.bd cs r x (omega arith)))
 
 pub returns : goal.returns
 returns g c = λ r x hr hx.
@@ -68,13 +68,13 @@ returns g c = λ r x hr hx.
     let room = mul-le-mul_right w few in
     let new_len : length new ≡ q * w = c.write_groups.auto.buffer ∙ length-take-le (q * w) c.args.buffer.now (omega (arith, long, room)) in
     let whole : length buf ≡ h * w = omega (arith, length-append new rest, length-drop (q * w) c.args.buffer.now, new_len, long, room) in
-    let f = λ (a b : ℕ). taken_by_columns size bd (at (transformed_row size type bd cs a) b) in
+    let f = λ (a b : ℕ). taken_by_columns size bd (at (transformed_row c.args.block.by_av1 size type bd cs a) b) in
     let all = subst (λ (columns : _). AreTransformed columns c.fill_rows.new.scaled c.run_columns.new.buffer) c.rows_in.ensures c.run_columns.ensures in
     let run = λ (a b : ℕ) (ha : a < q) (hb : b < w). (let la : a < coded h = omega (arith, ha, within, rows) in
     ap (λ n. at c.run_columns.new.buffer (b * n + a)) rows
     ∙ all b a (omega (arith, hb, c.width-w.ensures.value)) ha
     ∙ tile_row c.args.block cs c.fill_rows.new.scaled a b la (λ y hy. c.fill_rows.ensures y a hy la)) in
-    let written = λ (a b : ℕ) (ha : a < q) (hb : b < w). (let z = at (transformed_row size type bd cs a) b in
+    let written = λ (a b : ℕ) (ha : a < q) (hb : b < w). (let z = at (transformed_row c.args.block.by_av1 size type bd cs a) b in
     c.write_groups.ensures a b (omega (arith, ha, lanes)) hb
     ∙ ap (λ v. clamp_value (round_shift v c.row_shift_of-shift.result) c.column_range_of-range.result) (run a b ha hb)
     ∙ ap (λ n. clamp_value (round_shift z n) c.column_range_of-range.result) c.row_shift_of-shift.ensures.value
@@ -86,14 +86,14 @@ returns g c = λ r x hr hx.
     let same = ap (λ n. y * n) rows in
     omega (arith, given_in, room, same, length-map c.args.input.now g.C.Coefficient.val)) in
     let none : (a b : ℕ) → q ≤ a → f a b ≡ pos 0 = λ a b ha. elim (cases_lt a (coded h)) [
-      | inl la ↦ sym (taken-none size type bd cs a b la (λ y hy. elim (cases_lt y c.min-columns.result) [
+      | inl la ↦ sym (taken-none c.args.block.by_av1 size type bd cs a b la (λ y hy. elim (cases_lt y c.min-columns.result) [
         | inl given ↦ sym (c.fill_rows.ensures y a hy la)
             ∙ subst (λ (n : ℕ). at c.fill_rows.new.scaled (y * n + a) ≡ pos 0) rows
             (c.live_groups-groups.ensures.zeros y a given (omega (arith, ha, lanes)) (omega (arith, la, rows)))
         | inr none_given ↦ input_none size type bd cs a y
             (let past = past_given y (omega (arith, hy, none_given, c.min-columns.ensures, c.width-w.ensures.value)) in omega (arith, past))
       ]))
-      | inr past ↦ sym (taken-past size type bd cs a b past)
+      | inr past ↦ sym (taken-past c.args.block.by_av1 size type bd cs a b past)
     ] in
     let P : ℕ → Type 0 = λ n. at (put (q * w) (length buf - q * w) buf c.clear.new.line) (r * n + x) ≡ f r x in
     subst P c.width-w.ensures.value

@@ -3,7 +3,7 @@ use Rattle.std.proofs.lemmas.List.{length-take-le}
 use Rattle.av1_dct.specs.Arithmetic.{AllFit}
 use Rattle.av1_blocks.specs.Transforms.{coded_area}
 use Rattle.av1_frame.proofs.Regions.{painted_same}
-use Rattle.av1_itx.specs.Residue.{residue}
+use Rattle.av1_itx.specs.Residue.{residue_by}
 use Rattle.av1_itx.proofs.Passes.{residue-same}
 use Rattle.av1_tile.specs.Reference.{added, block_residue, coefficients}
 use Rattle.av1_dct.proofs.Fits.{fits_wider}
@@ -63,6 +63,6 @@ returns-clause-painted g c =
     (omega (arith, within.1)) (omega arith) c.load_coefficients.ensures in
     painted_same _ _ _ _ _ _ c.inverse_transform_add_with.ensures.painted
     (λ r k v h l. ap (λ (z : ℤ). g.T.Pixel.pixel (added a.bit_depth (g.T.Pixel.num v) z))
-    (ap (λ (xs : List ℤ). residue p.area.tx_size p.tx_type a.bit_depth xs r k) same
-    ∙ residue-same p.area.tx_size p.tx_type a.bit_depth _ _
+    (ap (λ (xs : List ℤ). residue_by a.scratch.now.by_av1 p.area.tx_size p.tx_type a.bit_depth xs r k) same
+    ∙ residue-same a.scratch.now.by_av1 p.area.tx_size p.tx_type a.bit_depth _ _
     (loaded_front a.number n (coded_area p.area.tx_size) a.triples.now within.0 c.coefficients_up_to-count.ensures.reach) r k))

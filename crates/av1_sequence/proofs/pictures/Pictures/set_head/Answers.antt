@@ -9,4 +9,4 @@ invariant_of-self g c =
 pub returns-clause-serves : goal.returns-clause-serves
 returns-clause-serves g c = λ plan eh er.
     serves_plan g.T.Pixel.num c.args.self.now.header c.args.self.now.fi _ c.args.self.now.places c.args.head.now c.args.self.now.keeps c.requires refl refl refl
-    c.places_of-self.ensures plan eh er
+    c.follows_av1-self.ensures c.places_of-self.ensures plan eh er

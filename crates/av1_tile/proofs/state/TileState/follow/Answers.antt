@@ -13,5 +13,6 @@ invariant_of-self-inside g c =
 pub returns-clause-sound : goal.returns-clause-sound
 returns-clause-sound g c =
     let s = c.self.inside in
-    let r : Picture _ = record { header = c.args.header.now; references = with_settings c.args.header.now s.fi; planes = s.planes; edges = s.memory.edges } in
+    let fi = record (with_settings c.args.header.now s.fi) { short_by_av1 = c.follows_av1-self-inside.result } in
+    let r : Picture _ = record { header = c.args.header.now; references = fi; planes = s.planes; edges = s.memory.edges } in
     sound_alike g.T.Pixel.num c.args.self.now r c.requires.alike (ap (λ (p : Picture _). p.planes) c.self.view_is) c.requires.sound
