@@ -7,9 +7,12 @@ use Rattle.av1_edges.specs.Edges.{Edge}
 use Rattle.av1_frame.specs.Areas.{VisibleArea}
 use Rattle.av1_plan.specs.declared.header.Header.{Header}
 use Rattle.av1_plan.specs.Geometry.{xdec, ydec, plane_width, plane_height, carries_chroma, covers_plane, plane_place, plane_size, plane_tx_size, plane_area}
+use Rattle.av1_plan.specs.declared.leaf.LeafKind.{LeafKind}
+use Rattle.av1_plan.specs.declared.leaf.LeafKind.TheVariants.{Intra, Single, Compound}
 use Rattle.av1_plan.specs.Geometry.{has_block, transform_block, shown_columns, shown_rows}
 use Rattle.av1_plan.specs.Plan.{LeafValue, PlanValue}
 use Rattle.av1_plan.specs.Versions.{header_in, plan_in}
+use Rattle.av1_tile.specs.declared.plane_block.Parts.{Parts}
 use Rattle.av1_tile.specs.declared.plane_block.PlaneBlock.{PlaneBlock}
 use Rattle.av1_tile.specs.declared.plane_block.Prediction.{Prediction}
 use Rattle.av1_tile.specs.declared.plane_block.Prediction.TheVariants as predictions
@@ -17,7 +20,7 @@ use Rattle.av1_tile.specs.Canvas.{Component, Y, U, V, Canvas, blank, drawn, with
 use Rattle.av1_tile.specs.Edge.{sample_of}
 use Rattle.av1_tile.specs.Output.{visible, planes_of}
 use Rattle.av1_tile.specs.PlaneBlocks.{number, plane_block}
-use Rattle.av1_tile.specs.Reference.{by_prediction, predicted, slow_in, slow_step, slow_walk}
+use Rattle.av1_tile.specs.Reference.{above, beside, by_prediction, kind_motion, parts_motion, predicted, slow_in, slow_step, slow_walk}
 use Rattle.av1_tile.specs.Steps.{Step, predict, add, PlaneStep, steps_at, steps_of, component_steps, leaf_steps, steps_after, steps}
 use Rattle.av1_tile.specs.Versions.{VersionsShowTheSame}
 
@@ -45,6 +48,27 @@ module _ (n : ℕ) (h : Header) where
 -- ---- what a step writes
 
 module _ (n : ℕ) (plan : PlanValue) where
+  kind_same : (c : Component) (kind : LeafKind) (a : VisibleArea) (r k : ℕ) →
+      kind_motion (plan_in n plan) (number c) kind a r k ≡ kind_motion plan (number c) kind a r k
+  unfolding shown_columns shown_rows xdec ydec
+  kind_same Y (Intra mode step chroma) a r k = refl
+  kind_same Y (Single mode reference mv) a r k = refl
+  kind_same Y (Compound mode references mvs) a r k = refl
+  kind_same U (Intra mode step chroma) a r k = refl
+  kind_same U (Single mode reference mv) a r k = refl
+  kind_same U (Compound mode references mvs) a r k = refl
+  kind_same V (Intra mode step chroma) a r k = refl
+  kind_same V (Single mode reference mv) a r k = refl
+  kind_same V (Compound mode references mvs) a r k = refl
+
+  parts_same : (c : Component) (parts : Parts) (a : VisibleArea) (r k : ℕ) →
+      parts_motion (plan_in n plan) (number c) parts a r k ≡ parts_motion plan (number c) parts a r k
+  parts_same c parts a r k =
+      let kinds : kind_motion (plan_in n plan) (number c) ≡ kind_motion plan (number c) =
+      fun_ext (λ kind. fun_ext (λ b. fun_ext (λ i. fun_ext (λ j. kind_same c kind b i j)))) in
+      ap (λ (f : LeafKind → VisibleArea → ℕ → ℕ →
+      ℕ). above parts.low (beside parts.narrow (f parts.corner) (f parts.over)) (beside parts.narrow (f parts.side) (f parts.own)) a r k) kinds
+
   prediction_same : (c : Component) (prediction : Prediction) (a : VisibleArea) (edge : PredictionMode → ℤ → Edge) (luma : ℕ → ℕ → ℤ) (r k : ℕ)
       → by_prediction (plan_in n plan) (number c) prediction a edge luma r k ≡ by_prediction plan (number c) prediction a edge luma r k
   unfolding by_prediction plane_width plane_height shown_columns shown_rows xdec ydec
@@ -52,14 +76,17 @@ module _ (n : ℕ) (plan : PlanValue) where
   prediction_same Y (predictions.FromLuma alpha) a edge luma r k = refl
   prediction_same Y (predictions.Single mode reference mv) a edge luma r k = refl
   prediction_same Y (predictions.Compound mode references mvs) a edge luma r k = refl
+  prediction_same Y (predictions.Parts parts) a edge luma r k = parts_same Y parts a r k
   prediction_same U (predictions.Intra mode step filter) a edge luma r k = refl
   prediction_same U (predictions.FromLuma alpha) a edge luma r k = refl
   prediction_same U (predictions.Single mode reference mv) a edge luma r k = refl
   prediction_same U (predictions.Compound mode references mvs) a edge luma r k = refl
+  prediction_same U (predictions.Parts parts) a edge luma r k = parts_same U parts a r k
   prediction_same V (predictions.Intra mode step filter) a edge luma r k = refl
   prediction_same V (predictions.FromLuma alpha) a edge luma r k = refl
   prediction_same V (predictions.Single mode reference mv) a edge luma r k = refl
   prediction_same V (predictions.Compound mode references mvs) a edge luma r k = refl
+  prediction_same V (predictions.Parts parts) a edge luma r k = parts_same V parts a r k
 
   predicted_same : (canvas : Canvas) (c : Component) (block : PlaneBlock) (a : VisibleArea) (r k : ℕ) →
       predicted (plan_in n plan) canvas c block a r k ≡ predicted plan canvas c block a r k
