@@ -4,9 +4,10 @@
 usage: measure.py [--tools PATH] [--time ROUNDS] FOLDER..
 
 FOLDER is a folder of `integrations/rav1e/record`: its sequence goes through `av1_tools sequence`, its bits through dav1d in
-one thread, once in plain C and once by its assembler. TOOLS is the built av1_tools: by default $AV1_TOOLS, else what `rt run`
-leaves in crates/av1_tools/out. Instructions of whole runs are counted by callgrind; with --time stand medians of so many
-rounds beside them, in milliseconds, the three programs in turn.
+one thread: in plain C, by its assembler for processors up to SSE4.1, which is what this project is built for, and by that with
+AVX2. TOOLS is the built av1_tools: by default $AV1_TOOLS, else what `rt run` leaves in crates/av1_tools/out. Instructions of
+whole runs are counted by callgrind; with --time stand medians of so many rounds beside them, in milliseconds, the programs in
+turn.
 
 dav1d reads bits that are entropy coded, which this project does not, and this project reads coefficients that are written in
 plain bytes. Needs dav1d and valgrind: apt-get install dav1d valgrind.
@@ -23,14 +24,14 @@ import time
 
 HERE = os.path.dirname(os.path.abspath(__file__))
 BUILT = os.path.normpath(os.path.join(HERE, "../../crates/av1_tools/out/av1_tools"))
-PROGRAMS = ("here", "plain C", "assembler")
+PROGRAMS = ("here", "plain C", "SSE4.1", "AVX2")
 
 
 def commands(tools, folder):
-    """The three programs, each as its words and the file on its standard input."""
+    """The four programs, each as its words and the file on its standard input."""
     bits = os.path.join(folder, "clip.ivf")
     dav1d = ["dav1d", "-q", "-i", bits, "--threads", "1", "--muxer", "null", "-o", "-", "--cpumask"]
-    return ([tools, "sequence"], os.path.join(folder, "sequence")), ([*dav1d, "0"], os.devnull), ([*dav1d, "-1"], os.devnull)
+    return ([tools, "sequence"], os.path.join(folder, "sequence")), *(([*dav1d, mask], os.devnull) for mask in ("0", "sse41", "avx2"))
 
 
 def run(words, file):
@@ -59,8 +60,8 @@ def times(programs, rounds):
 
 
 def line(name, found):
-    here, plain, assembler = found
-    return f"| {name} | {here:.1f} | {plain:.1f} | {assembler:.1f} | {here / plain:.2f} | {here / assembler:.2f} |"
+    ratios = " | ".join(f"{found[0] / there:.2f}" for there in found[1:])
+    return f"| {name} | {' | '.join(f'{it:.1f}' for it in found)} | {ratios} |"
 
 
 def main():
@@ -74,7 +75,7 @@ def main():
         sys.exit(f"missing: {' '.join(missing)} (apt-get install {' '.join(missing)})")
     if not os.access(options.tools, os.X_OK):
         sys.exit(f"missing: {options.tools}, which `rt run` in crates/av1_tools builds")
-    print("| clip | " + " | ".join(PROGRAMS) + " | here / plain C | here / assembler |\n|" + "---|" * 6)
+    print("| clip | " + " | ".join([*PROGRAMS, *(f"here / {it}" for it in PROGRAMS[1:])]) + " |\n|" + "---|" * 8)
     for folder in options.folders:
         programs = commands(options.tools, folder)
         name = os.path.basename(os.path.normpath(folder))

@@ -90,9 +90,8 @@ fn network_32<W: Butterfly>(w: &mut [W], range: usize)
     join_halves::<W, 4>(w, range);
 }
 
-// The last step of the transform of 64 words, as a call by itself: as one function the whole of it takes a compiler
-// longer, and less of it stays in registers.
-#[inline(never)]
+// The last step of the transform of 64 words, as a function by itself: within the rest it takes a compiler longer, and
+// less of the whole stays in registers. A compiler puts it in line where one function alone calls it, as of one column.
 fn join_64<W: Butterfly>(w: &mut [W], range: usize)
     requires range_in { (8 ≤ range) × (range ≤ 20) }
     requires within { range ≤ W.bits }
