@@ -15,6 +15,7 @@ pub mod Simulation
 pub mod PredictionsShown
 pub mod BlockTriples
 pub mod EdgeBlocks
+pub mod Halves
 pub mod Predictions
 pub mod WithinDepth
 pub mod BlockSteps

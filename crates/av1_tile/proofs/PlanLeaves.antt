@@ -1,7 +1,7 @@
 -- Leaves in memory, what is said of them, and what the record of cells tells of those before one.
 use Rattle.std.proofs.Common.{ℕ, ◌+◌, ◌-◌, ◌/◌, ◌<◌, ◌≡◌, take, All, Bool, true, false, List, [], ◌∷◌, ◌++◌, length, get_or, refl, ap, arith, ◌∙◌, sym, subst}
 use Rattle.std.proofs.Common.{if◌then◌else◌, slice_index_or, append_assoc, Option, Some, None}
-use Rattle.std.specs.Prelude.{nat_lt}
+use Rattle.std.specs.Prelude.{nat_lt, ◌||◌, IfSome}
 use Rattle.std.specs.Option.{option_map, is_some}
 use Rattle.std.specs.List.{flat_map, fold}
 use Rattle.std.proofs.lemmas.Bool.{ltb-true, true≢false}
@@ -34,11 +34,11 @@ use Rattle.av1_tile.specs.declared.plane_block.PlaneBlock.{PlaneBlock}
 use Rattle.av1_tile.specs.declared.planes.Planes.{Planes}
 use Rattle.av1_tile.specs.Canvas.{Component, Y, U, V}
 use Rattle.av1_tile.specs.PlaneBlocks.{number, coded_info, block_told, filter_parameters, near_at, neighbour_above, neighbour_left, plane_block, told_of, triples_in}
-use Rattle.av1_tile.specs.Shared.{moved, parts_at, parts_in}
+use Rattle.av1_tile.specs.Shared.{in_parts, moved, parts_at, parts_in}
 use Rattle.av1_tile.specs.Steps.{PlaneStep, component_steps, steps_of, leaf_steps, steps_after, steps}
 use Rattle.av1_tile.specs.Walk.{Known, KindServes, Movers, MoversServe, Told, at_start, told_by, parameters_by, parts_by, block_by, leaf_steps_by, movers_of, near_by}
 use Rattle.av1_tile.specs.Walk.{no_movers, steps_by, with_all_known, with_known, with_leaf, with_mover, Begins, BlockFits, LeafFits}
-use Rattle.av1_tile.specs.Walk.{LumaFits, SameLayout, leaf_with}
+use Rattle.av1_tile.specs.Walk.{LumaFits, PartsServe, SameLayout, leaf_with}
 use Rattle.av1_tile.proofs.UnitSteps.{covers, covers_is}
 
 -- ---- leaves in memory
@@ -63,6 +63,8 @@ length_leaves ts ls = length-map ls (leaf_value ts)
 -- leaf i and its triples, as they are said
 pub record IsLeafAt (leaves : Leaves) (i : ℕ) (l : Leaf) (y u v : List Triple) : Type 0 where
   pub inside : i < length (leaves_value leaves)
+  pub stored : i < length (leaf_list leaves)
+  pub own : l ≡ get_or (leaf_list leaves) i l
   pub is : leaf_value (triple_list leaves) l ≡ get_or (leaves_value leaves) i (leaf_value (triple_list leaves) l)
   pub y_is : y ≡ triples_in Y (leaf_value (triple_list leaves) l)
   pub u_is : u ≡ triples_in U (leaf_value (triple_list leaves) l)
@@ -77,10 +79,12 @@ is_leaf_at leaves i xs d y u v are inside y_is u_is v_is =
     let l = get_or xs i d in
     let short : i < length ls = subst (λ (ys : List Leaf). i < length ys) are inside in
     let within : i < length (leaves_value leaves) = subst (λ (n : ℕ). i < n) (sym (length_leaves ts ls)) short in
-    let is : leaf_value ts l ≡ get_or (leaves_value leaves) i (leaf_value ts l) =
-    leaf_at ts ls i l short (ap (λ (ys : List Leaf). get_or ys i d) are ∙ get_or_default ls i d l short) in
+    let own : l ≡ get_or ls i l = ap (λ (ys : List Leaf). get_or ys i d) are ∙ get_or_default ls i d l short in
+    let is : leaf_value ts l ≡ get_or (leaves_value leaves) i (leaf_value ts l) = leaf_at ts ls i l short own in
     record {
       inside = within;
+      stored = short;
+      own = own;
       is = is;
       y_is = y_is ∙ triples_at (leaves_value leaves) i (leaf_value ts l) Y within is;
       u_is = u_is ∙ triples_at (leaves_value leaves) i (leaf_value ts l) U within is;
@@ -305,9 +309,9 @@ parameters_same h p a f g frame same hx hy =
 -- a leaf's blocks don't look at its triples
 same_block : (h : Header) (near : Nearby) (k : Component) (ts : List Triple) (l : Leaf) (y u v : List Triple) →
     block_told h near k (leaf_with l y u v) ≡ block_told h near k (leaf_value ts l)
-same_block h near Y ts l y u v = refl
-same_block h near U ts l y u v = refl
-same_block h near V ts l y u v = refl
+same_block h said Y ts l y u v = refl
+same_block h said U ts l y u v = refl
+same_block h said V ts l y u v = refl
 
 -- the steps of leaf i as it was read are those of the leaf as it is said
 pub leaf_read : (leaves : Leaves) (h : Header) (i : ℕ) (l : Leaf) (y u v : List Triple) (f g : Known) → IsLeafAt leaves i l y u v → IsWholeFrame h
@@ -349,7 +353,7 @@ all_known_more leaves i w known inside is =
     ∙ fold_push with_known known (take i xs) w
 
 -- the leaves in memory up to one more
-movers_more : (ls : List Leaf) (i : ℕ) (l : Leaf) → i < length ls → l ≡ get_or ls i l → (cx cy : ℕ) →
+pub movers_more : (ls : List Leaf) (i : ℕ) (l : Leaf) → i < length ls → l ≡ get_or ls i l → (cx cy : ℕ) →
     movers_of (take (i + 1) ls) cx cy ≡ with_mover (movers_of (take i ls)) (leaf_with l [] [] []) cx cy
 movers_more ls i l inside is cx cy =
     let note : Movers → Leaf → Movers = λ movers leaf. with_mover movers (leaf_with leaf [] [] []) in
@@ -395,6 +399,36 @@ pub movers_serve : (h : Header) (ls : List Leaf) (i : ℕ) (l : Leaf) → i < le
     (is_inter l.kind ≡ true → KindServes h l.kind) → MoversServe h (movers_of (take (i + 1) ls))
 movers_serve h ls i l inside is before own cx cy kind e =
     mover_serves h (movers_of (take i ls)) (leaf_with l [] [] []) before own cx cy kind (sym (movers_more ls i l inside is cx cy) ∙ e)
+
+-- the parts that these leaves and one more give its block do
+four_serve : (h : Header) (narrow low : Bool) (corner over side own : Option LeafKind) → ((k : LeafKind) → corner ≡ Some k → KindServes h k) →
+    ((k : LeafKind) → over ≡ Some k → KindServes h k) → ((k : LeafKind) → side ≡ Some k → KindServes h k) → ((k : LeafKind) → own ≡ Some k → KindServes h k)
+    → IfSome (in_parts narrow low corner over side own) (PartsServe h)
+four_serve h narrow low (Some i) (Some j) (Some k) (Some l) first second third last =
+    record { corner = first i refl; over = second j refl; side = third k refl; own = last l refl }
+four_serve h narrow low None j k l first second third last = tt
+four_serve h narrow low (Some i) None k l first second third last = tt
+four_serve h narrow low (Some i) (Some j) None l first second third last = tt
+four_serve h narrow low (Some i) (Some j) (Some k) None first second third last = tt
+
+shared_serve : (h : Header) (shared : Bool) (parts : Option Parts) → IfSome parts (PartsServe h) →
+    IfSome (if shared then parts else None) (PartsServe h)
+shared_serve h true parts serve = serve
+shared_serve h false parts serve = tt
+
+pub parts_serve : (h : Header) (movers : Movers) (p : ℕ) (leaf : LeafValue) → MoversServe h movers → (is_inter leaf.kind ≡ true → KindServes h leaf.kind) →
+    IfSome (parts_by h movers p leaf) (PartsServe h)
+parts_serve h movers p leaf before inter =
+    let narrow = is_narrow leaf.size (xdec h p) in
+    let low = is_low leaf.size (ydec h p) in
+    let at = with_mover movers leaf in
+    let cx = leaf.x / 4 in
+    let cy = leaf.y / 4 in
+    let left = if narrow then cx - 1 else cx in
+    let top = if low then cy - 1 else cy in
+    let serve = mover_serves h movers leaf before inter in
+    shared_serve h (narrow || low) (in_parts narrow low (at left top) (at cx top) (at left cy) (at cx cy))
+    (four_serve h narrow low (at left top) (at cx top) (at left cy) (at cx cy) (serve left top) (serve cx top) (serve left cy) (serve cx cy))
 
 -- ---- a leaf that fits
 

@@ -141,22 +141,22 @@ module _ {T : Type 0} (num : T → ℕ) (pixel : ℕ → T) (law : (v : ℕ) →
     kind_within (Compound mode references mvs) serves a r c = compound_motion_within plan p references mvs a r c
 
     -- and so do halves
-    beside_within : (narrow : Bool) (f g : VisibleArea → ℕ → ℕ → ℕ) → AreWithin f → AreWithin g → AreWithin (beside narrow f g)
-    beside_within false f g first second a r c = second a r c
-    beside_within true f g first second a r c =
+    narrow_within : (narrow : Bool) (f g : VisibleArea → ℕ → ℕ → ℕ) → AreWithin f → AreWithin g → AreWithin (beside narrow f g)
+    narrow_within false f g first second a r c = second a r c
+    narrow_within true f g first second a r c =
         let w = a.width / 2 in
         chosen_below (nat_lt c w) _ _ _ (first (record a { width = w }) r c) (second (record a { x = a.x + w; width = a.width - w }) r (c - w))
 
-    above_within : (low : Bool) (f g : VisibleArea → ℕ → ℕ → ℕ) → AreWithin f → AreWithin g → AreWithin (above low f g)
-    above_within false f g first second a r c = second a r c
-    above_within true f g first second a r c =
+    low_within : (low : Bool) (f g : VisibleArea → ℕ → ℕ → ℕ) → AreWithin f → AreWithin g → AreWithin (above low f g)
+    low_within false f g first second a r c = second a r c
+    low_within true f g first second a r c =
         let n = a.height / 2 in
         chosen_below (nat_lt r n) _ _ _ (first (record a { height = n }) r c) (second (record a { y = a.y + n; height = a.height - n }) (r - n) c)
 
     parts_within : (parts : Parts) → PartsServe plan.header parts → AreWithin (parts_motion plan p parts)
     parts_within parts serve =
-        above_within parts.low _ _ (beside_within parts.narrow _ _ (kind_within parts.corner serve.corner) (kind_within parts.over serve.over))
-        (beside_within parts.narrow _ _ (kind_within parts.side serve.side) (kind_within parts.own serve.own))
+        low_within parts.low _ _ (narrow_within parts.narrow _ _ (kind_within parts.corner serve.corner) (kind_within parts.over serve.over))
+        (narrow_within parts.narrow _ _ (kind_within parts.side serve.side) (kind_within parts.own serve.own))
 
     -- what is predicted from references that frame settings hold lies within the depth too
     whole_within : (area : PlaneArea) (of : Prediction) → PredictionFits plan.header p area of → is_whole of ≡ true →

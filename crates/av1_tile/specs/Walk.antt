@@ -2,7 +2,7 @@
 -- of what was written, and what its functions ask of planes, blocks and leaves.
 use Rattle.std.specs.Prelude.{ℕ, ◌+◌, ◌-◌, ◌*◌, ◌/◌, ◌%◌, ◌^◌, ◌<◌, ◌≤◌, ◌≡◌, [], ◌∷◌, ◌++◌, true, false, Bool, ◌&&◌}
 use Rattle.std.specs.Prelude.{List, All, IsTrue, min, nat_lt, if◌then◌else◌, Option, Some, None, ℤ, pos, length}
-use Rattle.std.specs.Prelude.{slice_index_or, unsigned_abs, IfSome, ⊥}
+use Rattle.std.specs.Prelude.{slice_index_or, unsigned_abs, IfSome}
 use Rattle.std.specs.Int.{next_multiple_of}
 use Rattle.std.specs.List.{fold}
 use Rattle.av1_blocks.specs.declared.partition.RefType.{RefType}

@@ -37,7 +37,7 @@ pub fn predict_kind<T: Pixel>(
     requires depth { fi.now.bit_depth ≤ T.BITS }
     requires fits { InPlane (visible_in area) plane.old }
     requires references { (value : PlanValue) × (ServesPlan T.num value fi.now × KindFits value.header p (visible_in area) kind) }
-    ensures predicted { (value : PlanValue) → ServesPlan T.num value fi.now → KindFits value.header p (visible_in area) kind
+    ensures { (value : PlanValue) → ServesPlan T.num value fi.now → KindFits value.header p (visible_in area) kind
         → plane.new ≡ painted_plane plane.old (visible_in area) (λ r c _. T.pixel (kind_motion value p kind (visible_in area) r c)) }
 {
     match kind {
@@ -73,7 +73,7 @@ fn predict_row<T: Pixel>(
     requires fits { InPlane (visible_in area) plane.old }
     requires references { (value : PlanValue) × (ServesPlan T.num value fi.now
         × (KindFits value.header p (visible_in area) row.left × KindFits value.header p (visible_in area) row.right)) }
-    ensures predicted { (value : PlanValue) → ServesPlan T.num value fi.now
+    ensures { (value : PlanValue) → ServesPlan T.num value fi.now
         → KindFits value.header p (visible_in area) row.left → KindFits value.header p (visible_in area) row.right
         → plane.new ≡ painted_plane plane.old (visible_in area)
         (λ r c _. T.pixel (beside row.narrow (kind_motion value p row.left) (kind_motion value p row.right) (visible_in area) r c)) }
@@ -106,7 +106,7 @@ pub fn predict_parts<T: Pixel>(
     requires depth { fi.now.bit_depth ≤ T.BITS }
     requires fits { InPlane (visible_in area) plane.old }
     requires references { (value : PlanValue) × (ServesPlan T.num value fi.now × PartsFit value.header p (visible_in area) parts) }
-    ensures predicted { (value : PlanValue) → ServesPlan T.num value fi.now → PartsFit value.header p (visible_in area) parts
+    ensures { (value : PlanValue) → ServesPlan T.num value fi.now → PartsFit value.header p (visible_in area) parts
         → plane.new ≡ painted_plane plane.old (visible_in area) (λ r c _. T.pixel (parts_motion value p parts (visible_in area) r c)) }
 {
     let narrow = parts.narrow;

@@ -2,7 +2,7 @@
 //!
 //! AV1 specification: compute prediction syntax, which predicts such a block by the leaf that covers each part's luma.
 
-ghost use Rattle.std.specs.Prelude.{◌≡◌, ℕ, Some, []};
+ghost use Rattle.std.specs.Prelude.{◌≡◌, ◌/◌, ◌<◌, Some, []};
 ghost use Rattle.av1_order.specs.Neighbours.{leaf_holds};
 ghost use Rattle.av1_tile.specs.Shared.{moved, parts_at};
 ghost use Rattle.av1_tile.specs.Walk.{leaf_with, movers_of, parts_by, with_mover};
@@ -21,6 +21,7 @@ fn moved(leaf: &Leaf) -> Option<LeafKind>
 }
 
 /// Whether a leaf holds the luma cell at column `cx` of row `cy`.
+#[tactic(auto, unfolding(av1_avail::specs::Order::is_in))]
 fn holds(leaf: &Leaf, cx: usize, cy: usize) -> bool
     ensures { result ≡ leaf_holds (leaf_with leaf.now [] [] []) cx cy }
 {

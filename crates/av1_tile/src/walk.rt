@@ -7,12 +7,12 @@ ghost use Rattle.av1_frame.specs.Planes.{InPlane};
 ghost use Rattle.av1_intra.specs.ChromaFromLuma.{ac_at};
 ghost use Rattle.av1_order.specs.Plans.{is_inter};
 ghost use Rattle.av1_plan.specs.Plan.{PlanValue};
-ghost use Rattle.av1_references.specs.References.{ServesPlan, leaf_area, visible_in};
+ghost use Rattle.av1_references.specs.References.{ServesPlan, leaf_area};
 ghost use Rattle.av1_plan.specs.Geometry.{blocks_across, block_count, transform_block};
 ghost use Rattle.av1_plan.specs.ReadPlans.{IsReadFrame};
 ghost use Rattle.av1_plan.specs.declared.leaf.Triple.{Triple};
 ghost use Rattle.av1_tile.specs.PlaneBlocks.{block_told, component, is_whole};
-ghost use Rattle.av1_tile.specs.Predicted.{WalksKeeping, keeping_in, kept_in};
+ghost use Rattle.av1_tile.specs.Predicted.{WalksKeeping, keeping_in, kept_in, stored_in};
 ghost use Rattle.av1_tile.specs.Reference.{no_luma};
 ghost use Rattle.av1_tile.specs.Steps.{own_prediction, whole_steps, plane_steps, steps_at, joined};
 ghost use Rattle.av1_tile.specs.Walk.{area_at, Begins, edges_in, fast_in, leaf_with, BlockFits, HasCells, IsPlaceIn};
@@ -151,7 +151,7 @@ fn keep_block<T: Pixel>(
 
 /// The rectangle of a leaf's whole area in a plane.
 fn whole_area(area: PlaneArea) -> StoredArea
-    ensures { visible_in result ≡ leaf_area area }
+    ensures { result ≡ stored_in (leaf_area area) }
 {
     StoredArea {
         x: usize::from(area.x),
