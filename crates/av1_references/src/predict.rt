@@ -12,7 +12,9 @@ ghost use Rattle.av1_plan.specs.Validity.{has_reference};
 ghost use Rattle.av1_references.specs.References.{compound_motion, ServesPlan, single_motion, visible_in};
 
 use av1_blocks::{MotionVector, PredictionMode, RefType};
-use av1_frame::{FrameInvariants, Pixel, Plane, PlaneConfig, PlaneOffset, StoredArea, TileRect, visible_area};
+use av1_frame::{
+    FrameInvariants, Pixel, Plane, PlaneConfig, PlaneOffset, StoredArea, TileRect, visible_area,
+};
 use av1_inter::{InterCompoundBuffers, predict_inter_compound, predict_inter_single};
 
 /// The place of a rectangle's first sample in its plane.

@@ -1,7 +1,7 @@
 -- When the turn of a transform block comes: what the canvas knows of its sides is what the availability calls answer; and the edge that is
 -- prepared by place.
 use Rattle.std.proofs.Common.{ℕ, zero, suc, ◌+◌, ◌-◌, ◌<◌, ◌≤◌, ◌≡◌, Bool, true, false, ◌&&◌, nat_lt, if◌then◌else◌, List, [], ◌++◌, refl, ap, arith, ◌∙◌, sym}
-use Rattle.std.proofs.Common.{Option, Some, None}
+use Rattle.std.proofs.Common.{Some, None}
 use Rattle.std.specs.Option.{is_some}
 use Rattle.std.specs.Prelude.{unsigned_abs}
 use Rattle.std.specs.List.{flat_map, range_with_len}

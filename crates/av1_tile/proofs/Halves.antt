@@ -1,5 +1,5 @@
 -- A rectangle that is painted by halves: the left one and then the right, or the upper one and then the lower.
-use Rattle.std.proofs.Common.{ℕ, ◌+◌, ◌-◌, ◌/◌, ◌%◌, ◌<◌, ◌≤◌, ◌≡◌, ◌∙◌, List, length, get_or, ap, subst, sym, arith, refl, inl, inr, true, false, Bool, cond}
+use Rattle.std.proofs.Common.{ℕ, ◌+◌, ◌-◌, ◌/◌, ◌%◌, ◌<◌, ◌≤◌, ◌≡◌, ◌∙◌, List, length, get_or, ap, subst, sym, arith, inl, inr, true, false, Bool, cond}
 use Rattle.std.specs.Prelude.{nat_lt}
 use Rattle.std.proofs.lemmas.Bool.{cases_lt}
 use Rattle.std.proofs.lemmas.Bool.Decides.{nat_tests}

@@ -32,6 +32,7 @@ pub mod Layouts
 pub mod PlansOver
 pub mod FilledPlanes
 pub mod Examples
+pub mod Sharing
 pub mod Versions
 pub mod Lookups
 pub mod Residues

@@ -180,7 +180,8 @@ module _ (plan : PlanValue) (spelled : ∥ IsSpelled grammar plan ∥₁) (valid
       (ap (λ (r : Keeping (Planes _) _). r.1) (walked ∙ ap (fold (keeping_step num pixel plan) (p, kept)) (same_steps s told))) k)
 
   -- and the count of edges is that of its predictions
-  pub plan_counts : (count after : ℕ) (told : Told) → after ≡ fold edges_after count (steps_by plan.header (at_start told) plan.leaves) → after ≡ edges_of count plan
+  pub plan_counts : (count after : ℕ) (told : Told) → after ≡ fold edges_after count (steps_by plan.header (at_start told) plan.leaves) →
+      after ≡ edges_of count plan
   plan_counts count after told counted = ∥∥₁_elim spelled (hlevel (ℕ_set)) (λ s. counted ∙ ap (fold edges_after count) (same_steps s told))
 
 -- a state whose planes show what a plan comes to

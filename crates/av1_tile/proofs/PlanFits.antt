@@ -45,7 +45,8 @@ use Rattle.av1_references.proofs.Served.{accepted}
 use Rattle.av1_tile.specs.declared.planes.Planes.{Planes}
 use Rattle.av1_tile.specs.Canvas.{Component, Y, U, V, is_same}
 use Rattle.av1_tile.specs.PlaneBlocks.{number, type_in, block_told, prediction_in, shared, triples_in, is_from_luma}
-use Rattle.av1_tile.specs.Walk.{HasRoom, HasRoomIn, Begins, BlockFits, FromLumaFits, KindServes, LeafFits, NearServes, PartsServe, PredictionFits, ReferenceFits}
+use Rattle.av1_tile.specs.Walk.{HasRoom, HasRoomIn, Begins, BlockFits, FromLumaFits, KindServes, LeafFits, NearServes, PartsServe, PredictionFits}
+use Rattle.av1_tile.specs.Walk.{ReferenceFits}
 use Rattle.av1_tile.proofs.CflSizes.{from_luma_fits, luma_fits}
 use Rattle.av1_tile.proofs.UnitSteps.{covers, block_x, block_y, block_columns, block_rows, block_tx_size}
 use Rattle.av1_tile.proofs.ValidTriples.{triples_fit, triples_rise}
@@ -180,8 +181,7 @@ kind_serves h carried (Intra mode step chroma) read has inter = absurd cc
 kind_serves h carried (Single mode reference mv) read has inter = (read.inter, reference_fits h reference read.reference_read has)
 kind_serves h carried (Compound mode references mvs) read has inter =
     let first : 0 < length references = omega (arith, read.two_references) in
-    let second : 1 < length references = omega (arith, read.two_references) in
-    (
+    let second : 1 < length references = omega (arith, read.two_references) in (
       compound_inter mode read.compound,
       (
         reference_fits h (reference_of references 0) (read.references_read 0 INTRA_FRAME first) (has 0 INTRA_FRAME first),
@@ -221,16 +221,24 @@ mode_fits h near U area carried size (Intra mode step (Some (Plain uv_mode uv_st
     record { intra = read.chroma_read.intra; plain = read.chroma_read.plain; few_steps = valid.chroma_valid.small }
 mode_fits h near V area carried size (Intra mode step (Some (Plain uv_mode uv_step))) serve read valid has sides luma =
     record { intra = read.chroma_read.intra; plain = read.chroma_read.plain; few_steps = valid.chroma_valid.small }
-mode_fits h near U area carried size (Intra mode step (Some (Cfl alpha_u alpha_v))) serve read valid has sides luma = luma refl refl alpha_u valid.chroma_valid.u
-mode_fits h near V area carried size (Intra mode step (Some (Cfl alpha_u alpha_v))) serve read valid has sides luma = luma refl refl alpha_v valid.chroma_valid.v
+mode_fits h near U area carried size (Intra mode step (Some (Cfl alpha_u alpha_v))) serve read valid has sides luma =
+    luma refl refl alpha_u valid.chroma_valid.u
+mode_fits h near V area carried size (Intra mode step (Some (Cfl alpha_u alpha_v))) serve read valid has sides luma =
+    luma refl refl alpha_v valid.chroma_valid.v
 mode_fits h near U area carried size (Intra mode step None) serve read valid has sides luma = record { intra = refl; plain = refl; few_steps = omega arith }
 mode_fits h near V area carried size (Intra mode step None) serve read valid has sides luma = record { intra = refl; plain = refl; few_steps = omega arith }
-mode_fits h near Y area carried size (Single mode reference mv) serve read valid has sides luma = single_fits h 0 area near carried mode reference mv serve sides read has
-mode_fits h near Y area carried size (Compound mode references mvs) serve read valid has sides luma = compound_fits h 0 area near carried mode references mvs serve sides read has
-mode_fits h near U area carried size (Single mode reference mv) serve read valid has sides luma = single_fits h 1 area near carried mode reference mv serve sides read has
-mode_fits h near U area carried size (Compound mode references mvs) serve read valid has sides luma = compound_fits h 1 area near carried mode references mvs serve sides read has
-mode_fits h near V area carried size (Single mode reference mv) serve read valid has sides luma = single_fits h 2 area near carried mode reference mv serve sides read has
-mode_fits h near V area carried size (Compound mode references mvs) serve read valid has sides luma = compound_fits h 2 area near carried mode references mvs serve sides read has
+mode_fits h near Y area carried size (Single mode reference mv) serve read valid has sides luma =
+    single_fits h 0 area near carried mode reference mv serve sides read has
+mode_fits h near Y area carried size (Compound mode references mvs) serve read valid has sides luma =
+    compound_fits h 0 area near carried mode references mvs serve sides read has
+mode_fits h near U area carried size (Single mode reference mv) serve read valid has sides luma =
+    single_fits h 1 area near carried mode reference mv serve sides read has
+mode_fits h near U area carried size (Compound mode references mvs) serve read valid has sides luma =
+    compound_fits h 1 area near carried mode references mvs serve sides read has
+mode_fits h near V area carried size (Single mode reference mv) serve read valid has sides luma =
+    single_fits h 2 area near carried mode reference mv serve sides read has
+mode_fits h near V area carried size (Compound mode references mvs) serve read valid has sides luma =
+    compound_fits h 2 area near carried mode references mvs serve sides read has
 
 -- ---- leaves
 

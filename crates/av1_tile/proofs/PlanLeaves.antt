@@ -33,10 +33,12 @@ use Rattle.av1_tile.specs.declared.plane_block.Parts.{Parts}
 use Rattle.av1_tile.specs.declared.plane_block.PlaneBlock.{PlaneBlock}
 use Rattle.av1_tile.specs.declared.planes.Planes.{Planes}
 use Rattle.av1_tile.specs.Canvas.{Component, Y, U, V}
-use Rattle.av1_tile.specs.PlaneBlocks.{number, coded_info, block_told, filter_parameters, near_at, neighbour_above, neighbour_left, plane_block, told_of, triples_in}
+use Rattle.av1_tile.specs.PlaneBlocks.{number, coded_info, block_told, filter_parameters, near_at, neighbour_above, neighbour_left, plane_block, told_of}
+use Rattle.av1_tile.specs.PlaneBlocks.{triples_in}
 use Rattle.av1_tile.specs.Shared.{in_parts, moved, parts_at, parts_in}
 use Rattle.av1_tile.specs.Steps.{PlaneStep, component_steps, steps_of, leaf_steps, steps_after, steps}
-use Rattle.av1_tile.specs.Walk.{Known, KindServes, Movers, MoversServe, Told, at_start, told_by, parameters_by, parts_by, block_by, leaf_steps_by, movers_of, near_by}
+use Rattle.av1_tile.specs.Walk.{Known, KindServes, Movers, MoversServe, Told, at_start, told_by, parameters_by, parts_by, block_by, leaf_steps_by}
+use Rattle.av1_tile.specs.Walk.{movers_of, near_by}
 use Rattle.av1_tile.specs.Walk.{no_movers, steps_by, with_all_known, with_known, with_leaf, with_mover, Begins, BlockFits, LeafFits}
 use Rattle.av1_tile.specs.Walk.{LumaFits, PartsServe, SameLayout, leaf_with}
 use Rattle.av1_tile.proofs.UnitSteps.{covers, covers_is}

@@ -1,5 +1,5 @@
 -- A transform block that is predicted from its edge is predicted as its leaf is.
-use Rattle.std.proofs.Common.{ℕ, Bool, true, false, if◌then◌else◌, [], ◌∷◌, ap, ◌∙◌, ◌≡◌, sym, List, Option, None, ℤ}
+use Rattle.std.proofs.Common.{ℕ, Bool, true, false, if◌then◌else◌, [], ◌∷◌, ap, ◌∙◌, ◌≡◌, sym, Option, None, ℤ}
 use Rattle.std.specs.List.{fold}
 use mathlib.Core.Path.{fun_ext}
 use Rattle.av1_blocks.specs.declared.predict.PredictionMode.{PredictionMode}

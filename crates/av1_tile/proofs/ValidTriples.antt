@@ -1,5 +1,5 @@
 -- Triples of leaves that pass the validity check: they stand in their blocks and fit the depth.
-use Rattle.std.proofs.Common.{ℕ, ◌+◌, ◌-◌, ◌^◌, ◌≡◌, true, not, ℤ, pos, neg_ℤ, int_lt, List, Option, All, arith}
+use Rattle.std.proofs.Common.{ℕ, ◌+◌, ◌-◌, ◌^◌, ◌≡◌, true, not, ℤ, pos, neg_ℤ, int_lt, List, All, arith}
 use Rattle.std.proofs.lemmas.Bool.{and_parts, not-true}
 use Rattle.std.proofs.lemmas.Int.{ints}
 use Rattle.av1_dct.specs.Arithmetic.{FitsBits}

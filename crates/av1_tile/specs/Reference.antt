@@ -1,7 +1,8 @@
 -- The slow definition of a plan's samples: its steps in coding order, over a canvas that is empty at first.
 -- AV1 specification: decode block syntax, compute prediction syntax (which calls the prediction processes),
 -- reconstruction process.
-use Rattle.std.specs.Prelude.{ℕ, ◌+◌, ◌-◌, ◌/◌, ◌==◌, List, replicate, slice_set, if◌then◌else◌, ℤ, pos, ◌+ℤ◌, Option, Some}
+use Rattle.std.specs.Prelude.{ℕ, ◌+◌, ◌-◌, ◌/◌, ◌==◌, List, replicate, slice_set, if◌then◌else◌, ℤ, pos, ◌+ℤ◌}
+use Rattle.std.specs.Prelude.{Option, Some}
 use Rattle.std.specs.Prelude.{None, option_map, unsigned_abs, Bool, true, false, nat_lt}
 use Rattle.std.specs.List.{fold}
 use Rattle.av1_blocks.specs.declared.predict.PredictionMode.{PredictionMode}

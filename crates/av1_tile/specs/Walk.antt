@@ -308,7 +308,8 @@ abbrev pub KindServes : Header → LeafKind → Type 0
 KindServes h (Intra mode step chroma) = ⊥
 KindServes h (Single mode reference mv) = (is_intra mode ≡ false) × ReferenceFits h reference
 KindServes h (Compound mode references mvs) =
-    (is_intra mode ≡ false) × (ReferenceFits h (reference_of references 0) × ReferenceFits h (reference_of references 1))
+    (is_intra mode ≡ false) ×
+    (ReferenceFits h (reference_of references 0) × ReferenceFits h (reference_of references 1))
 
 -- it predicts a rectangle of plane p with sides up to 64 samples of luma
 pub record KindFits (h : Header) (p : ℕ) (a : VisibleArea) (kind : LeafKind) : Type 0 where
@@ -383,7 +384,8 @@ pub record Begins (h : Header) (component : Component) (leaf : LeafValue) : Type
 abbrev pub NearServes : Header → Nearby → Type 0
 NearServes h near = IfSome near.parts (PartsServe h)
 
--- each of a leaf's blocks can be reconstructed in its plane, whatever the leaves before it say, and it serves later ones
+-- each of a leaf's blocks can be reconstructed in its plane, whatever the leaves before it say, and it serves later
+-- ones
 pub record LeafFits {T : Type 0} (h : Header) (planes : Planes T) (leaf : LeafValue) : Type 0 where
   pub begins_y : Begins h Y leaf
   pub begins_u : carries_chroma h leaf.x leaf.y leaf.size ≡ true → Begins h U leaf

@@ -2,11 +2,16 @@
 
 ghost use Rattle.av1_tile.specs.Lookups.{OutputIsThere, StepsAreAnswered, StepsFindSamples};
 ghost use Rattle.av1_tile.specs.Residues.{SamplesAreSums};
-ghost use Rattle.av1_tile.specs.Versions.{VersionsShowTheSame};
+ghost use Rattle.av1_tile.specs.Versions.{EarlierShareNone, VersionsShowTheSame};
 
 /// A law: the planes of a plan are the same in each version of the plan format.
 pub fn versions_show_the_same()
     ensures { VersionsShowTheSame }
+{}
+
+/// A law: in the first two versions no leaves share a block of chroma that is predicted from references.
+pub fn earlier_versions_share_no_chroma()
+    ensures { EarlierShareNone }
 {}
 
 /// A law: what the slow walk of a valid plan looks up has been written, at each of its steps and at its end, so that no

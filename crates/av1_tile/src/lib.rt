@@ -42,7 +42,10 @@ mod tile;
 mod walk;
 
 pub use extent::PlaneExtent;
-pub use laws::{look_ups_find_samples, samples_are_sums, versions_show_the_same};
+pub use laws::{
+    earlier_versions_share_no_chroma, look_ups_find_samples, samples_are_sums,
+    versions_show_the_same,
+};
 pub use memory::WalkMemory;
 pub use plane_block::{LumaBlock, Nearby, Parts, PlaneBlock, Prediction};
 pub use planes::{Planes, visible_row};

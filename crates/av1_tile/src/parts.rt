@@ -23,8 +23,8 @@ struct PartRow {
     right: LeafKind,
 }
 
-/// Predicts a rectangle of plane `p` as a leaf from references says. The frame settings hold the references of a plan in
-/// which that can be done.
+/// Predicts a rectangle of plane `p` as a leaf from references says. The frame settings hold the references of a plan
+/// in which that can be done.
 pub fn predict_kind<T: Pixel>(
     plane: &mut Plane<T>,
     compound: &mut InterCompoundBuffers,

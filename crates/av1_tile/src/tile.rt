@@ -32,7 +32,8 @@ pub fn reconstruct_leaves<T: Pixel>(
     requires references { (value : PlanValue) × ServesPlan T.num (with_header header.now value) fi.now }
     ensures walked { (value : PlanValue) → ServesPlan T.num (with_header header.now value) fi.now
         → planes.new ≡
-        fold (fast_step T.num T.pixel (with_header header.now value)) planes.old (steps_by header.now (at_start (cell_at cells.old)) (leaves_value leaves.now)) }
+        fold (fast_step T.num T.pixel (with_header header.now value)) planes.old
+        (steps_by header.now (at_start (cell_at cells.old)) (leaves_value leaves.now)) }
     ensures counted { buffers.new.edges.prepared ≡
         fold edges_after buffers.old.edges.prepared (steps_by header.now (at_start (cell_at cells.old)) (leaves_value leaves.now)) }
     ensures kept { KeepsPlanes T.num header.now planes.old planes.new }

@@ -8,12 +8,14 @@ use Rattle.av1_references.proofs.predict.predict_compound.Goals as goal
 pub predict_inter_compound-requires-clause-first :
     goal.predict_inter_compound-requires-clause-first
 predict_inter_compound-requires-clause-first g c =
-    served_shorter g.T.Pixel.num c.args.fi.now (reference_in c.args.references 0) c.args.p c.args.area.width c.args.area.height _ _ (omega arith) (omega arith) c.requires.first
+    served_shorter g.T.Pixel.num c.args.fi.now (reference_in c.args.references 0) c.args.p c.args.area.width c.args.area.height _ _ (omega arith)
+    (omega arith) c.requires.first
 
 pub predict_inter_compound-requires-clause-second :
     goal.predict_inter_compound-requires-clause-second
 predict_inter_compound-requires-clause-second g c =
-    served_shorter g.T.Pixel.num c.args.fi.now (reference_in c.args.references 1) c.args.p c.args.area.width c.args.area.height _ _ (omega arith) (omega arith) c.requires.second
+    served_shorter g.T.Pixel.num c.args.fi.now (reference_in c.args.references 1) c.args.p c.args.area.width c.args.area.height _ _ (omega arith)
+    (omega arith) c.requires.second
 
 pub returns : goal.returns
 returns g c = λ value holds has_first has_second.

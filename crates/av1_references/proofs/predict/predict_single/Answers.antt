@@ -7,7 +7,8 @@ use Rattle.av1_references.proofs.predict.predict_single.Goals as goal
 pub predict_inter_single-requires-clause-reference :
     goal.predict_inter_single-requires-clause-reference
 predict_inter_single-requires-clause-reference g c =
-    served_shorter g.T.Pixel.num c.args.fi.now c.args.reference c.args.p c.args.area.width c.args.area.height _ _ (omega arith) (omega arith) c.requires.reference
+    served_shorter g.T.Pixel.num c.args.fi.now c.args.reference c.args.p c.args.area.width c.args.area.height _ _ (omega arith)
+    (omega arith) c.requires.reference
 
 pub returns : goal.returns
 returns g c = λ value holds has.

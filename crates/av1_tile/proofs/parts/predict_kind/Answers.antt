@@ -9,11 +9,11 @@ use Rattle.av1_frame.specs.Planes.{painted_plane}
 use Rattle.av1_inter.specs.Reference.{reference_of}
 use Rattle.av1_plan.specs.declared.header.Header.{Header}
 use Rattle.av1_plan.specs.declared.leaf.LeafKind.{LeafKind}
-use Rattle.av1_plan.specs.declared.leaf.LeafKind.TheVariants.{Intra, Single, Compound}
+use Rattle.av1_plan.specs.declared.leaf.LeafKind.TheVariants.{Single, Compound}
 use Rattle.av1_references.specs.References.{visible_in}
 use Rattle.av1_references.proofs.Served.{served}
 use Rattle.av1_tile.specs.Reference.{kind_motion}
-use Rattle.av1_tile.specs.Walk.{KindFits, KindServes}
+use Rattle.av1_tile.specs.Walk.{KindServes}
 use Rattle.av1_tile.proofs.parts.predict_kind.Goals as goal
 
 up_to_64 : (n s : ℕ) → n ≤ 64 / 2 ^ s → n ≤ 64

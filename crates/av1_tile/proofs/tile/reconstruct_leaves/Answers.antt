@@ -14,7 +14,8 @@ use Rattle.av1_tile.specs.Predicted.{Keeping, keeping_step}
 use Rattle.av1_tile.specs.Walk.{Known, at_start, cell_at, edges_after, fast_step, movers_of, steps_by, with_all_known, with_header}
 use Rattle.av1_tile.proofs.Lifts.{layout_kept}
 use Rattle.av1_tile.proofs.PlanFits.{whole_frame}
-use Rattle.av1_tile.proofs.PlanLeaves.{KnowSame, is_leaf_at, known_more, leaf_more, leaf_read, length_leaves, movers_serve, no_mover_serves, turn_begins, turn_fits}
+use Rattle.av1_tile.proofs.PlanLeaves.{KnowSame, is_leaf_at, known_more, leaf_more, leaf_read, length_leaves, movers_serve, no_mover_serves, turn_begins}
+use Rattle.av1_tile.proofs.PlanLeaves.{turn_fits}
 use Rattle.av1_tile.proofs.tile.reconstruct_leaves.Goals as goal
 
 -- what a read past the end would give

@@ -15,7 +15,8 @@ invariant-loop-index g l =
     let done = take l.index (leaves_value l.leaves) in
     record {
       walked : (value : PlanValue) → ServesPlan g.T.Pixel.num (with_header h value) l.fi →
-          l.planes ≡ fold (fast_step g.T.Pixel.num g.T.Pixel.pixel (with_header h value)) l.initial.planes (steps_by h (at_start (cell_at l.initial.cells)) done);
+          l.planes ≡
+          fold (fast_step g.T.Pixel.num g.T.Pixel.pixel (with_header h value)) l.initial.planes (steps_by h (at_start (cell_at l.initial.cells)) done);
       counted : l.buffers.edges.prepared ≡ fold edges_after l.initial.buffers.edges.prepared (steps_by h (at_start (cell_at l.initial.cells)) done);
       stores : StoresAll g.T.Pixel.num h l.planes;
       layout : SameLayout l.initial.planes l.planes;

@@ -12,8 +12,8 @@ use Rattle.av1_tile.specs.declared.plane_block.Nearby.{Nearby}
 use Rattle.av1_tile.specs.declared.plane_block.Parts.{Parts}
 use Rattle.av1_tile.specs.declared.plane_block.Prediction.{Prediction}
 use Rattle.av1_tile.specs.Canvas.{Component, Y, U, V}
-use Rattle.av1_tile.specs.PlaneBlocks.{component, block_told, number, prediction_in}
-use Rattle.av1_tile.specs.Walk.{Known, block_by, known_in, leaf_with, near_by, parameters_by, parts_by}
+use Rattle.av1_tile.specs.PlaneBlocks.{component, block_told, prediction_in}
+use Rattle.av1_tile.specs.Walk.{Known, known_in, leaf_with, near_by, parameters_by, parts_by}
 use Rattle.av1_tile.proofs.Lifts.{number_component}
 use Rattle.av1_tile.proofs.walk.near_leaf.Goals as goal
 
@@ -75,4 +75,5 @@ returns g c =
     let near : Nearby = record { filter = c.filter_parameters.result; parts = None } in
     same_told h near (near_by h known k l) k l
     (unshared near (near_by h known k l) k l.kind (sym c.is_from_references.ensures ∙ c.if-is_from_references.false)
-    (filter_there h known c.args.p l c.plane_area-area.result c.filter_parameters.result c.requires.plane c.plane_area-area.ensures c.filter_parameters.ensures))
+    (filter_there h known c.args.p l c.plane_area-area.result c.filter_parameters.result c.requires.plane c.plane_area-area.ensures
+    c.filter_parameters.ensures))

@@ -41,8 +41,13 @@ predict_kind-requires-clause-references g c =
 pub predict_kind-requires-in-Compound-clause-references : goal.predict_kind-requires-in-Compound-clause-references
 predict_kind-requires-in-Compound-clause-references g c =
     let block = c.args.block.now in
-    let own = c.requires.references in
-    (own.0, (own.1.0, as_compound own.0.header block.plane block.area block.prediction own.1.1 _ (ap visible_in c.whole_area-area.ensures) _ _ _ c.in-Compound.is))
+    let own = c.requires.references in (
+      own.0,
+      (
+        own.1.0,
+        as_compound own.0.header block.plane block.area block.prediction own.1.1 _ (ap visible_in c.whole_area-area.ensures) _ _ _ c.in-Compound.is,
+      ),
+    )
 
 pub predict_parts-requires-clause-references : goal.predict_parts-requires-clause-references
 predict_parts-requires-clause-references g c =
