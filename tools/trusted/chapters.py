@@ -94,10 +94,11 @@ CHAPTERS = [
      The slow definition. A canvas is empty at first; the steps of the leaves, in coding order, predict the
      samples of a rectangle or add a residue to them (decode block, residual and transform block syntax;
      reconstruction process). An edge has just the samples that lie in the frame and were written before; that
-     is what haveAboveRt and haveBelowLft of the specification say, here without any table. `planes_of` is what
-     a plan comes to, as bytes.""",
-     "av1_avail/Order av1_order/Neighbours av1_tile/Canvas av1_tile/Edge av1_tile/PlaneBlocks av1_tile/Steps "
-     "av1_tile/Reference av1_tile/Output"),
+     is what haveAboveRt and haveBelowLft of the specification say, here without any table. Chroma that small
+     leaves from references share is predicted in parts, each as the leaf over its luma says (compute prediction
+     syntax). `planes_of` is what a plan comes to, as bytes.""",
+     "av1_avail/Order av1_plan/Tree av1_plan/CodingOrder av1_order/Plans av1_order/Neighbours av1_tile/Canvas "
+     "av1_tile/Edge av1_tile/Shared av1_tile/PlaneBlocks av1_tile/Steps av1_tile/Reference av1_tile/Output"),
     ("Outcomes and the theorem", """
      What bytes come to, and what a call may say of it. AV1 has no such process: here stand the sources and
      sinks, faults and refusals. `Performs` is the record of clauses of every call that reads bytes and writes

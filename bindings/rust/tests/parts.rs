@@ -91,7 +91,10 @@ fn a_frame_is_shown_again() {
     assert_eq!(written, Ok(planes.len()));
     assert_eq!(room[..planes.len()], planes);
     let fault = Error::EmptySlot { part: 1 };
-    assert_eq!(reconstruct_sequence(&hidden(&plan, 1), &mut room), Err(fault));
+    assert_eq!(
+        reconstruct_sequence(&hidden(&plan, 1), &mut room),
+        Err(fault)
+    );
     assert_eq!(fault.to_string(), "part 1: empty slot");
 }
 

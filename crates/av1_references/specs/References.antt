@@ -9,6 +9,7 @@ use Rattle.av1_blocks.specs.Blocks.{block_width, block_height}
 use Rattle.av1_blocks.specs.References.{reference_number}
 use Rattle.av1_frame.specs.declared.frame_invariants.FrameInvariants.{FrameInvariants}
 use Rattle.av1_frame.specs.declared.plane.Plane.{Plane}
+use Rattle.av1_frame.specs.declared.plane_region.StoredArea.{StoredArea}
 use Rattle.av1_frame.specs.Areas.{VisibleArea}
 use Rattle.av1_frame.specs.Frames.{slot_plane}
 use Rattle.av1_frame.specs.Planes.{sample_at}
@@ -51,6 +52,10 @@ leaf_area a = record { x = a.x; y = a.y; width = block_width a.size; height = bl
 -- the filter of a frame along a side of such a rectangle: in the third version AV1's, before it rav1e's
 abbrev pub plan_filter : Header → (side : ℕ) → FilterMode
 plan_filter h = mode_along (follows_av1 h) h.filter
+
+-- a rectangle of visible samples
+abbrev pub visible_in : StoredArea → VisibleArea
+visible_in a = record { x = a.x; y = a.y; width = a.width; height = a.height }
 
 -- the sample at row r and column c of an area of plane p that a vector predicts from a reference
 abbrev pub single_motion : PlanValue → (p : ℕ) → RefType → MotionVector → VisibleArea → (r c : ℕ) → ℕ

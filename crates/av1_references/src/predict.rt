@@ -1,37 +1,26 @@
-//! A leaf's whole area in a plane, predicted from one reference or from two.
+//! A rectangle of a plane, predicted from one reference or from two.
 //!
 //! AV1 specification: inter prediction process.
 
-ghost use Rattle.std.specs.Prelude.{◌≡◌, ◌≤◌, ◌<◌, true, false, pos};
-ghost use Rattle.av1_blocks.specs.Blocks.{block_width, block_height};
+ghost use Rattle.std.specs.Prelude.{◌≡◌, ◌^◌, ◌≤◌, ◌<◌, true, false, pos};
 ghost use Rattle.av1_blocks.specs.Modes.{is_intra};
-ghost use Rattle.av1_frame.specs.declared.plane_region.Area.TheVariants.{Rect};
 ghost use Rattle.av1_frame.specs.Planes.{InPlane, painted_plane};
 ghost use Rattle.av1_blocks.specs.Depths.{IsDepth};
 ghost use Rattle.av1_inter.specs.Reference.{IsServed, reference_of as reference_in};
 ghost use Rattle.av1_plan.specs.Plan.{PlanValue};
 ghost use Rattle.av1_plan.specs.Validity.{has_reference};
-ghost use Rattle.av1_references.specs.References.{compound_motion, ServesPlan, leaf_area, single_motion};
+ghost use Rattle.av1_references.specs.References.{compound_motion, ServesPlan, single_motion, visible_in};
 
 use av1_blocks::{MotionVector, PredictionMode, RefType};
-use av1_frame::{Area, FrameInvariants, Pixel, Plane, PlaneConfig, PlaneOffset, TileRect};
+use av1_frame::{
+    FrameInvariants, Pixel, Plane, PlaneConfig, PlaneOffset, StoredArea, TileRect, visible_area,
+};
 use av1_inter::{InterCompoundBuffers, predict_inter_compound, predict_inter_single};
-use av1_plan::PlaneArea;
 
-/// A leaf's rectangle, as an area of its plane.
-fn visible_area(area: PlaneArea) -> Area
-    ensures { result ≡ Rect (pos area.x) (pos area.y) (block_width area.size) (block_height area.size) }
-{
-    Area::Rect {
-        x: area.x as isize,
-        y: area.y as isize,
-        width: area.size.width(),
-        height: area.size.height(),
-    }
-}
-
-/// The place of a leaf's first sample in its plane.
-fn first_sample(area: PlaneArea) -> PlaneOffset
+/// The place of a rectangle's first sample in its plane.
+fn first_sample(area: StoredArea) -> PlaneOffset
+    requires x { area.x < 2 ^ 63 }
+    requires y { area.y < 2 ^ 63 }
     ensures x { result.x ≡ pos area.x }
     ensures y { result.y ≡ pos area.y }
 {
@@ -54,30 +43,30 @@ fn whole_tile(cfg: PlaneConfig) -> TileRect
     }
 }
 
-/// Predicts a leaf's area of plane `p` (0 for Y, 1 for U and 2 for V) from one reference of a plan, whichever plan the
-/// frame settings hold the references of.
+/// Predicts a rectangle of plane `p` (0 for Y, 1 for U and 2 for V), counted from the first visible sample, from one
+/// reference of a plan, whichever plan the frame settings hold the references of.
 pub fn predict_single<T: Pixel>(
     plane: &mut Plane<T>,
     fi: &FrameInvariants<T>,
     p: usize,
     mode: PredictionMode,
-    area: PlaneArea,
+    area: StoredArea,
     reference: RefType,
     mv: MotionVector,
 )
     requires plane { p < 3 }
     requires mode { is_intra mode ≡ false }
-    requires fits { InPlane (leaf_area area) plane.old }
-    requires wide { block_width area.size ≤ 64 }
-    requires high { block_height area.size ≤ 64 }
+    requires fits { InPlane (visible_in area) plane.old }
+    requires wide { area.width ≤ 64 }
+    requires high { area.height ≤ 64 }
     requires depths { IsDepth fi.now.bit_depth }
     requires depth { fi.now.bit_depth ≤ T.BITS }
-    requires reference { IsServed T.num fi.now reference p (block_width area.size) (block_height area.size) }
+    requires reference { IsServed T.num fi.now reference p area.width area.height }
     ensures { (value : PlanValue) → ServesPlan T.num value fi.now → has_reference value.header reference ≡ true
-        → plane.new ≡ painted_plane plane.old (leaf_area area) (λ r c _. T.pixel (single_motion value p reference mv (leaf_area area) r c)) }
+        → plane.new ≡ painted_plane plane.old (visible_in area) (λ r c _. T.pixel (single_motion value p reference mv (visible_in area) r c)) }
 {
     let tile = whole_tile(plane.config());
-    let mut region = plane.region_mut(visible_area(area));
+    let mut region = plane.region_mut(visible_area(area.x, area.y, area.width, area.height));
     predict_inter_single(
         mode,
         fi,
@@ -85,40 +74,39 @@ pub fn predict_single<T: Pixel>(
         p,
         first_sample(area),
         &mut region,
-        area.size.width(),
-        area.size.height(),
+        area.width,
+        area.height,
         reference,
         mv,
     );
 }
 
-/// Predicts a leaf's area of plane `p` from two references of a plan, each with its vector. `buffer` is room to work
-/// in.
+/// Predicts a rectangle of plane `p` from two references of a plan, each with its vector. `buffer` is room to work in.
 pub fn predict_compound<T: Pixel>(
     plane: &mut Plane<T>,
     fi: &FrameInvariants<T>,
     p: usize,
     mode: PredictionMode,
-    area: PlaneArea,
+    area: StoredArea,
     references: [RefType; 2],
     mvs: [MotionVector; 2],
     buffer: &mut InterCompoundBuffers,
 )
     requires plane { p < 3 }
     requires mode { is_intra mode ≡ false }
-    requires fits { InPlane (leaf_area area) plane.old }
-    requires wide { block_width area.size ≤ 64 }
-    requires high { block_height area.size ≤ 64 }
+    requires fits { InPlane (visible_in area) plane.old }
+    requires wide { area.width ≤ 64 }
+    requires high { area.height ≤ 64 }
     requires depths { IsDepth fi.now.bit_depth }
     requires depth { fi.now.bit_depth ≤ T.BITS }
-    requires first { IsServed T.num fi.now (reference_in references 0) p (block_width area.size) (block_height area.size) }
-    requires second { IsServed T.num fi.now (reference_in references 1) p (block_width area.size) (block_height area.size) }
+    requires first { IsServed T.num fi.now (reference_in references 0) p area.width area.height }
+    requires second { IsServed T.num fi.now (reference_in references 1) p area.width area.height }
     ensures { (value : PlanValue) → ServesPlan T.num value fi.now
         → has_reference value.header (reference_in references 0) ≡ true → has_reference value.header (reference_in references 1) ≡ true
-        → plane.new ≡ painted_plane plane.old (leaf_area area) (λ r c _. T.pixel (compound_motion value p references mvs (leaf_area area) r c)) }
+        → plane.new ≡ painted_plane plane.old (visible_in area) (λ r c _. T.pixel (compound_motion value p references mvs (visible_in area) r c)) }
 {
     let tile = whole_tile(plane.config());
-    let mut region = plane.region_mut(visible_area(area));
+    let mut region = plane.region_mut(visible_area(area.x, area.y, area.width, area.height));
     predict_inter_compound(
         mode,
         fi,
@@ -126,8 +114,8 @@ pub fn predict_compound<T: Pixel>(
         p,
         first_sample(area),
         &mut region,
-        area.size.width(),
-        area.size.height(),
+        area.width,
+        area.height,
         references,
         mvs,
         buffer,

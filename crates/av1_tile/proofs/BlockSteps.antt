@@ -173,6 +173,7 @@ no_edge (predictions.Intra mode step filter) e = absurd cc
 no_edge (predictions.FromLuma alpha) e = absurd cc
 no_edge (predictions.Single mode reference mv) e = refl
 no_edge (predictions.Compound mode references mvs) e = refl
+no_edge (predictions.Parts parts) e = refl
 
 -- a whole area is predicted without an edge
 pub whole_counted : (block : PlaneBlock) (count : ℕ) → count ≡ fold edges_in count (whole_steps block)

@@ -1,7 +1,7 @@
 -- When the turn of a transform block comes: what the canvas knows of its sides is what the availability calls answer; and the edge that is
 -- prepared by place.
 use Rattle.std.proofs.Common.{ℕ, zero, suc, ◌+◌, ◌-◌, ◌<◌, ◌≤◌, ◌≡◌, Bool, true, false, ◌&&◌, nat_lt, if◌then◌else◌, List, [], ◌++◌, refl, ap, arith, ◌∙◌, sym}
-use Rattle.std.proofs.Common.{Option, Some, None}
+use Rattle.std.proofs.Common.{Some, None}
 use Rattle.std.specs.Option.{is_some}
 use Rattle.std.specs.Prelude.{unsigned_abs}
 use Rattle.std.specs.List.{flat_map, range_with_len}
@@ -33,7 +33,7 @@ use Rattle.av1_plan.specs.Plan.{LeafValue}
 use Rattle.av1_plan.specs.declared.geometry.TransformBlock.{TransformBlock}
 use Rattle.av1_plan.specs.declared.header.Header.{Header}
 use Rattle.av1_plan.specs.declared.leaf.Triple.{Triple}
-use Rattle.av1_intra.specs.declared.neighbours.IntraEdgeFilterParameters.{IntraEdgeFilterParameters}
+use Rattle.av1_tile.specs.declared.plane_block.Nearby.{Nearby}
 use Rattle.av1_tile.specs.declared.extent.PlaneExtent.{PlaneExtent}
 use Rattle.av1_tile.specs.Canvas.{Component, Written}
 use Rattle.av1_tile.specs.Edge.{known, known_above, known_left}
@@ -45,20 +45,20 @@ use Rattle.av1_tile.proofs.UnitSteps.{number_units, pieces_kept, unit_of, units,
 
 -- ---- the steps before it
 
-module _ (h : Header) (filter : Option IntraEdgeFilterParameters) (k : Component) (leaf : LeafValue) (frame : IsWholeFrame h) (grid : IsOnGrid h leaf)
+module _ (h : Header) (near : Nearby) (k : Component) (leaf : LeafValue) (frame : IsWholeFrame h) (grid : IsOnGrid h leaf)
     (valid : IsValidLeaf h leaf) (intra : is_inter leaf.kind ≡ false) where
   -- Of leaves, of the leaf's steps in other planes, and of its blocks below number n: in plane k these are the steps before block n.
   pub units_before : (earlier : List LeafValue) (front other : List PlaneStep) (triples : List Triple) (n : ℕ) →
-      n ≤ block_count (block_told h filter k leaf).area
+      n ≤ block_count (block_told h near k leaf).area
       → units (xdec h (number k)) (ydec h (number k)) k front ≡ leaves_steps h (number k) earlier → units (xdec h (number k)) (ydec h (number k)) k other ≡ []
-      → units (xdec h (number k)) (ydec h (number k)) k ((front ++ other) ++ in_component k (joined n (steps_at h (block_told h filter k leaf) triples)))
+      → units (xdec h (number k)) (ydec h (number k)) k ((front ++ other) ++ in_component k (joined n (steps_at h (block_told h near k leaf) triples)))
       ≡ steps_before h (number k) earlier leaf n
   unfolding joined
   units_before earlier front other triples n le are none =
       let sx = xdec h (number k) in
       let sy = ydec h (number k) in
       let u = unit_of sx sy k in
-      let block = block_told h filter k leaf in
+      let block = block_told h near k leaf in
       let own = in_component k (flat_map (steps_at h block triples) (range_with_len 0 n)) in
       flat_map-append u (front ++ other) own
       ∙ ap (λ (l : List order.Step). l ++ flat_map u own) (flat_map-append u front other ∙ ap (λ (l : List order.Step). l ++ flat_map u other) are
@@ -66,7 +66,7 @@ module _ (h : Header) (filter : Option IntraEdgeFilterParameters) (k : Component
       ∙ ap (λ (l : List order.Step). leaves_steps h (number k) earlier ++ l)
       (units_joined sx sy k (steps_at h block triples) (range_with_len 0 n)
       ∙ pieces_kept (λ m. units sx sy k (in_component k (steps_at h block triples m))) (numbered_in h (number k) leaf frame grid valid) 0 n
-      (λ m lt. number_units h filter k leaf frame grid valid triples intra m (omega arith)))
+      (λ m lt. number_units h near k leaf frame grid valid triples intra m (omega arith)))
 
 -- ---- what the canvas knows
 
@@ -123,14 +123,14 @@ module _ (h : Header) (p : ℕ) (steps : List order.Step) (written : Written) (s
 -- ---- the edge
 
 -- The edge by place, of a region's samples, is the one that is prepared there; and what may be taken there is what is answered.
-pub place_prepared : {T : Type 0} (num : T → ℕ) (r : PlaneRegion T) (extent : PlaneExtent) (filter : Bool) (mode : PredictionMode) (param : IntraParam)
+pub place_prepared : {T : Type 0} (num : T → ℕ) (r : PlaneRegion T) (extent : PlaneExtent) (near : Bool) (mode : PredictionMode) (param : IntraParam)
     (bo : TileBlockOffset) (bx by : ℕ) (size : BlockSize) (po : PlaneOffset) (t : TxSize)
     → extent.width ≡ visible_columns r → extent.height ≡ visible_rows r
-    → edge_by_place extent (region_sample num r) filter
+    → edge_by_place extent (region_sample num r) near
     (record { x = unsigned_abs po.x; y = unsigned_abs po.y; width = tx_width t; height = tx_height t })
     (takes_above_right size bo.0.x bo.0.y t bx by r.plane_cfg.xdec r.plane_cfg.ydec (unsigned_abs po.x) extent.width)
     (takes_below_left size bo.0.x bo.0.y t bx by r.plane_cfg.xdec r.plane_cfg.ydec (unsigned_abs po.y) extent.height)
     (effective mode (unsigned_abs po.x) (unsigned_abs po.y)) (step_of param)
-    ≡ prepared_edge num r (position_of bo bx by size po t) extent.depth (Some mode) filter param
+    ≡ prepared_edge num r (position_of bo bx by size po t) extent.depth (Some mode) near param
 unfolding edge_of_parts
-place_prepared num r extent filter mode param bo bx by size po t columns rows = rw (columns, rows) refl
+place_prepared num r extent near mode param bo bx by size po t columns rows = rw (columns, rows) refl

@@ -24,7 +24,8 @@ use Rattle.av1_tile.specs.declared.block.BlockPlace.{BlockPlace}
 use Rattle.av1_tile.specs.declared.plane_block.PlaneBlock.{PlaneBlock}
 use Rattle.av1_tile.specs.declared.predicted.PredictedPlanes.{PredictedPlanes}
 use Rattle.av1_tile.specs.PlaneBlocks.{component, is_whole}
-use Rattle.av1_tile.specs.Predicted.{Keeping, copied, keeping_in, kept_in, rows_in, stored_in, visible_in, with_rows}
+use Rattle.av1_tile.specs.Predicted.{Keeping, copied, keeping_in, kept_in, rows_in, stored_in, with_rows}
+use Rattle.av1_references.specs.References.{visible_in}
 use Rattle.av1_tile.specs.Reference.{added, block_residue}
 use Rattle.av1_tile.specs.Steps.{Step, predict, add, own_prediction, steps_at, whole_steps}
 use Rattle.av1_tile.specs.Walk.{area_at, fast_in}

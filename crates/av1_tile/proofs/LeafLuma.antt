@@ -3,51 +3,60 @@ use Rattle.std.proofs.Common.{ℕ, ◌<◌, ◌≡◌, List, true, ℤ, Option, 
 use Rattle.av1_blocks.specs.Transforms.{tx_width, tx_height}
 use Rattle.av1_blocks.specs.declared.transform.TxSize.{TxSize}
 use Rattle.av1_intra.specs.ChromaFromLuma.{ac_at, chroma_block, leaf_difference}
-use Rattle.av1_intra.specs.declared.neighbours.IntraEdgeFilterParameters.{IntraEdgeFilterParameters}
 use Rattle.av1_plan.specs.declared.header.Header.{Header}
 use Rattle.av1_plan.specs.declared.leaf.ChromaMode.TheVariants.{Plain, Cfl}
 use Rattle.av1_plan.specs.declared.leaf.LeafKind.{LeafKind}
 use Rattle.av1_plan.specs.declared.leaf.LeafKind.TheVariants.{Intra, Single, Compound}
 use Rattle.av1_plan.specs.Geometry.{plane_area, plane_tx_size, xdec, ydec}
 use Rattle.av1_plan.specs.Plan.{LeafValue}
+use Rattle.av1_tile.specs.declared.plane_block.Nearby.{Nearby}
+use Rattle.av1_tile.specs.declared.plane_block.Parts.{Parts}
 use Rattle.av1_tile.specs.declared.plane_block.PlaneBlock.{PlaneBlock}
+use Rattle.av1_tile.specs.declared.plane_block.Prediction.{Prediction}
+use Rattle.av1_tile.specs.declared.plane_block.Prediction.TheVariants as predictions
 use Rattle.av1_tile.specs.Canvas.{Y, U, V}
-use Rattle.av1_tile.specs.PlaneBlocks.{block_told, is_from_luma, prediction_in}
+use Rattle.av1_tile.specs.PlaneBlocks.{block_told, is_from_luma, prediction_in, shared}
 use Rattle.av1_tile.specs.Reference.{luma_for, luma_of}
 use Rattle.av1_tile.specs.Walk.{luma_block}
 use Rattle.av1_tile.proofs.Lifts.{SameFor, SameLuma}
 
+-- a block in parts isn't predicted from luma
+shared_same : (parts : Option Parts) (own : Prediction) (block : PlaneBlock) (f g : PlaneBlock → ℕ → ℕ → ℤ) → SameFor block own f g →
+    SameFor block (shared parts own) f g
+shared_same (Some parts) own block f g same = tt
+shared_same None own block f g same = same
+
 -- the luma of a leaf is predicted from the samples round it or from references
-same_y : (filter : Option IntraEdgeFilterParameters) (kind : LeafKind) (block : PlaneBlock) (f g : PlaneBlock → ℕ → ℕ → ℤ) →
-    SameFor block (prediction_in filter Y kind) f g
-same_y filter (Intra mode step chroma) block f g = tt
-same_y filter (Single mode reference mv) block f g = tt
-same_y filter (Compound mode references mvs) block f g = tt
+same_y : (near : Nearby) (kind : LeafKind) (block : PlaneBlock) (f g : PlaneBlock → ℕ → ℕ → ℤ) →
+    SameFor block (prediction_in near Y kind) f g
+same_y near (Intra mode step chroma) block f g = tt
+same_y near (Single mode reference mv) block f g = shared_same near.parts (predictions.Single mode reference mv) block f g tt
+same_y near (Compound mode references mvs) block f g = shared_same near.parts (predictions.Compound mode references mvs) block f g tt
 
 -- whatever its block is told, nothing hangs on it
-pub plain_in_y : (h : Header) (l : LeafValue) (filter : Option IntraEdgeFilterParameters) (luma : ℕ → ℕ → ℕ) (w : ℕ) (ac : List ℤ) →
-    SameLuma (block_told h filter Y l) (λ _. ac_at w ac) (luma_for h luma Y)
-plain_in_y h l filter luma w ac = same_y filter l.kind (block_told h filter Y l) (λ _. ac_at w ac) (luma_for h luma Y)
+pub plain_in_y : (h : Header) (l : LeafValue) (near : Nearby) (luma : ℕ → ℕ → ℕ) (w : ℕ) (ac : List ℤ) →
+    SameLuma (block_told h near Y l) (λ _. ac_at w ac) (luma_for h luma Y)
+plain_in_y h l near luma w ac = same_y near l.kind (block_told h near Y l) (λ _. ac_at w ac) (luma_for h luma Y)
 
 -- two words on luma that are the same where chroma is predicted from it
 abbrev SameWhere : LeafKind → PlaneBlock → (f g : PlaneBlock → ℕ → ℕ → ℤ) → Type 0
 SameWhere kind block f g = is_from_luma kind ≡ true → (r c : ℕ) → r < tx_height block.area.tx_size → c < tx_width block.area.tx_size → f block r c ≡ g block r c
 
-same_u : (filter : Option IntraEdgeFilterParameters) (kind : LeafKind) (block : PlaneBlock) (f g : PlaneBlock → ℕ → ℕ → ℤ) → SameWhere kind block f g →
-    SameFor block (prediction_in filter U kind) f g
-same_u filter (Intra mode step (Some (Cfl alpha_u alpha_v))) block f g same = same refl
-same_u filter (Intra mode step (Some (Plain chroma_mode chroma_step))) block f g same = tt
-same_u filter (Intra mode step None) block f g same = tt
-same_u filter (Single mode reference mv) block f g same = tt
-same_u filter (Compound mode references mvs) block f g same = tt
+same_u : (near : Nearby) (kind : LeafKind) (block : PlaneBlock) (f g : PlaneBlock → ℕ → ℕ → ℤ) → SameWhere kind block f g →
+    SameFor block (prediction_in near U kind) f g
+same_u near (Intra mode step (Some (Cfl alpha_u alpha_v))) block f g same = same refl
+same_u near (Intra mode step (Some (Plain chroma_mode chroma_step))) block f g same = tt
+same_u near (Intra mode step None) block f g same = tt
+same_u near (Single mode reference mv) block f g same = shared_same near.parts (predictions.Single mode reference mv) block f g tt
+same_u near (Compound mode references mvs) block f g same = shared_same near.parts (predictions.Compound mode references mvs) block f g tt
 
-same_v : (filter : Option IntraEdgeFilterParameters) (kind : LeafKind) (block : PlaneBlock) (f g : PlaneBlock → ℕ → ℕ → ℤ) → SameWhere kind block f g →
-    SameFor block (prediction_in filter V kind) f g
-same_v filter (Intra mode step (Some (Cfl alpha_u alpha_v))) block f g same = same refl
-same_v filter (Intra mode step (Some (Plain chroma_mode chroma_step))) block f g same = tt
-same_v filter (Intra mode step None) block f g same = tt
-same_v filter (Single mode reference mv) block f g same = tt
-same_v filter (Compound mode references mvs) block f g same = tt
+same_v : (near : Nearby) (kind : LeafKind) (block : PlaneBlock) (f g : PlaneBlock → ℕ → ℕ → ℤ) → SameWhere kind block f g →
+    SameFor block (prediction_in near V kind) f g
+same_v near (Intra mode step (Some (Cfl alpha_u alpha_v))) block f g same = same refl
+same_v near (Intra mode step (Some (Plain chroma_mode chroma_step))) block f g same = tt
+same_v near (Intra mode step None) block f g same = tt
+same_v near (Single mode reference mv) block f g same = shared_same near.parts (predictions.Single mode reference mv) block f g tt
+same_v near (Compound mode references mvs) block f g same = shared_same near.parts (predictions.Compound mode references mvs) block f g tt
 
 -- both planes of chroma are transformed alike
 chroma_size : (h : Header) (l : LeafValue) → (plane_area h l.x l.y l.size l.tx_size 2).tx_size ≡ (plane_area h l.x l.y l.size l.tx_size 1).tx_size
@@ -72,15 +81,15 @@ module _ (h : Header) (luma : ℕ → ℕ → ℕ) (l : LeafValue) (ac : List �
       ap (λ (w : ℕ). ac_at w ac r c) width ∙ all.value r c (omega (arith, hr, height)) (omega (arith, hc, width))
 
   -- what the blocks of chroma are told so is what the steps say
-  pub luma_in_u : (filter : Option IntraEdgeFilterParameters) →
-      SameLuma (block_told h filter U l) (λ _. ac_at (tx_width (block_told h filter U l).area.tx_size) ac) (luma_for h luma U)
-  luma_in_u filter =
-      let block = block_told h filter U l in
-      same_u filter l.kind block (λ _. ac_at (tx_width block.area.tx_size) ac) (luma_for h luma U) (λ from r c. held block.area.tx_size refl from r c)
+  pub luma_in_u : (near : Nearby) →
+      SameLuma (block_told h near U l) (λ _. ac_at (tx_width (block_told h near U l).area.tx_size) ac) (luma_for h luma U)
+  luma_in_u near =
+      let block = block_told h near U l in
+      same_u near l.kind block (λ _. ac_at (tx_width block.area.tx_size) ac) (luma_for h luma U) (λ from r c. held block.area.tx_size refl from r c)
 
-  pub luma_in_v : (filter : Option IntraEdgeFilterParameters) →
-      SameLuma (block_told h filter V l) (λ _. ac_at (tx_width (block_told h filter V l).area.tx_size) ac) (luma_for h luma V)
-  luma_in_v filter =
-      let block = block_told h filter V l in
-      same_v filter l.kind block (λ _. ac_at (tx_width block.area.tx_size) ac) (luma_for h luma V)
+  pub luma_in_v : (near : Nearby) →
+      SameLuma (block_told h near V l) (λ _. ac_at (tx_width (block_told h near V l).area.tx_size) ac) (luma_for h luma V)
+  luma_in_v near =
+      let block = block_told h near V l in
+      same_v near l.kind block (λ _. ac_at (tx_width block.area.tx_size) ac) (luma_for h luma V)
       (λ from r c. held block.area.tx_size (chroma_size h l) from r c)

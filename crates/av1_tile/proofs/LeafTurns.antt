@@ -10,7 +10,7 @@ use Rattle.av1_blocks.specs.Blocks.{block_width, block_height}
 use Rattle.av1_blocks.specs.Chroma.{plane_side}
 use Rattle.av1_blocks.specs.Transforms.{tx_width, tx_height}
 use Rattle.av1_frame.specs.Areas.{VisibleArea}
-use Rattle.av1_intra.specs.declared.neighbours.IntraEdgeFilterParameters.{IntraEdgeFilterParameters}
+use Rattle.av1_tile.specs.declared.plane_block.Nearby.{Nearby}
 use Rattle.av1_order.specs.Plans.{is_inter, steps_in}
 use Rattle.av1_order.specs.Steps as order
 use Rattle.av1_order.specs.Turns.{IsCodedPlan, leaves_steps, steps_before, is_written}
@@ -33,7 +33,7 @@ use Rattle.av1_tile.specs.declared.plane_block.PlaneBlock.{PlaneBlock}
 use Rattle.av1_tile.specs.declared.plane_block.Prediction.{Prediction}
 use Rattle.av1_tile.specs.declared.plane_block.Prediction.TheVariants as predictions
 use Rattle.av1_tile.specs.Canvas.{Component, Y, U, V, is_same}
-use Rattle.av1_tile.specs.PlaneBlocks.{number, block_told, is_from_luma, is_whole, plane_block, prediction_in, told_at, triples_in}
+use Rattle.av1_tile.specs.PlaneBlocks.{number, block_told, is_from_luma, is_whole, plane_block, prediction_in, near_at, triples_in}
 use Rattle.av1_tile.specs.Steps.{Step, predict, add, PlaneStep, joined, block_area, block_steps, steps_at, plane_steps, in_component, component_steps, steps_of}
 use Rattle.av1_tile.specs.Steps.{leaf_steps, steps_after, steps}
 use Rattle.av1_tile.proofs.BlockTurns.{block_known, units_before}
@@ -66,6 +66,7 @@ ready_always h k before (predict block n a) e = go block.prediction e
     go (predictions.FromLuma alpha) e = absurd cc
     go (predictions.Single mode reference mv) e = tt
     go (predictions.Compound mode references mvs) e = tt
+    go (predictions.Parts parts) e = tt
 
 each_always : (h : Header) (k : Component) (before : List PlaneStep) (ss : List Step) → AllByRecursion (λ s. needs_nothing s ≡ true) ss →
     Each (StepReady h) before (in_component k ss)
@@ -74,19 +75,19 @@ each_always h k before (s ∷ ss) all = (ready_always h k before s all.0, each_a
 
 -- ---- a prediction from the samples round it
 
-from_edge : (h : Header) (k : Component) (before : List PlaneStep) (block : PlaneBlock) (n : ℕ) (a : VisibleArea) (filter : Option IntraEdgeFilterParameters)
+from_edge : (h : Header) (k : Component) (before : List PlaneStep) (block : PlaneBlock) (n : ℕ) (a : VisibleArea) (near : Nearby)
     (kind : LeafKind) → is_inter kind ≡ false
     → EdgeReady h k before block n a → (is_same Y k ≡ false → is_from_luma kind ≡ true → FromLumaReady h k before block n a) →
-    PredictionReady h k before block n a (prediction_in filter k kind)
-from_edge h Y before block n a filter (Intra mode step chroma) intra edge luma = edge
-from_edge h U before block n a filter (Intra mode step (Some (Plain uv_mode uv_step))) intra edge luma = edge
-from_edge h V before block n a filter (Intra mode step (Some (Plain uv_mode uv_step))) intra edge luma = edge
-from_edge h U before block n a filter (Intra mode step (Some (Cfl alpha_u alpha_v))) intra edge luma = luma refl refl
-from_edge h V before block n a filter (Intra mode step (Some (Cfl alpha_u alpha_v))) intra edge luma = luma refl refl
-from_edge h U before block n a filter (Intra mode step None) intra edge luma = edge
-from_edge h V before block n a filter (Intra mode step None) intra edge luma = edge
-from_edge h k before block n a filter (Single mode reference mv) intra edge luma = absurd cc
-from_edge h k before block n a filter (Compound mode references mvs) intra edge luma = absurd cc
+    PredictionReady h k before block n a (prediction_in near k kind)
+from_edge h Y before block n a near (Intra mode step chroma) intra edge luma = edge
+from_edge h U before block n a near (Intra mode step (Some (Plain uv_mode uv_step))) intra edge luma = edge
+from_edge h V before block n a near (Intra mode step (Some (Plain uv_mode uv_step))) intra edge luma = edge
+from_edge h U before block n a near (Intra mode step (Some (Cfl alpha_u alpha_v))) intra edge luma = luma refl refl
+from_edge h V before block n a near (Intra mode step (Some (Cfl alpha_u alpha_v))) intra edge luma = luma refl refl
+from_edge h U before block n a near (Intra mode step None) intra edge luma = edge
+from_edge h V before block n a near (Intra mode step None) intra edge luma = edge
+from_edge h k before block n a near (Single mode reference mv) intra edge luma = absurd cc
+from_edge h k before block n a near (Compound mode references mvs) intra edge luma = absurd cc
 
 -- chroma is of leaves that carry it
 carries_in : (k : Component) (carried : Bool) → is_same Y k ≡ false → covers k carried ≡ true → carried ≡ true
@@ -98,14 +99,14 @@ carries_in V carried chroma e = e
 
 module _ (h : Header) (earlier : List LeafValue) (leaf : LeafValue) (later : List LeafValue) (k : Component)
     (is : IsCodedPlan h (number k) (earlier ++ leaf ∷ later))
-    (covered_here : covers_plane h leaf.x leaf.y leaf.size (number k) ≡ true) (filter : Option IntraEdgeFilterParameters) (triples : List Triple)
+    (covered_here : covers_plane h leaf.x leaf.y leaf.size (number k) ≡ true) (near : Nearby) (triples : List Triple)
     (front other : List PlaneStep) (front_fits : AllByRecursion (StepFits h) front) (other_fits : AllByRecursion (StepFits h) other)
     (front_is : units (xdec h (number k)) (ydec h (number k)) k front ≡ leaves_steps h (number k) earlier)
     (other_is : units (xdec h (number k)) (ydec h (number k)) k other ≡ [])
     (read : IsReadFrame h) (in_luma : IsCodedPlan h 0 (earlier ++ leaf ∷ later)) (quarter : IsQuarterInside h leaf)
     (luma_is : is_same Y k ≡ false → units (xdec h 0) (ydec h 0) Y (front ++ other) ≡ leaves_steps h 0 (earlier ++ leaf ∷ [])) where
   abbrev block : PlaneBlock
-  block = block_told h filter k leaf
+  block = block_told h near k leaf
 
   coded : IsCodedLeaf h leaf
   coded = record { frame = is.frame; grid = cut_grid h (number k) earlier leaf later is; faultless = cut_faultless h (number k) earlier leaf later is }
@@ -121,7 +122,7 @@ module _ (h : Header) (earlier : List LeafValue) (leaf : LeafValue) (later : Lis
   before_fits n =
       all_append (StepFits h) (front ++ other) (in_component k (joined n (steps_at h block triples)))
       (all_append (StepFits h) front other front_fits other_fits)
-      (in_component_fit h k (joined n (steps_at h block triples)) (joined_fit h filter k leaf coded triples n))
+      (in_component_fit h k (joined n (steps_at h block triples)) (joined_fit h near k leaf coded triples n))
 
   edge_ready : is_inter leaf.kind ≡ false → (n : ℕ) (b : TransformBlock) → transform_block h block.plane block.area n ≡ Some b →
       EdgeReady h k (before_block n) block n (block_area block b)
@@ -133,7 +134,7 @@ module _ (h : Header) (earlier : List LeafValue) (leaf : LeafValue) (later : Lis
       let total : (x y : ℕ) → is_some (written x y) ≡ is_written h p (steps_before h p earlier leaf n) x y = λ x y.
       same x y ∙ covered h k (before_block n) (before_fits n) x y
       ∙ ap (λ (ss : List order.Step). is_written h p ss x y)
-      (units_before h filter k leaf is.frame coded.grid valid intra earlier front other triples n (omega arith) front_is other_is) in
+      (units_before h near k leaf is.frame coded.grid valid intra earlier front other triples n (omega arith) front_is other_is) in
       block_known h p (steps_before h p earlier leaf n) written total leaf n b (sides_are_answered h p earlier leaf later is intra covered_here n b at)
       there.column there.row
 
@@ -174,8 +175,8 @@ module _ (h : Header) (earlier : List LeafValue) (leaf : LeafValue) (later : Lis
         subst (λ (t : Bool). Each (StepReady h) (before_block n)
         (in_component k (if t then add block triples n (block_area block b) ∷ []
         else predict block n (block_area block b) ∷ add block triples n (block_area block b) ∷ [])))
-        (sym (whole_is_inter filter k leaf.kind ∙ intra)) (
-          from_edge h k (before_block n) block n (block_area block b) filter leaf.kind intra (edge_ready intra n b at)
+        (sym (whole_is_inter near k leaf.kind ∙ intra)) (
+          from_edge h k (before_block n) block n (block_area block b) near leaf.kind intra (edge_ready intra n b at)
               (λ chroma from. from_luma_ready chroma from n (block_area block b) refl refl (edge_ready intra n b at)),
           (tt, tt),
         )
@@ -203,12 +204,12 @@ module _ (h : Header) (earlier : List LeafValue) (leaf : LeafValue) (later : Lis
     intra_ready : Each (StepReady h) (front ++ other) (in_component k (plane_steps h block triples))
     intra_ready =
         subst (λ (w : List Step). Each (StepReady h) (front ++ other) (in_component k (w ++ joined (block_count block.area) (steps_at h block triples))))
-        (sym (nothing_whole h filter k leaf is.frame coded.grid valid intra))
+        (sym (nothing_whole h near k leaf is.frame coded.grid valid intra))
         (joined_ready (block_count block.area))
 
   module _ (inter : is_inter leaf.kind ≡ true) where
     whole : is_whole block.prediction ≡ true
-    whole = whole_is_inter filter k leaf.kind ∙ inter
+    whole = whole_is_inter near k leaf.kind ∙ inter
 
     added_only : (n : ℕ) (o : Option TransformBlock) → AllByRecursion (λ s. needs_nothing s ≡ true) (block_steps block triples n o)
     unfolding needs_nothing
@@ -231,7 +232,7 @@ module _ (h : Header) (earlier : List LeafValue) (leaf : LeafValue) (later : Lis
     inter_ready =
         each_always h k (front ++ other) (plane_steps h block triples)
         (subst (λ (w : List Step). AllByRecursion (λ s. needs_nothing s ≡ true) (w ++ joined (block_count block.area) (steps_at h block triples)))
-        (sym (whole_first h filter k leaf is.frame coded.grid valid inter))
+        (sym (whole_first h near k leaf is.frame coded.grid valid inter))
         (whole, all_added (block_count block.area)))
 
   pub plane_ready : Each (StepReady h) (front ++ other) (in_component k (plane_steps h block triples))
@@ -295,7 +296,7 @@ module _ (h : Header) (leaves : List LeafValue) (coded : (k : Component) → IsC
           → (is_same Y k ≡ false → units (xdec h 0) (ydec h 0) Y (front ++ other) ≡ leaves_steps h 0 (earlier ++ leaf ∷ [])) →
           Each (StepReady h) (front ++ other) (c k)
       ready_in k other covered_here fits none luma_is =
-          plane_ready h earlier leaf later k (cut_coded earlier leaf later cut k) (covers_is h k leaf ∙ covered_here) (told_at h earlier k leaf)
+          plane_ready h earlier leaf later k (cut_coded earlier leaf later cut k) (covers_is h k leaf ∙ covered_here) (near_at h earlier k leaf)
           (triples_in k leaf) front other
           (steps_fit h [] earlier (front_leaves earlier (leaf ∷ later) cut)) fits (plan_units h k [] earlier (front_leaves earlier (leaf ∷ later) cut)) none
           read in_luma quarter luma_is
@@ -303,7 +304,7 @@ module _ (h : Header) (leaves : List LeafValue) (coded : (k : Component) → IsC
       -- the steps of luma once the leaf's own are done
       own_luma : units (xdec h 0) (ydec h 0) Y (c Y) ≡ steps_in h 0 leaf
       own_luma =
-          plane_units h (told_at h earlier Y leaf) Y leaf own.frame own.grid (valid_leaf h leaf own.faultless)
+          plane_units h (near_at h earlier Y leaf) Y leaf own.frame own.grid (valid_leaf h leaf own.faultless)
           (triples_in Y leaf) own.faultless (covers_is h Y leaf)
 
       luma_then : (other : List PlaneStep) → units (xdec h 0) (ydec h 0) Y other ≡ steps_in h 0 leaf →

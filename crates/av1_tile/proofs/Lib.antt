@@ -15,6 +15,7 @@ pub mod Simulation
 pub mod PredictionsShown
 pub mod BlockTriples
 pub mod EdgeBlocks
+pub mod Halves
 pub mod Predictions
 pub mod WithinDepth
 pub mod BlockSteps
@@ -31,6 +32,7 @@ pub mod Layouts
 pub mod PlansOver
 pub mod FilledPlanes
 pub mod Examples
+pub mod Sharing
 pub mod Versions
 pub mod Lookups
 pub mod Residues

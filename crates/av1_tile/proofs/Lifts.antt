@@ -84,6 +84,7 @@ SameFor block (predictions.FromLuma alpha) f g = (r c : ℕ) → r < tx_height b
 SameFor block (predictions.Intra mode step filter) f g = ⊤
 SameFor block (predictions.Single mode reference mv) f g = ⊤
 SameFor block (predictions.Compound mode references mvs) f g = ⊤
+SameFor block (predictions.Parts parts) f g = ⊤
 
 abbrev pub SameLuma : PlaneBlock → (f g : PlaneBlock → ℕ → ℕ → ℤ) → Type 0
 SameLuma block f g = SameFor block block.prediction f g
@@ -98,6 +99,7 @@ module _ {T : Type 0} (num : T → ℕ) (pixel : ℕ → T) (plan : PlanValue) (
   whole_same (predictions.FromLuma alpha) e a q r c = absurd cc
   whole_same (predictions.Single mode reference mv) e a q r c = refl
   whole_same (predictions.Compound mode references mvs) e a q r c = refl
+  whole_same (predictions.Parts parts) e a q r c = refl
 
   whole_one : is_whole block.prediction ≡ true → (q : Plane T) →
       fast_in num pixel plan p f q (predict block 0 (leaf_area block.area)) ≡ fast_in num pixel plan p g q (predict block 0 (leaf_area block.area))
@@ -119,6 +121,7 @@ module _ {T : Type 0} (num : T → ℕ) (pixel : ℕ → T) (plan : PlanValue) (
   by_luma (predictions.FromLuma alpha) s n b q r c hr hc = predicted_luma _ _ _ _ (f block) (g block) _ r c (s r c hr hc)
   by_luma (predictions.Single mode reference mv) s n b q r c hr hc = refl
   by_luma (predictions.Compound mode references mvs) s n b q r c hr hc = refl
+  by_luma (predictions.Parts parts) s n b q r c hr hc = refl
 
   one_same : (n : ℕ) (b : TransformBlock) (q : Plane T) →
       fast_in num pixel plan p f q (predict block n (block_area block b)) ≡ fast_in num pixel plan p g q (predict block n (block_area block b))

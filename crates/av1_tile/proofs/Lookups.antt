@@ -212,6 +212,7 @@ module _ (plan : PlanValue) (before : List PlaneStep) (k : Component) where
   )
   prediction_finds block n a (predictions.Single mode reference mv) ready = tt
   prediction_finds block n a (predictions.Compound mode references mvs) ready = tt
+  prediction_finds block n a (predictions.Parts parts) ready = tt
 
   step_finds : (step : Step) → StepReadyIn plan.header k before step → AddsTo before k step → StepFinds plan.header (walked plan before) k step
   step_finds (predict block n a) ready adds = prediction_finds block n a block.prediction ready
@@ -228,6 +229,7 @@ module _ (plan : PlanValue) (before : List PlaneStep) (k : Component) where
       by (predictions.FromLuma alpha) ready edge = ready.edge (walked plan before k) (walk_written plan before k)
       by (predictions.Single mode reference mv) ready edge = absurd cc
       by (predictions.Compound mode references mvs) ready edge = absurd cc
+      by (predictions.Parts parts) ready edge = absurd cc
 
 -- ---- plans
 

@@ -44,7 +44,7 @@ use Rattle.av1_tile.specs.Memory.{ShowsPlan}
 use Rattle.av1_tile.specs.State.{ShowsRows, edges_of, shown}
 use Rattle.av1_tile.specs.Steps.{steps}
 use Rattle.av1_tile.specs.Walk.{Told, Begins, IsPlaneOf, ShowsPart, Stores, StoresAll, HasRoom, HasRoomIn, SameLayout, edges_after, fast_step, plane_of}
-use Rattle.av1_tile.specs.Walk.{steps_by}
+use Rattle.av1_tile.specs.Walk.{at_start, steps_by}
 use Rattle.av1_tile.proofs.Agreement.{listed_same}
 use Rattle.av1_tile.proofs.LeafTurns.{plan_ready}
 use Rattle.av1_tile.proofs.Lifts.{number_component}
@@ -149,13 +149,13 @@ module _ (plan : PlanValue) (spelled : ∥ IsSpelled grammar plan ∥₁) (valid
   all_begin : All (λ (l : LeafValue). (k : Component) → covers k (carries_chroma plan.header l.x l.y l.size) ≡ true → Begins plan.header k l) plan.leaves
   all_begin i d within k e = begins plan.header k _ (sound_leaves plan spelled valid i d within)
 
-  same_steps : (s : IsSpelled grammar plan) (told : Told) → steps_by plan.header told plan.leaves ≡ steps plan.header plan.leaves
+  same_steps : (s : IsSpelled grammar plan) (told : Told) → steps_by plan.header (at_start told) plan.leaves ≡ steps plan.header plan.leaves
   same_steps s told = steps_told plan.header plan.leaves (λ k. coded plan valid s (number k)) all_begin told
 
   -- planes that have gone through its steps show the samples that it comes to
   pub plan_shows : {T : Type 0} (num : T → ℕ) (pixel : ℕ → T) (law : (v : ℕ) → num (pixel v) ≡ v) (back : (x : T) → pixel (num x) ≡ x) (p q : Planes T)
       (told : Told) → StoresAll num plan.header p → HasRoom plan.header p → StoresAll num plan.header q
-      → q ≡ fold (fast_step num pixel plan) p (steps_by plan.header told plan.leaves) → ShowsPlan num plan q
+      → q ≡ fold (fast_step num pixel plan) p (steps_by plan.header (at_start told) plan.leaves) → ShowsPlan num plan q
   plan_shows num pixel law back p q told stores room after walked k x y hx hy =
       let read = kept_frame plan spelled in
       let coded_x : x < plane_width plan.header (number k) = omega (arith, hx, (columns_shown plan.header (number k) read.width read.shown_width).1) in
@@ -171,7 +171,7 @@ module _ (plan : PlanValue) (spelled : ∥ IsSpelled grammar plan ∥₁) (valid
   -- what they have kept beside is what its Predict steps say
   pub plan_predicts : {T : Type 0} (num : T → ℕ) (pixel : ℕ → T) (law : (v : ℕ) → num (pixel v) ≡ v) (back : (x : T) → pixel (num x) ≡ x) (p q : Planes T)
       (kept last : PredictedPlanes T) (told : Told) → StoresAll num plan.header p → HasRoom plan.header p → AreBlank pixel plan.header kept
-      → (q, last) ≡ fold (keeping_step num pixel plan) (p, kept) (steps_by plan.header told plan.leaves) → ShowsPredictions num plan last
+      → (q, last) ≡ fold (keeping_step num pixel plan) (p, kept) (steps_by plan.header (at_start told) plan.leaves) → ShowsPredictions num plan last
   plan_predicts num pixel law back p q kept last told stores room empty walked k =
       ∥∥₁_elim spelled (hlevel (List-set ℕ_set))
       (λ s. predictions_shown num pixel law back plan p kept last (plan_ready plan.header plan.leaves (λ k. coded plan valid s (number k))
@@ -180,7 +180,8 @@ module _ (plan : PlanValue) (spelled : ∥ IsSpelled grammar plan ∥₁) (valid
       (ap (λ (r : Keeping (Planes _) _). r.1) (walked ∙ ap (fold (keeping_step num pixel plan) (p, kept)) (same_steps s told))) k)
 
   -- and the count of edges is that of its predictions
-  pub plan_counts : (count after : ℕ) (told : Told) → after ≡ fold edges_after count (steps_by plan.header told plan.leaves) → after ≡ edges_of count plan
+  pub plan_counts : (count after : ℕ) (told : Told) → after ≡ fold edges_after count (steps_by plan.header (at_start told) plan.leaves) →
+      after ≡ edges_of count plan
   plan_counts count after told counted = ∥∥₁_elim spelled (hlevel (ℕ_set)) (λ s. counted ∙ ap (fold edges_after count) (same_steps s told))
 
 -- a state whose planes show what a plan comes to

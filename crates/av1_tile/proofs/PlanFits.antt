@@ -2,7 +2,7 @@
 use Rattle.std.proofs.Common.{ℕ, zero, suc, ◌+◌, ◌-◌, ◌*◌, ◌/◌, ◌%◌, ◌^◌, ◌<◌, ◌≤◌, ◌≡◌, max, true, false, not, ◌||◌, nat_lt, Bool, get_or, length, List}
 use Rattle.std.proofs.Common.{Option, Some, None, All, ℤ, refl, ap, arith, ◌∙◌, sym}
 use Rattle.std.specs.Int.{next_multiple_of}
-use Rattle.std.specs.Prelude.{◌==◌, unsigned_abs}
+use Rattle.std.specs.Prelude.{◌==◌, unsigned_abs, IfSome}
 use Rattle.std.specs.Option.{is_some, unwrap_or}
 use Rattle.std.proofs.lemmas.Bool.{and_parts, eqb-true, false_from_ne_true, leb-true, ltb-true, true≢false}
 use Rattle.av1_blocks.specs.Blocks.{block_width, block_height}
@@ -19,11 +19,14 @@ use Rattle.av1_blocks.specs.declared.transform.TxType.{TxType}
 use Rattle.av1_blocks.specs.declared.transform.TxType.TheVariants.{WHT_WHT, DCT_DCT}
 use Rattle.av1_frame.specs.declared.plane.PlaneConfig.{PlaneConfig}
 use Rattle.av1_inter.specs.Reference.{reference_of}
-use Rattle.av1_intra.specs.declared.neighbours.IntraEdgeFilterParameters.{IntraEdgeFilterParameters}
-use Rattle.av1_order.specs.Plans.{IsWholeFrame}
+use Rattle.av1_tile.specs.declared.plane_block.Nearby.{Nearby}
+use Rattle.av1_tile.specs.declared.plane_block.Parts.{Parts}
+use Rattle.av1_tile.specs.declared.plane_block.Prediction.{Prediction}
+use Rattle.av1_tile.specs.declared.plane_block.Prediction.TheVariants as predictions
+use Rattle.av1_order.specs.Plans.{IsWholeFrame, is_inter}
 use Rattle.av1_order.proofs.Plans.{halved_x, halved_y}
 use Rattle.av1_order.proofs.Sizes.{block_some}
-use Rattle.av1_plan.specs.ReadPlans.{IsOtherFrame, IsReadCompound, IsReadFrame, IsReadLeaf, IsReadKind, IsReadSingle}
+use Rattle.av1_plan.specs.ReadPlans.{IsOtherFrame, IsReadFrame, IsReadLeaf, IsReadKind}
 use Rattle.av1_plan.specs.CodingOrder.{IsOnGrid}
 use Rattle.av1_plan.specs.Geometry.{xdec, ydec, plane_width, plane_height, plane_area, carries_chroma, plane_tx_size, is_inside}
 use Rattle.av1_plan.specs.Grammar.{plan as grammar}
@@ -41,8 +44,9 @@ use Rattle.av1_plan.specs.declared.leaf.LeafKind.TheVariants.{Intra, Single, Com
 use Rattle.av1_references.proofs.Served.{accepted}
 use Rattle.av1_tile.specs.declared.planes.Planes.{Planes}
 use Rattle.av1_tile.specs.Canvas.{Component, Y, U, V, is_same}
-use Rattle.av1_tile.specs.PlaneBlocks.{number, type_in, block_told, prediction_in, triples_in, is_from_luma}
-use Rattle.av1_tile.specs.Walk.{HasRoom, HasRoomIn, Begins, BlockFits, CompoundFits, FromLumaFits, LeafFits, PredictionFits, ReferenceFits, SingleFits}
+use Rattle.av1_tile.specs.PlaneBlocks.{number, type_in, block_told, prediction_in, shared, triples_in, is_from_luma}
+use Rattle.av1_tile.specs.Walk.{HasRoom, HasRoomIn, Begins, BlockFits, FromLumaFits, KindServes, LeafFits, NearServes, PartsServe, PredictionFits}
+use Rattle.av1_tile.specs.Walk.{ReferenceFits}
 use Rattle.av1_tile.proofs.CflSizes.{from_luma_fits, luma_fits}
 use Rattle.av1_tile.proofs.UnitSteps.{covers, block_x, block_y, block_columns, block_rows, block_tx_size}
 use Rattle.av1_tile.proofs.ValidTriples.{triples_fit, triples_rise}
@@ -171,45 +175,70 @@ record HasMotionSides (h : Header) (p : ℕ) (area : PlaneArea) : Type 0 where
 reference_fits : (h : Header) (reference : RefType) → IsOtherFrame reference → HasPlanes h reference → ReferenceFits h reference
 reference_fits h reference other has = record { other = other; has = accepted h reference has }
 
-single_fits : (h : Header) (p : ℕ) (area : PlaneArea) (mode : PredictionMode) (reference : RefType) (mv : MotionVector) → HasMotionSides h p area →
-    IsReadSingle mode reference mv → HasPlanes h reference → SingleFits h p area mode reference
-single_fits h p area mode reference mv sides read has = record {
-  motion = record { inter = read.inter; wide = sides.wide; high = sides.high };
-  served = reference_fits h reference read.reference_read has;
-}
-
-compound_fits : (h : Header) (p : ℕ) (area : PlaneArea) (mode : PredictionMode) (references : List RefType) (mvs : List MotionVector) →
-    HasMotionSides h p area → IsReadCompound mode references mvs → All (HasPlanes h) references → CompoundFits h p area mode references
-compound_fits h p area mode references mvs sides read has =
+-- a leaf from references can be predicted
+kind_serves : (h : Header) (carried : Bool) (kind : LeafKind) → IsReadKind carried kind → HasValidReferences h kind → is_inter kind ≡ true → KindServes h kind
+kind_serves h carried (Intra mode step chroma) read has inter = absurd cc
+kind_serves h carried (Single mode reference mv) read has inter = (read.inter, reference_fits h reference read.reference_read has)
+kind_serves h carried (Compound mode references mvs) read has inter =
     let first : 0 < length references = omega (arith, read.two_references) in
-    let second : 1 < length references = omega (arith, read.two_references) in
-    record {
-      motion = record { inter = compound_inter mode read.compound; wide = sides.wide; high = sides.high };
-      first = reference_fits h (reference_of references 0) (read.references_read 0 INTRA_FRAME first) (has 0 INTRA_FRAME first);
-      second = reference_fits h (reference_of references 1) (read.references_read 1 INTRA_FRAME second) (has 1 INTRA_FRAME second);
-    }
+    let second : 1 < length references = omega (arith, read.two_references) in (
+      compound_inter mode read.compound,
+      (
+        reference_fits h (reference_of references 0) (read.references_read 0 INTRA_FRAME first) (has 0 INTRA_FRAME first),
+        reference_fits h (reference_of references 1) (read.references_read 1 INTRA_FRAME second) (has 1 INTRA_FRAME second),
+      ),
+    )
+
+-- so can its block, in parts or not
+shared_fits : (h : Header) (p : ℕ) (area : PlaneArea) (parts : Option Parts) (own : Prediction) → IfSome parts (PartsServe h) → HasMotionSides h p area →
+    PredictionFits h p area own → PredictionFits h p area (shared parts own)
+shared_fits h p area (Some parts) own serve sides fits = record { wide = sides.wide; high = sides.high; serve = serve }
+shared_fits h p area None own serve sides fits = fits
+
+single_fits : (h : Header) (p : ℕ) (area : PlaneArea) (near : Nearby) (carried : Bool) (mode : PredictionMode) (reference : RefType) (mv : MotionVector) →
+    NearServes h near → HasMotionSides h p area → IsReadKind carried (Single mode reference mv) → HasValidReferences h (Single mode reference mv)
+    → PredictionFits h p area (shared near.parts (predictions.Single mode reference mv))
+single_fits h p area near carried mode reference mv serve sides read has =
+    shared_fits h p area near.parts (predictions.Single mode reference mv) serve sides
+    (record { wide = sides.wide; high = sides.high; serves = kind_serves h carried (Single mode reference mv) read has refl })
+
+compound_fits : (h : Header) (p : ℕ) (area : PlaneArea) (near : Nearby) (carried : Bool) (mode : PredictionMode) (references : List RefType)
+    (mvs : List MotionVector) → NearServes h near → HasMotionSides h p area → IsReadKind carried (Compound mode references mvs) →
+    HasValidReferences h (Compound mode references mvs)
+    → PredictionFits h p area (shared near.parts (predictions.Compound mode references mvs))
+compound_fits h p area near carried mode references mvs serve sides read has =
+    shared_fits h p area near.parts (predictions.Compound mode references mvs) serve sides
+    (record { wide = sides.wide; high = sides.high; serves = kind_serves h carried (Compound mode references mvs) read has refl })
 
 -- a leaf whose chroma may be predicted from its luma, and which may be predicted from references
-mode_fits : (h : Header) (filter : Option IntraEdgeFilterParameters) (k : Component) (area : PlaneArea) (carried : Bool) (size : BlockSize) (kind : LeafKind) →
-    IsReadKind carried kind → HasValidModes size kind → HasValidReferences h kind → HasMotionSides h (number k) area
+mode_fits : (h : Header) (near : Nearby) (k : Component) (area : PlaneArea) (carried : Bool) (size : BlockSize) (kind : LeafKind) →
+    NearServes h near → IsReadKind carried kind → HasValidModes size kind → HasValidReferences h kind → HasMotionSides h (number k) area
     → (is_same Y k ≡ false → is_from_luma kind ≡ true → (alpha : ℤ) → unsigned_abs alpha ≤ 16 → FromLumaFits area alpha) →
-    PredictionFits h (number k) area (prediction_in filter k kind)
-mode_fits h filter Y area carried size (Intra mode step chroma) read valid has sides luma =
+    PredictionFits h (number k) area (prediction_in near k kind)
+mode_fits h near Y area carried size (Intra mode step chroma) serve read valid has sides luma =
     record { intra = read.intra; plain = valid.plain; few_steps = valid.step_valid.small }
-mode_fits h filter U area carried size (Intra mode step (Some (Plain uv_mode uv_step))) read valid has sides luma =
+mode_fits h near U area carried size (Intra mode step (Some (Plain uv_mode uv_step))) serve read valid has sides luma =
     record { intra = read.chroma_read.intra; plain = read.chroma_read.plain; few_steps = valid.chroma_valid.small }
-mode_fits h filter V area carried size (Intra mode step (Some (Plain uv_mode uv_step))) read valid has sides luma =
+mode_fits h near V area carried size (Intra mode step (Some (Plain uv_mode uv_step))) serve read valid has sides luma =
     record { intra = read.chroma_read.intra; plain = read.chroma_read.plain; few_steps = valid.chroma_valid.small }
-mode_fits h filter U area carried size (Intra mode step (Some (Cfl alpha_u alpha_v))) read valid has sides luma = luma refl refl alpha_u valid.chroma_valid.u
-mode_fits h filter V area carried size (Intra mode step (Some (Cfl alpha_u alpha_v))) read valid has sides luma = luma refl refl alpha_v valid.chroma_valid.v
-mode_fits h filter U area carried size (Intra mode step None) read valid has sides luma = record { intra = refl; plain = refl; few_steps = omega arith }
-mode_fits h filter V area carried size (Intra mode step None) read valid has sides luma = record { intra = refl; plain = refl; few_steps = omega arith }
-mode_fits h filter Y area carried size (Single mode reference mv) read valid has sides luma = single_fits h 0 area mode reference mv sides read has
-mode_fits h filter Y area carried size (Compound mode references mvs) read valid has sides luma = compound_fits h 0 area mode references mvs sides read has
-mode_fits h filter U area carried size (Single mode reference mv) read valid has sides luma = single_fits h 1 area mode reference mv sides read has
-mode_fits h filter U area carried size (Compound mode references mvs) read valid has sides luma = compound_fits h 1 area mode references mvs sides read has
-mode_fits h filter V area carried size (Single mode reference mv) read valid has sides luma = single_fits h 2 area mode reference mv sides read has
-mode_fits h filter V area carried size (Compound mode references mvs) read valid has sides luma = compound_fits h 2 area mode references mvs sides read has
+mode_fits h near U area carried size (Intra mode step (Some (Cfl alpha_u alpha_v))) serve read valid has sides luma =
+    luma refl refl alpha_u valid.chroma_valid.u
+mode_fits h near V area carried size (Intra mode step (Some (Cfl alpha_u alpha_v))) serve read valid has sides luma =
+    luma refl refl alpha_v valid.chroma_valid.v
+mode_fits h near U area carried size (Intra mode step None) serve read valid has sides luma = record { intra = refl; plain = refl; few_steps = omega arith }
+mode_fits h near V area carried size (Intra mode step None) serve read valid has sides luma = record { intra = refl; plain = refl; few_steps = omega arith }
+mode_fits h near Y area carried size (Single mode reference mv) serve read valid has sides luma =
+    single_fits h 0 area near carried mode reference mv serve sides read has
+mode_fits h near Y area carried size (Compound mode references mvs) serve read valid has sides luma =
+    compound_fits h 0 area near carried mode references mvs serve sides read has
+mode_fits h near U area carried size (Single mode reference mv) serve read valid has sides luma =
+    single_fits h 1 area near carried mode reference mv serve sides read has
+mode_fits h near U area carried size (Compound mode references mvs) serve read valid has sides luma =
+    compound_fits h 1 area near carried mode references mvs serve sides read has
+mode_fits h near V area carried size (Single mode reference mv) serve read valid has sides luma =
+    single_fits h 2 area near carried mode reference mv serve sides read has
+mode_fits h near V area carried size (Compound mode references mvs) serve read valid has sides luma =
+    compound_fits h 2 area near carried mode references mvs serve sides read has
 
 -- ---- leaves
 
@@ -219,6 +248,10 @@ pub record IsSoundLeaf (h : Header) (leaf : LeafValue) : Type 0 where
   pub read : IsReadLeaf h leaf
   pub valid : IsValidLeaf h leaf
 
+-- nothing is said of its block
+nothing_near : Nearby
+nothing_near = record { filter = None; parts = None }
+
 pub begins : (h : Header) (k : Component) (leaf : LeafValue) → IsSoundLeaf h leaf → Begins h k leaf
 begins h k leaf is =
     let stands = stands_in h leaf is.frame is.read.grid in
@@ -227,8 +260,8 @@ begins h k leaf is =
     let x = begins_across h n (leaf.x / 4) is.frame stands.column in
     let y = begins_down h n (leaf.y / 4) is.frame stands.row in
     record {
-      column = omega (arith, x, block_x h None k leaf frame is.read.grid is.valid);
-      row = omega (arith, y, block_y h None k leaf frame is.read.grid is.valid);
+      column = omega (arith, x, block_x h nothing_near k leaf frame is.read.grid is.valid);
+      row = omega (arith, y, block_y h nothing_near k leaf frame is.read.grid is.valid);
     }
 
 weight_fits : (h : Header) (k : Component) (leaf : LeafValue) → IsSoundLeaf h leaf → is_same Y k ≡ false → is_from_luma leaf.kind ≡ true → (alpha : ℤ) →
@@ -251,35 +284,35 @@ motion_sides h k leaf is =
     let n = number k in
     record {
       wide = side_within (xdec h n) (block_width leaf.size) _ (halved_x h n) (omega (arith, is.read.grid.end_x))
-          (block_columns h None k leaf frame is.read.grid is.valid);
+          (block_columns h nothing_near k leaf frame is.read.grid is.valid);
       high = side_within (ydec h n) (block_height leaf.size) _ (low_ydec h n) (omega (arith, is.read.grid.end_y))
-          (block_rows h None k leaf frame is.read.grid is.valid);
+          (block_rows h nothing_near k leaf frame is.read.grid is.valid);
     }
 
 block_fits : (h : Header) (k : Component) (cfg : PlaneConfig) (leaf : LeafValue) → covers k (carries_chroma h leaf.x leaf.y leaf.size) ≡ true →
     IsSoundLeaf h leaf → HasRoomIn h (number k) cfg
-    → (filter : Option IntraEdgeFilterParameters) → BlockFits cfg h (block_told h filter k leaf) (triples_in k leaf)
-block_fits h k cfg leaf covered is roomy filter =
+    → (near : Nearby) → NearServes h near → BlockFits cfg h (block_told h near k leaf) (triples_in k leaf)
+block_fits h k cfg leaf covered is roomy near serve =
     let frame = whole_frame h is.frame in
     let stands = stands_in h leaf is.frame is.read.grid in
     let n = number k in
     let (some_columns, some_rows) = block_some leaf.size in
     let right = ends_across h n (leaf.x / 4) (block_width leaf.size / 4) is.frame some_columns stands.end_x in
     let low = ends_down h n (leaf.y / 4) (block_height leaf.size / 4) is.frame some_rows stands.end_y in
-    let tx_size = block_tx_size h filter k leaf frame is.read.grid is.valid in
+    let tx_size = block_tx_size h near k leaf frame is.read.grid is.valid in
     let (valid, lossless) =
     transform_valid (plane_tx_size h leaf.size leaf.tx_size n) (type_in k leaf) (type_fits h k leaf is.read covered (fitting_transforms h leaf is.valid)) in
     record {
       columns =
-          omega (arith, roomy.columns, right, block_x h filter k leaf frame is.read.grid is.valid, block_columns h filter k leaf frame is.read.grid is.valid);
-      rows = omega (arith, roomy.rows, low, block_y h filter k leaf frame is.read.grid is.valid, block_rows h filter k leaf frame is.read.grid is.valid);
+          omega (arith, roomy.columns, right, block_x h near k leaf frame is.read.grid is.valid, block_columns h near k leaf frame is.read.grid is.valid);
+      rows = omega (arith, roomy.rows, low, block_y h near k leaf frame is.read.grid is.valid, block_rows h near k leaf frame is.read.grid is.valid);
       prediction =
-          mode_fits h filter k (plane_area h leaf.x leaf.y leaf.size leaf.tx_size n)
-          (carries_chroma h leaf.x leaf.y leaf.size) leaf.size leaf.kind is.read.kind (valid_modes h leaf is.valid) (valid_references h leaf is.valid)
+          mode_fits h near k (plane_area h leaf.x leaf.y leaf.size leaf.tx_size n)
+          (carries_chroma h leaf.x leaf.y leaf.size) leaf.size leaf.kind serve is.read.kind (valid_modes h leaf is.valid) (valid_references h leaf is.valid)
           (motion_sides h k leaf is) (weight_fits h k leaf is);
       transform = rw tx_size valid;
       lossless = λ e. tx_size ∙ lossless e;
-      coefficients = triples_fit h filter leaf k (fitting_triples h leaf is.valid) covered;
+      coefficients = triples_fit h near leaf k (fitting_triples h leaf is.valid) covered;
       rising = triples_rise h leaf k is.valid covered;
     }
 
@@ -292,6 +325,7 @@ leaf_fits h planes leaf is roomy = record {
   y = block_fits h Y planes.y.plane_cfg leaf refl is roomy.y;
   u = λ carried. block_fits h U planes.u.plane_cfg leaf carried is roomy.u;
   v = λ carried. block_fits h V planes.v.plane_cfg leaf carried is roomy.v;
+  serves = kind_serves h (carries_chroma h leaf.x leaf.y leaf.size) leaf.kind is.read.kind (valid_references h leaf is.valid);
 }
 
 -- ---- plans

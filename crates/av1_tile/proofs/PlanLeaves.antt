@@ -1,7 +1,7 @@
 -- Leaves in memory, what is said of them, and what the record of cells tells of those before one.
 use Rattle.std.proofs.Common.{ℕ, ◌+◌, ◌-◌, ◌/◌, ◌<◌, ◌≡◌, take, All, Bool, true, false, List, [], ◌∷◌, ◌++◌, length, get_or, refl, ap, arith, ◌∙◌, sym, subst}
 use Rattle.std.proofs.Common.{if◌then◌else◌, slice_index_or, append_assoc, Option, Some, None}
-use Rattle.std.specs.Prelude.{nat_lt}
+use Rattle.std.specs.Prelude.{nat_lt, ◌||◌, IfSome}
 use Rattle.std.specs.Option.{option_map, is_some}
 use Rattle.std.specs.List.{flat_map, fold}
 use Rattle.std.proofs.lemmas.Bool.{ltb-true, true≢false}
@@ -9,29 +9,38 @@ use Rattle.std.proofs.lemmas.List.{append-nil, get_or-map, get_or_default, lengt
 use Rattle.std.proofs.lemmas.List.Sums.{fold_push}
 use Rattle.std.proofs.lemmas.Option.{same_Some}
 use Rattle.std.proofs.lemmas.Grind.{fold-append}
+use mathlib.Core.Path.{fun_ext}
+use Rattle.av1_blocks.specs.Chroma.{is_low, is_narrow}
 use Rattle.av1_frame.specs.declared.plane.PlaneConfig.{PlaneConfig}
 use Rattle.av1_frame.specs.declared.tile_state.CodedBlockInfo.{CodedBlockInfo}
 use Rattle.av1_intra.specs.declared.neighbours.IntraEdgeFilterParameters.{IntraEdgeFilterParameters}
 use Rattle.av1_order.specs.Neighbours.{area_of, last_cell, leaf_holds, noted, NeighboursAreNoted}
-use Rattle.av1_order.specs.Plans.{IsWholeFrame}
+use Rattle.av1_order.specs.Plans.{IsWholeFrame, is_inter}
 use Rattle.av1_order.specs.Turns.{IsCodedPlan}
 use Rattle.av1_order.proofs.Cuts.{at_cut}
 use Rattle.av1_order.proofs.Neighbours.{last_cells_lie_inside, leaves_find_neighbours}
 use Rattle.av1_plan.specs.declared.geometry.PlaneArea.{PlaneArea}
 use Rattle.av1_plan.specs.declared.header.Header.{Header}
 use Rattle.av1_plan.specs.declared.leaf.Leaf.{Leaf}
+use Rattle.av1_plan.specs.declared.leaf.LeafKind.{LeafKind}
 use Rattle.av1_plan.specs.declared.leaf.Triple.{Triple}
 use Rattle.av1_plan.specs.declared.leaves.Leaves.{Leaves}
 use Rattle.av1_plan.specs.Values.{leaf_list, leaves_value, triple_list}
 use Rattle.av1_plan.specs.Geometry.{carries_chroma, covers_plane, plane_area, plane_width, plane_height, xdec, ydec}
 use Rattle.av1_plan.specs.Plan.{LeafValue, leaf_triples, leaf_value, leaf_values}
+use Rattle.av1_tile.specs.declared.plane_block.Nearby.{Nearby}
+use Rattle.av1_tile.specs.declared.plane_block.Parts.{Parts}
 use Rattle.av1_tile.specs.declared.plane_block.PlaneBlock.{PlaneBlock}
 use Rattle.av1_tile.specs.declared.planes.Planes.{Planes}
 use Rattle.av1_tile.specs.Canvas.{Component, Y, U, V}
-use Rattle.av1_tile.specs.PlaneBlocks.{number, coded_info, block_told, filter_parameters, neighbour_above, neighbour_left, plane_block, told_of, triples_in}
+use Rattle.av1_tile.specs.PlaneBlocks.{number, coded_info, block_told, filter_parameters, near_at, neighbour_above, neighbour_left, plane_block, told_of}
+use Rattle.av1_tile.specs.PlaneBlocks.{triples_in}
+use Rattle.av1_tile.specs.Shared.{in_parts, moved, parts_at, parts_in}
 use Rattle.av1_tile.specs.Steps.{PlaneStep, component_steps, steps_of, leaf_steps, steps_after, steps}
-use Rattle.av1_tile.specs.Walk.{Told, told_by, parameters_by, filter_by, block_by, leaf_steps_by, steps_by, with_leaf, with_leaves, Begins, BlockFits, LeafFits}
-use Rattle.av1_tile.specs.Walk.{LumaFits, SameLayout, leaf_with}
+use Rattle.av1_tile.specs.Walk.{Known, KindServes, Movers, MoversServe, Told, at_start, told_by, parameters_by, parts_by, block_by, leaf_steps_by}
+use Rattle.av1_tile.specs.Walk.{movers_of, near_by}
+use Rattle.av1_tile.specs.Walk.{no_movers, steps_by, with_all_known, with_known, with_leaf, with_mover, Begins, BlockFits, LeafFits}
+use Rattle.av1_tile.specs.Walk.{LumaFits, PartsServe, SameLayout, leaf_with}
 use Rattle.av1_tile.proofs.UnitSteps.{covers, covers_is}
 
 -- ---- leaves in memory
@@ -56,6 +65,8 @@ length_leaves ts ls = length-map ls (leaf_value ts)
 -- leaf i and its triples, as they are said
 pub record IsLeafAt (leaves : Leaves) (i : ℕ) (l : Leaf) (y u v : List Triple) : Type 0 where
   pub inside : i < length (leaves_value leaves)
+  pub stored : i < length (leaf_list leaves)
+  pub own : l ≡ get_or (leaf_list leaves) i l
   pub is : leaf_value (triple_list leaves) l ≡ get_or (leaves_value leaves) i (leaf_value (triple_list leaves) l)
   pub y_is : y ≡ triples_in Y (leaf_value (triple_list leaves) l)
   pub u_is : u ≡ triples_in U (leaf_value (triple_list leaves) l)
@@ -70,10 +81,12 @@ is_leaf_at leaves i xs d y u v are inside y_is u_is v_is =
     let l = get_or xs i d in
     let short : i < length ls = subst (λ (ys : List Leaf). i < length ys) are inside in
     let within : i < length (leaves_value leaves) = subst (λ (n : ℕ). i < n) (sym (length_leaves ts ls)) short in
-    let is : leaf_value ts l ≡ get_or (leaves_value leaves) i (leaf_value ts l) =
-    leaf_at ts ls i l short (ap (λ (ys : List Leaf). get_or ys i d) are ∙ get_or_default ls i d l short) in
+    let own : l ≡ get_or ls i l = ap (λ (ys : List Leaf). get_or ys i d) are ∙ get_or_default ls i d l short in
+    let is : leaf_value ts l ≡ get_or (leaves_value leaves) i (leaf_value ts l) = leaf_at ts ls i l short own in
     record {
       inside = within;
+      stored = short;
+      own = own;
       is = is;
       y_is = y_is ∙ triples_at (leaves_value leaves) i (leaf_value ts l) Y within is;
       u_is = u_is ∙ triples_at (leaves_value leaves) i (leaf_value ts l) U within is;
@@ -177,47 +190,104 @@ module _ (h : Header) (p : ℕ) (earlier : List LeafValue) (leaf : LeafValue) (l
         ap (λ (o : Option CodedBlockInfo). filter_parameters h p o (if nat_lt 0 own.x then Some (told_by h told p (own.x - 1) own.y) else None)) above_told
         ∙ ap (λ (o : Option CodedBlockInfo). filter_parameters h p (neighbour_above h p earlier own) o) left_told
 
--- a leaf's steps by cells are its steps behind the leaves before it
-leaf_told : (h : Header) (earlier : List LeafValue) (leaf : LeafValue) (later : List LeafValue) (told : Told) →
+-- ---- leaves that share a block
+
+-- of each cell the leaf that was noted last in it is known, where that is predicted from references
+abbrev pub MoveAs : Movers → List LeafValue → Type 0
+MoveAs movers earlier = (cx cy : ℕ) → movers cx cy ≡ moved (noted earlier cx cy)
+
+-- one more leaf
+moves_more : (movers : Movers) (earlier : List LeafValue) (leaf : LeafValue) → MoveAs movers earlier → MoveAs (with_mover movers leaf) (earlier ++ leaf ∷ [])
+moves_more movers earlier leaf before cx cy =
+    go (leaf_holds leaf cx cy)
+    ∙ ap moved (sym (fold_push (λ (shown : Option LeafValue) (m : LeafValue). if leaf_holds m cx cy then Some m else shown) None earlier leaf))
+  where
+    go : (t : Bool) → (if t then moved (Some leaf) else movers cx cy) ≡ moved (if t then Some leaf else noted earlier cx cy)
+    go true = refl
+    go false = before cx cy
+
+-- what is known before a leaf is what the leaves before it say
+pub record KnowsOf (h : Header) (known : Known) (earlier : List LeafValue) : Type 0 where
+  pub told : TellsOf h known.told earlier
+  pub movers : MoveAs known.movers earlier
+
+knows_nothing : (h : Header) (told : Told) → KnowsOf h (at_start told) []
+knows_nothing h told = record { told = tells_nothing h told; movers = λ cx cy. refl }
+
+knows_more : (h : Header) (known : Known) (earlier : List LeafValue) (leaf : LeafValue) → KnowsOf h known earlier →
+    KnowsOf h (with_known known leaf) (earlier ++ leaf ∷ [])
+knows_more h known earlier leaf is = record {
+  told = tells_more h known.told earlier leaf is.told;
+  movers = moves_more known.movers earlier leaf is.movers;
+}
+
+-- so a leaf's block has the parts that they give it
+parts_known : (h : Header) (known : Known) (earlier : List LeafValue) (leaf : LeafValue) (p : ℕ) → KnowsOf h known earlier →
+    parts_by h known.movers p leaf ≡ parts_in h earlier p leaf
+parts_known h known earlier leaf p is =
+    ap (λ (at : ℕ → ℕ →
+    Option LeafKind). parts_at (is_narrow leaf.size (xdec h p)) (is_low leaf.size (ydec h p)) at (leaf.x / 4) (leaf.y / 4))
+    (fun_ext (λ cx. fun_ext (λ cy. moves_more known.movers earlier leaf is.movers cx cy)))
+
+-- two records that tell the same of each cell of the frame
+abbrev pub TellSame : Header → (f g : Told) → Type 0
+TellSame h f g = (cx cy : ℕ) → cx < h.width / 4 → cy < h.height / 4 → f cx cy ≡ g cx cy
+
+-- two that are known alike
+pub record KnowSame (h : Header) (f g : Known) : Type 0 where
+  pub told : TellSame h f.told g.told
+  pub movers : (cx cy : ℕ) → f.movers cx cy ≡ g.movers cx cy
+
+-- say the same of a leaf's parts
+parts_same : (h : Header) (f g : Known) (leaf : LeafValue) (p : ℕ) → KnowSame h f g → parts_by h f.movers p leaf ≡ parts_by h g.movers p leaf
+parts_same h f g leaf p same =
+    ap (λ (movers : Movers). parts_by h movers p leaf) (fun_ext (λ cx. fun_ext (λ cy. same.movers cx cy)))
+
+-- a block by what is said of it
+near_same : (h : Header) (k : Component) (leaf : LeafValue) (f g : Nearby) → f.filter ≡ g.filter → f.parts ≡ g.parts →
+    block_told h f k leaf ≡ block_told h g k leaf
+near_same h k leaf f g filter parts =
+    ap (λ (o : Option IntraEdgeFilterParameters). block_told h (record { filter = o; parts = f.parts }) k leaf) filter
+    ∙ ap (λ (o : Option Parts). block_told h (record { filter = g.filter; parts = o }) k leaf) parts
+
+-- a leaf's steps by what is known are its steps behind the leaves before it
+leaf_told : (h : Header) (earlier : List LeafValue) (leaf : LeafValue) (later : List LeafValue) (known : Known) →
     ((k : Component) → IsCodedPlan h (number k) (earlier ++ leaf ∷ later))
-    → ((k : Component) → covers k (carries_chroma h leaf.x leaf.y leaf.size) ≡ true → Begins h k leaf) → TellsOf h told earlier →
-    leaf_steps_by h told leaf ≡ leaf_steps h earlier leaf
-leaf_told h earlier leaf later told is begins tells =
-    same_steps h leaf leaf (λ k. block_by h told k leaf) (λ k. plane_block h earlier k leaf) refl
-    (λ k e. ap (λ (f : Option IntraEdgeFilterParameters). block_told h f k leaf)
-    (parameters_told h (number k) earlier leaf later (is k) (covers_is h k leaf ∙ e) told tells (begins k e).column (begins k e).row))
+    → ((k : Component) → covers k (carries_chroma h leaf.x leaf.y leaf.size) ≡ true → Begins h k leaf) → KnowsOf h known earlier →
+    leaf_steps_by h known leaf ≡ leaf_steps h earlier leaf
+leaf_told h earlier leaf later known is begins knows =
+    same_steps h leaf leaf (λ k. block_by h known k leaf) (λ k. plane_block h earlier k leaf) refl
+    (λ k e. near_same h k leaf (near_by h known k leaf) (near_at h earlier k leaf)
+    (parameters_told h (number k) earlier leaf later (is k) (covers_is h k leaf ∙ e) known.told knows.told (begins k e).column (begins k e).row)
+    (parts_known h known earlier leaf (number k) knows))
     (λ k. refl)
 
 -- so the steps of all leaves are the same, whatever was told at first
 module _ (h : Header) (leaves : List LeafValue) (is : (k : Component) → IsCodedPlan h (number k) leaves)
     (begins : All (λ (l : LeafValue). (k : Component) → covers k (carries_chroma h l.x l.y l.size) ≡ true → Begins h k l) leaves) where
-  rest_told : (earlier later : List LeafValue) (told : Told) → earlier ++ later ≡ leaves → TellsOf h told earlier →
-      steps_by h told later ≡ steps_after h earlier later
-  rest_told earlier [] told cut tells = refl
-  rest_told earlier (leaf ∷ later) told cut tells =
-      let own = leaf_told h earlier leaf later told (λ k. subst (IsCodedPlan h (number k)) (sym cut) (is k))
+  rest_told : (earlier later : List LeafValue) (known : Known) → earlier ++ later ≡ leaves → KnowsOf h known earlier →
+      steps_by h known later ≡ steps_after h earlier later
+  rest_told earlier [] known cut knows = refl
+  rest_told earlier (leaf ∷ later) known cut knows =
+      let own = leaf_told h earlier leaf later known (λ k. subst (IsCodedPlan h (number k)) (sym cut) (is k))
       (at_cut (λ l. (k : Component) → covers k (carries_chroma h l.x l.y l.size) ≡ true →
       Begins h k l) earlier leaf later
-      (subst (All (λ (l : LeafValue). (k : Component) → covers k (carries_chroma h l.x l.y l.size) ≡ true → Begins h k l)) (sym cut) begins)) tells in
-      ap (λ (ss : List PlaneStep). ss ++ steps_by h (with_leaf told leaf) later) own
+      (subst (All (λ (l : LeafValue). (k : Component) → covers k (carries_chroma h l.x l.y l.size) ≡ true → Begins h k l)) (sym cut) begins)) knows in
+      ap (λ (ss : List PlaneStep). ss ++ steps_by h (with_known known leaf) later) own
       ∙ ap (λ (ss : List PlaneStep). leaf_steps h earlier leaf ++ ss)
-      (rest_told (earlier ++ leaf ∷ []) later (with_leaf told leaf) (append_assoc earlier (leaf ∷ []) later ∙ cut) (tells_more h told earlier leaf tells))
+      (rest_told (earlier ++ leaf ∷ []) later (with_known known leaf) (append_assoc earlier (leaf ∷ []) later ∙ cut) (knows_more h known earlier leaf knows))
 
-  pub steps_told : (told : Told) → steps_by h told leaves ≡ steps h leaves
-  steps_told told = rest_told [] leaves told refl (tells_nothing h told)
+  pub steps_told : (told : Told) → steps_by h (at_start told) leaves ≡ steps h leaves
+  steps_told told = rest_told [] leaves (at_start told) refl (knows_nothing h told)
 
 -- ---- one more leaf of a loop
 
-steps_by_more : (h : Header) (told : Told) (xs : List LeafValue) (l : LeafValue) →
-    steps_by h told (xs ++ l ∷ []) ≡ steps_by h told xs ++ leaf_steps_by h (with_leaves told xs) l
-steps_by_more h told [] l = append-nil (leaf_steps_by h told l)
-steps_by_more h told (x ∷ xs) l =
-    ap (λ (ss : List PlaneStep). leaf_steps_by h told x ++ ss) (steps_by_more h (with_leaf told x) xs l)
-    ∙ sym (append_assoc (leaf_steps_by h told x) (steps_by h (with_leaf told x) xs) (leaf_steps_by h (with_leaves (with_leaf told x) xs) l))
-
--- two records that tell the same of each cell of the frame
-abbrev pub TellSame : Header → (f g : Told) → Type 0
-TellSame h f g = (cx cy : ℕ) → cx < h.width / 4 → cy < h.height / 4 → f cx cy ≡ g cx cy
+steps_by_more : (h : Header) (known : Known) (xs : List LeafValue) (l : LeafValue) →
+    steps_by h known (xs ++ l ∷ []) ≡ steps_by h known xs ++ leaf_steps_by h (with_all_known known xs) l
+steps_by_more h known [] l = append-nil (leaf_steps_by h known l)
+steps_by_more h known (x ∷ xs) l =
+    ap (λ (ss : List PlaneStep). leaf_steps_by h known x ++ ss) (steps_by_more h (with_known known x) xs l)
+    ∙ sym (append_assoc (leaf_steps_by h known x) (steps_by h (with_known known x) xs) (leaf_steps_by h (with_all_known (with_known known x) xs) l))
 
 told_same : (h : Header) (p x y : ℕ) (f g : Told) → IsWholeFrame h → TellSame h f g → x < plane_width h p → y < plane_height h p →
     told_by h f p x y ≡ told_by h g p x y
@@ -239,22 +309,23 @@ parameters_same h p a f g frame same hx hy =
     left false = refl
 
 -- a leaf's blocks don't look at its triples
-same_block : (h : Header) (filter : Option IntraEdgeFilterParameters) (k : Component) (ts : List Triple) (l : Leaf) (y u v : List Triple) →
-    block_told h filter k (leaf_with l y u v) ≡ block_told h filter k (leaf_value ts l)
-same_block h filter Y ts l y u v = refl
-same_block h filter U ts l y u v = refl
-same_block h filter V ts l y u v = refl
+same_block : (h : Header) (near : Nearby) (k : Component) (ts : List Triple) (l : Leaf) (y u v : List Triple) →
+    block_told h near k (leaf_with l y u v) ≡ block_told h near k (leaf_value ts l)
+same_block h said Y ts l y u v = refl
+same_block h said U ts l y u v = refl
+same_block h said V ts l y u v = refl
 
 -- the steps of leaf i as it was read are those of the leaf as it is said
-pub leaf_read : (leaves : Leaves) (h : Header) (i : ℕ) (l : Leaf) (y u v : List Triple) (f g : Told) → IsLeafAt leaves i l y u v → IsWholeFrame h
-    → ((k : Component) → covers k (carries_chroma h l.x l.y l.size) ≡ true → Begins h k (leaf_value (triple_list leaves) l)) → TellSame h f g
+pub leaf_read : (leaves : Leaves) (h : Header) (i : ℕ) (l : Leaf) (y u v : List Triple) (f g : Known) → IsLeafAt leaves i l y u v → IsWholeFrame h
+    → ((k : Component) → covers k (carries_chroma h l.x l.y l.size) ≡ true → Begins h k (leaf_value (triple_list leaves) l)) → KnowSame h f g
     → leaf_steps_by h f (leaf_with l y u v) ≡ leaf_steps_by h g (leaf_value (triple_list leaves) l)
 leaf_read leaves h i l y u v f g a frame begins same =
     let w = leaf_value (triple_list leaves) l in
     same_steps h (leaf_with l y u v) w (λ k. block_by h f k (leaf_with l y u v)) (λ k. block_by h g k w) refl
-    (λ k e. same_block h (filter_by h f k (leaf_with l y u v)) k (triple_list leaves) l y u v
-    ∙ ap (λ (z : Option IntraEdgeFilterParameters). block_told h z k w)
-    (parameters_same h (number k) (plane_area h l.x l.y l.size l.tx_size (number k)) f g frame same (begins k e).column (begins k e).row))
+    (λ k e. same_block h (near_by h f k (leaf_with l y u v)) k (triple_list leaves) l y u v
+    ∙ near_same h k w (near_by h f k w) (near_by h g k w)
+    (parameters_same h (number k) (plane_area h l.x l.y l.size l.tx_size (number k)) f.told g.told frame same.told (begins k e).column (begins k e).row)
+    (parts_same h f g w (number k) same))
     own
   where
     own : (k : Component) → triples_in k (leaf_with l y u v) ≡ triples_in k (leaf_value (triple_list leaves) l)
@@ -263,31 +334,103 @@ leaf_read leaves h i l y u v f g a frame begins same =
     own V = a.v_is
 
 -- what is reconstructed with one more leaf
-pub leaf_more : {S : Type 0} (step : S → PlaneStep → S) (leaves : Leaves) (h : Header) (i : ℕ) (w : LeafValue) (told : Told) (p q r : S) →
+pub leaf_more : {S : Type 0} (step : S → PlaneStep → S) (leaves : Leaves) (h : Header) (i : ℕ) (w : LeafValue) (known : Known) (p q r : S) →
     i < length (leaves_value leaves) → w ≡ get_or (leaves_value leaves) i w
-    → q ≡ fold step p (steps_by h told (take i (leaves_value leaves)))
-    → r ≡ fold step q (leaf_steps_by h (with_leaves told (take i (leaves_value leaves))) w)
-    → r ≡ fold step p (steps_by h told (take (i + 1) (leaves_value leaves)))
-leaf_more step leaves h i w told p q r inside is before own =
+    → q ≡ fold step p (steps_by h known (take i (leaves_value leaves)))
+    → r ≡ fold step q (leaf_steps_by h (with_all_known known (take i (leaves_value leaves))) w)
+    → r ≡ fold step p (steps_by h known (take (i + 1) (leaves_value leaves)))
+leaf_more step leaves h i w known p q r inside is before own =
     let xs = leaves_value leaves in
-    let next : steps_by h told (take (i + 1) xs) ≡ steps_by h told (take i xs) ++ leaf_steps_by h (with_leaves told (take i xs)) w =
-    ap (steps_by h told) (take_more xs i w inside ∙ ap (λ (m : LeafValue). take i xs ++ m ∷ []) (sym is)) ∙ steps_by_more h told (take i xs) w in
-    own ∙ ap (λ (z : _). fold step z (leaf_steps_by h (with_leaves told (take i xs)) w)) before
-    ∙ sym (fold-append step p (steps_by h told (take i xs)) (leaf_steps_by h (with_leaves told (take i xs)) w)) ∙ ap (fold step p) (sym next)
+    let next : steps_by h known (take (i + 1) xs) ≡ steps_by h known (take i xs) ++ leaf_steps_by h (with_all_known known (take i xs)) w =
+    ap (steps_by h known) (take_more xs i w inside ∙ ap (λ (m : LeafValue). take i xs ++ m ∷ []) (sym is)) ∙ steps_by_more h known (take i xs) w in
+    own ∙ ap (λ (z : _). fold step z (leaf_steps_by h (with_all_known known (take i xs)) w)) before
+    ∙ sym (fold-append step p (steps_by h known (take i xs)) (leaf_steps_by h (with_all_known known (take i xs)) w)) ∙ ap (fold step p) (sym next)
 
--- what is told once leaf i is noted
-pub told_more : (leaves : Leaves) (h : Header) (i : ℕ) (l : Leaf) (told : Told) (old new : Told) → i < length (leaves_value leaves) →
-    leaf_value (triple_list leaves) l ≡ get_or (leaves_value leaves) i (leaf_value (triple_list leaves) l)
-    → TellSame h old (with_leaves told (take i (leaves_value leaves))) → TellSame h new (with_leaf old (leaf_with l [] [] []))
-    → TellSame h new (with_leaves told (take (i + 1) (leaves_value leaves)))
-told_more leaves h i l told old new inside is before own cx cy hx hy =
+-- what is known once leaf i is
+all_known_more : (leaves : Leaves) (i : ℕ) (w : LeafValue) (known : Known) → i < length (leaves_value leaves) → w ≡ get_or (leaves_value leaves) i w →
+    with_all_known known (take (i + 1) (leaves_value leaves)) ≡ with_known (with_all_known known (take i (leaves_value leaves))) w
+all_known_more leaves i w known inside is =
     let xs = leaves_value leaves in
+    ap (λ (ms : List LeafValue). fold with_known known ms) (take_more xs i w inside ∙ ap (λ (m : LeafValue). take i xs ++ m ∷ []) (sym is))
+    ∙ fold_push with_known known (take i xs) w
+
+-- the leaves in memory up to one more
+pub movers_more : (ls : List Leaf) (i : ℕ) (l : Leaf) → i < length ls → l ≡ get_or ls i l → (cx cy : ℕ) →
+    movers_of (take (i + 1) ls) cx cy ≡ with_mover (movers_of (take i ls)) (leaf_with l [] [] []) cx cy
+movers_more ls i l inside is cx cy =
+    let note : Movers → Leaf → Movers = λ movers leaf. with_mover movers (leaf_with leaf [] [] []) in
+    ap (λ (movers : Movers). movers cx cy) (ap (λ (ms : List Leaf). fold note no_movers ms)
+    (take_more ls i l inside ∙ ap (λ (m : Leaf). take i ls ++ m ∷ []) (sym is))
+    ∙ fold_push note no_movers (take i ls) l)
+
+-- what is known once leaf i is noted
+pub known_more : (leaves : Leaves) (h : Header) (i : ℕ) (l : Leaf) (known : Known) (old new : Told) → i < length (leaves_value leaves) →
+    i < length (leaf_list leaves) → l ≡ get_or (leaf_list leaves) i l →
+    leaf_value (triple_list leaves) l ≡ get_or (leaves_value leaves) i (leaf_value (triple_list leaves) l)
+    → KnowSame h (record { told = old; movers = movers_of (take i (leaf_list leaves)) }) (with_all_known known (take i (leaves_value leaves)))
+    → TellSame h new (with_leaf old (leaf_with l [] [] []))
+    → KnowSame h (record { told = new; movers = movers_of (take (i + 1) (leaf_list leaves)) }) (with_all_known known (take (i + 1) (leaves_value leaves)))
+known_more leaves h i l known old new inside stored own is before noted =
     let w = leaf_value (triple_list leaves) l in
-    let next : with_leaves told (take (i + 1) xs) ≡ with_leaf (with_leaves told (take i xs)) w =
-    ap (λ (ms : List LeafValue). fold with_leaf told ms) (take_more xs i w inside ∙ ap (λ (m : LeafValue). take i xs ++ m ∷ []) (sym is))
-    ∙ fold_push with_leaf told (take i xs) w in
-    own cx cy hx hy ∙ ap (λ (z : CodedBlockInfo). if leaf_holds w cx cy then coded_info l.kind else z) (before cx cy hx hy)
-    ∙ sym (ap (λ (t : Told). t cx cy) next)
+    let was = with_all_known known (take i (leaves_value leaves)) in
+    let next = all_known_more leaves i w known inside is in
+    record {
+      told = λ cx cy hx hy.
+          noted cx cy hx hy ∙ ap (λ (z : CodedBlockInfo). if leaf_holds w cx cy then coded_info l.kind else z) (before.told cx cy hx hy)
+          ∙ sym (ap (λ (k : Known). k.told cx cy) next);
+      movers = λ cx cy.
+          movers_more (leaf_list leaves) i l stored own cx cy
+          ∙ ap (λ (z : Option LeafKind). if leaf_holds w cx cy then moved (Some w) else z) (before.movers cx cy)
+          ∙ sym (ap (λ (k : Known). k.movers cx cy) next);
+    }
+
+-- leaves that serve
+pub no_mover_serves : (h : Header) → MoversServe h no_movers
+no_mover_serves h cx cy kind e = absurd cc
+
+mover_serves : (h : Header) (movers : Movers) (leaf : LeafValue) → MoversServe h movers → (is_inter leaf.kind ≡ true → KindServes h leaf.kind) →
+    MoversServe h (with_mover movers leaf)
+mover_serves h movers leaf before own cx cy kind e = go (leaf_holds leaf cx cy) (is_inter leaf.kind) refl e
+  where
+    go : (t i : Bool) → is_inter leaf.kind ≡ i → (if t then (if i then Some leaf.kind else None) else movers cx cy) ≡ Some kind → KindServes h kind
+    go true true inter is = subst (KindServes h) (same_Some _ _ is) (own inter)
+    go true false inter is = absurd cc
+    go false i inter is = before cx cy kind is
+
+pub movers_serve : (h : Header) (ls : List Leaf) (i : ℕ) (l : Leaf) → i < length ls → l ≡ get_or ls i l → MoversServe h (movers_of (take i ls)) →
+    (is_inter l.kind ≡ true → KindServes h l.kind) → MoversServe h (movers_of (take (i + 1) ls))
+movers_serve h ls i l inside is before own cx cy kind e =
+    mover_serves h (movers_of (take i ls)) (leaf_with l [] [] []) before own cx cy kind (sym (movers_more ls i l inside is cx cy) ∙ e)
+
+-- the parts that these leaves and one more give its block do
+four_serve : (h : Header) (narrow low : Bool) (corner over side own : Option LeafKind) → ((k : LeafKind) → corner ≡ Some k → KindServes h k) →
+    ((k : LeafKind) → over ≡ Some k → KindServes h k) → ((k : LeafKind) → side ≡ Some k → KindServes h k) → ((k : LeafKind) → own ≡ Some k → KindServes h k)
+    → IfSome (in_parts narrow low corner over side own) (PartsServe h)
+four_serve h narrow low (Some i) (Some j) (Some k) (Some l) first second third last =
+    record { corner = first i refl; over = second j refl; side = third k refl; own = last l refl }
+four_serve h narrow low None j k l first second third last = tt
+four_serve h narrow low (Some i) None k l first second third last = tt
+four_serve h narrow low (Some i) (Some j) None l first second third last = tt
+four_serve h narrow low (Some i) (Some j) (Some k) None first second third last = tt
+
+shared_serve : (h : Header) (shared : Bool) (parts : Option Parts) → IfSome parts (PartsServe h) →
+    IfSome (if shared then parts else None) (PartsServe h)
+shared_serve h true parts serve = serve
+shared_serve h false parts serve = tt
+
+pub parts_serve : (h : Header) (movers : Movers) (p : ℕ) (leaf : LeafValue) → MoversServe h movers → (is_inter leaf.kind ≡ true → KindServes h leaf.kind) →
+    IfSome (parts_by h movers p leaf) (PartsServe h)
+parts_serve h movers p leaf before inter =
+    let narrow = is_narrow leaf.size (xdec h p) in
+    let low = is_low leaf.size (ydec h p) in
+    let at = with_mover movers leaf in
+    let cx = leaf.x / 4 in
+    let cy = leaf.y / 4 in
+    let left = if narrow then cx - 1 else cx in
+    let top = if low then cy - 1 else cy in
+    let serve = mover_serves h movers leaf before inter in
+    shared_serve h (narrow || low) (in_parts narrow low (at left top) (at cx top) (at left cy) (at cx cy))
+    (four_serve h narrow low (at left top) (at cx top) (at left cy) (at cx cy) (serve left top) (serve cx top) (serve left cy) (serve cx cy))
 
 -- ---- a leaf that fits
 
@@ -298,9 +441,10 @@ fits_kept h p q l same f = record {
   begins_u = f.begins_u;
   begins_v = f.begins_v;
   luma = λ carried from. subst (λ (c : PlaneConfig). LumaFits h c l) (sym same.y) (f.luma carried from);
-  y = λ filter. subst (λ (c : PlaneConfig). BlockFits c h (block_told h filter Y l) (triples_in Y l)) (sym same.y) (f.y filter);
-  u = λ carried filter. subst (λ (c : PlaneConfig). BlockFits c h (block_told h filter U l) (triples_in U l)) (sym same.u) (f.u carried filter);
-  v = λ carried filter. subst (λ (c : PlaneConfig). BlockFits c h (block_told h filter V l) (triples_in V l)) (sym same.v) (f.v carried filter);
+  y = λ near serve. subst (λ (c : PlaneConfig). BlockFits c h (block_told h near Y l) (triples_in Y l)) (sym same.y) (f.y near serve);
+  u = λ carried near serve. subst (λ (c : PlaneConfig). BlockFits c h (block_told h near U l) (triples_in U l)) (sym same.u) (f.u carried near serve);
+  v = λ carried near serve. subst (λ (c : PlaneConfig). BlockFits c h (block_told h near V l) (triples_in V l)) (sym same.v) (f.v carried near serve);
+  serves = f.serves;
 }
 
 -- with its triples in a list of three
@@ -325,6 +469,7 @@ fits_listed h p ts l f = record {
   y = f.y;
   u = f.u;
   v = f.v;
+  serves = f.serves;
 }
 
 -- leaf i fits as it was read

@@ -16,7 +16,7 @@ use Rattle.av1_tile.specs.Memory.{HasRoomFor, IsPlanOver, ShowsPlan, WalkRoom}
 use Rattle.av1_tile.specs.declared.predicted.PredictedPlanes.{PredictedPlanes}
 use Rattle.av1_tile.specs.Predicted.{AreBlank, ShowsPredictions, keeping_step}
 use Rattle.av1_tile.specs.State.{MadeFor, Picture, edges_of, with_settings}
-use Rattle.av1_tile.specs.Walk.{HasRoom, LeafFits, StoresAll, Told, edges_after, fast_step, steps_by, with_header}
+use Rattle.av1_tile.specs.Walk.{at_start, HasRoom, LeafFits, StoresAll, Told, edges_after, fast_step, steps_by, with_header}
 use Rattle.av1_tile.proofs.Layouts.{alike_same}
 use Rattle.av1_tile.proofs.Pictures.{plan_counts, plan_predicts, plan_shows}
 use Rattle.av1_tile.proofs.PlanFits.{plan_fits}
@@ -40,11 +40,11 @@ module _ {T : Type 0} (num : T → ℕ) (h : Header) (leaves : List LeafValue) (
   -- planes that have gone through the steps of its leaves show what it comes to
   pub over_shows : (pixel : ℕ → T) (law : (v : ℕ) → num (pixel v) ≡ v) (back : (x : T) → pixel (num x) ≡ x) (p q : Planes T) (told : Told) → StoresAll num h p →
       HasRoom h p → StoresAll num h q
-      → q ≡ fold (fast_step num pixel (with_header h plan)) p (steps_by h told leaves) → ShowsPlan num plan q
+      → q ≡ fold (fast_step num pixel (with_header h plan)) p (steps_by h (at_start told) leaves) → ShowsPlan num plan q
   over_shows pixel law back p q told stores room after walked =
-      let own : q ≡ fold (fast_step num pixel plan) p (steps_by plan.header told plan.leaves) =
-      subst (λ (ls : List LeafValue). q ≡ fold (fast_step num pixel plan) p (steps_by plan.header told ls)) (sym is.leaves)
-      (subst (λ (k : Header). q ≡ fold (fast_step num pixel (with_header k plan)) p (steps_by k told leaves)) (sym is.header) walked) in
+      let own : q ≡ fold (fast_step num pixel plan) p (steps_by plan.header (at_start told) plan.leaves) =
+      subst (λ (ls : List LeafValue). q ≡ fold (fast_step num pixel plan) p (steps_by plan.header (at_start told) ls)) (sym is.leaves)
+      (subst (λ (k : Header). q ≡ fold (fast_step num pixel (with_header k plan)) p (steps_by k (at_start told) leaves)) (sym is.header) walked) in
       plan_shows plan is.spelled is.valid num pixel law back p q told (subst (λ (k : Header). StoresAll num k p) (sym is.header) stores)
       (subst (λ (k : Header). HasRoom k p) (sym is.header) room)
       (subst (λ (k : Header). StoresAll num k q) (sym is.header) after) own
@@ -52,20 +52,21 @@ module _ {T : Type 0} (num : T → ℕ) (h : Header) (leaves : List LeafValue) (
   -- what they have kept beside is what is predicted of it
   pub over_predicts : (pixel : ℕ → T) (law : (v : ℕ) → num (pixel v) ≡ v) (back : (x : T) → pixel (num x) ≡ x) (p q : Planes T)
       (kept last : PredictedPlanes T) (told : Told) → StoresAll num h p → HasRoom h p → AreBlank pixel h kept
-      → (q, last) ≡ fold (keeping_step num pixel (with_header h plan)) (p, kept) (steps_by h told leaves) → ShowsPredictions num plan last
+      → (q, last) ≡ fold (keeping_step num pixel (with_header h plan)) (p, kept) (steps_by h (at_start told) leaves) → ShowsPredictions num plan last
   over_predicts pixel law back p q kept last told stores room empty walked =
-      let own : (q, last) ≡ fold (keeping_step num pixel plan) (p, kept) (steps_by plan.header told plan.leaves) =
-      subst (λ (ls : List LeafValue). (q, last) ≡ fold (keeping_step num pixel plan) (p, kept) (steps_by plan.header told ls)) (sym is.leaves)
-      (subst (λ (k : Header). (q, last) ≡ fold (keeping_step num pixel (with_header k plan)) (p, kept) (steps_by k told leaves)) (sym is.header) walked) in
+      let own : (q, last) ≡ fold (keeping_step num pixel plan) (p, kept) (steps_by plan.header (at_start told) plan.leaves) =
+      subst (λ (ls : List LeafValue). (q, last) ≡ fold (keeping_step num pixel plan) (p, kept) (steps_by plan.header (at_start told) ls)) (sym is.leaves)
+      (subst (λ (k : Header). (q, last) ≡ fold (keeping_step num pixel (with_header k plan)) (p, kept) (steps_by k (at_start told) leaves))
+      (sym is.header) walked) in
       plan_predicts plan is.spelled is.valid num pixel law back p q kept last told (subst (λ (k : Header). StoresAll num k p) (sym is.header) stores)
       (subst (λ (k : Header). HasRoom k p) (sym is.header) room) (subst (λ (k : Header). AreBlank pixel k kept) (sym is.header) empty) own
 
   -- and their edges are counted
-  pub over_counts : (count after : ℕ) (told : Told) → after ≡ fold edges_after count (steps_by h told leaves) → after ≡ edges_of count plan
+  pub over_counts : (count after : ℕ) (told : Told) → after ≡ fold edges_after count (steps_by h (at_start told) leaves) → after ≡ edges_of count plan
   over_counts count after told counted =
       plan_counts plan is.spelled is.valid count after told
-      (counted ∙ ap (λ (k : Header). fold edges_after count (steps_by k told leaves)) (sym is.header)
-      ∙ ap (λ (ls : List LeafValue). fold edges_after count (steps_by plan.header told ls)) (sym is.leaves))
+      (counted ∙ ap (λ (k : Header). fold edges_after count (steps_by k (at_start told) leaves)) (sym is.header)
+      ∙ ap (λ (ls : List LeafValue). fold edges_after count (steps_by plan.header (at_start told) ls)) (sym is.leaves))
 
 -- a plan in memory with these leaves, whose references frame settings hold
 pub read_over : {T : Type 0} (num : T → ℕ) (plan : Plan) (own : List LeafValue) (h : Header) (fi : FrameInvariants T) → own ≡ (plan_value plan).leaves →

@@ -1,9 +1,7 @@
 -- A transform block that is predicted from its edge is predicted as its leaf is.
-use Rattle.std.proofs.Common.{ℕ, Bool, false, if◌then◌else◌, [], ◌∷◌, ap, ◌∙◌, ◌≡◌, sym, List, Option, None, ℤ}
+use Rattle.std.proofs.Common.{ℕ, Bool, true, false, if◌then◌else◌, [], ◌∷◌, ap, ◌∙◌, ◌≡◌, sym, Option, None, ℤ}
 use Rattle.std.specs.List.{fold}
 use mathlib.Core.Path.{fun_ext}
-use Rattle.av1_blocks.specs.declared.mc.MotionVector.{MotionVector}
-use Rattle.av1_blocks.specs.declared.partition.RefType.{RefType}
 use Rattle.av1_blocks.specs.declared.predict.PredictionMode.{PredictionMode}
 use Rattle.av1_blocks.specs.declared.predict.PredictionMode.TheVariants.{UV_CFL_PRED}
 use Rattle.av1_blocks.specs.declared.predict.IntraParam.TheVariants.{AngleDelta, Alpha}
@@ -15,7 +13,7 @@ use Rattle.av1_intra.specs.declared.neighbours.IntraEdgeFilterParameters.{IntraE
 use Rattle.av1_intra.proofs.SameLuma.{ac_at_nil}
 use Rattle.av1_plan.specs.declared.header.Header.{Header}
 use Rattle.av1_plan.specs.Plan.{PlanValue}
-use Rattle.av1_references.specs.References.{compound_motion, single_motion, leaf_area}
+use Rattle.av1_references.specs.References.{leaf_area}
 use Rattle.av1_tile.specs.declared.plane_block.PlaneBlock.{PlaneBlock}
 use Rattle.av1_tile.specs.declared.plane_block.Prediction.{Prediction}
 use Rattle.av1_tile.specs.declared.plane_block.Prediction.TheVariants as predictions
@@ -80,31 +78,21 @@ module _ {T : Type 0} (num : T → ℕ) (pixel : ℕ → T) (plan : PlanValue) (
       (λ r c _. pixel (by_prediction plan block.plane of a (placed_edge plan.header block.plane block n a num plane) (luma block) r c))) (sym e)
       ∙ own_is (ap is_whole e)
 
--- a whole area that is predicted from one reference, or from two
-module _ {T : Type 0} (num : T → ℕ) (pixel : ℕ → T) (value : PlanValue) (luma : PlaneBlock → ℕ → ℕ → ℤ) (block : PlaneBlock) (plane after : Plane T) where
-  pub walked_single : (mode : PredictionMode) (reference : RefType) (mv : MotionVector) → block.prediction ≡ predictions.Single mode reference mv
-      → after ≡ painted_plane plane (leaf_area block.area) (λ r c _. pixel (single_motion value block.plane reference mv (leaf_area block.area) r c))
-      → after ≡ fold (fast_in num pixel value block.plane luma) plane (whole_steps block)
-  unfolding fast_in by_prediction
-  walked_single mode reference mv e painted =
-      painted
-      ∙ ap (λ (of : Prediction). painted_plane plane (leaf_area block.area)
-      (λ r c _.
-      pixel (by_prediction value block.plane of (leaf_area block.area) (placed_edge value.header block.plane block 0 (leaf_area block.area) num plane)
-      (luma block) r c))) (sym e)
-      ∙ ap (λ (b : Bool). fold (fast_in num pixel value block.plane luma) plane (if b then predict block 0 (leaf_area block.area) ∷ [] else []))
-      (sym (ap is_whole e))
-
-  pub walked_compound : (mode : PredictionMode) (references : List RefType) (mvs : List MotionVector) →
-      block.prediction ≡ predictions.Compound mode references mvs
-      → after ≡ painted_plane plane (leaf_area block.area) (λ r c _. pixel (compound_motion value block.plane references mvs (leaf_area block.area) r c))
-      → after ≡ fold (fast_in num pixel value block.plane luma) plane (whole_steps block)
-  unfolding fast_in by_prediction
-  walked_compound mode references mvs e painted =
-      painted
-      ∙ ap (λ (of : Prediction). painted_plane plane (leaf_area block.area)
-      (λ r c _.
-      pixel (by_prediction value block.plane of (leaf_area block.area) (placed_edge value.header block.plane block 0 (leaf_area block.area) num plane)
-      (luma block) r c))) (sym e)
-      ∙ ap (λ (b : Bool). fold (fast_in num pixel value block.plane luma) plane (if b then predict block 0 (leaf_area block.area) ∷ [] else []))
-      (sym (ap is_whole e))
+-- a whole area that is predicted from references
+pub walked_whole : {T : Type 0} (num : T → ℕ) (pixel : ℕ → T) (value : PlanValue) (luma : PlaneBlock → ℕ → ℕ → ℤ) (block : PlaneBlock) (plane after : Plane T)
+    (of : Prediction) → block.prediction ≡ of → is_whole of ≡ true
+    → after ≡
+    painted_plane plane (leaf_area block.area)
+    (λ r c _.
+    pixel (by_prediction value block.plane of (leaf_area block.area) (placed_edge value.header block.plane block 0 (leaf_area block.area) num plane)
+    (luma block) r c))
+    → after ≡ fold (fast_in num pixel value block.plane luma) plane (whole_steps block)
+unfolding fast_in
+walked_whole num pixel value luma block plane after of e whole painted =
+    painted
+    ∙ ap (λ (of : Prediction). painted_plane plane (leaf_area block.area)
+    (λ r c _.
+    pixel (by_prediction value block.plane of (leaf_area block.area) (placed_edge value.header block.plane block 0 (leaf_area block.area) num plane)
+    (luma block) r c))) (sym e)
+    ∙ ap (λ (b : Bool). fold (fast_in num pixel value block.plane luma) plane (if b then predict block 0 (leaf_area block.area) ∷ [] else []))
+    (sym (ap is_whole e ∙ whole))

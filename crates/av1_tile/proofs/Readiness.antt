@@ -63,6 +63,7 @@ PredictionReady h k before block n a (predictions.Intra mode step filter) = Edge
 PredictionReady h k before block n a (predictions.FromLuma alpha) = FromLumaReady h k before block n a
 PredictionReady h k before block n a (predictions.Single mode reference mv) = ⊤
 PredictionReady h k before block n a (predictions.Compound mode references mvs) = ⊤
+PredictionReady h k before block n a (predictions.Parts parts) = ⊤
 
 abbrev pub StepReadyIn : Header → Component → List PlaneStep → Step → Type 0
 StepReadyIn h k before (predict block n a) = PredictionReady h k before block n a block.prediction

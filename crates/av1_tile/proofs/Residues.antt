@@ -1,5 +1,5 @@
 -- Each sample is the sum of its prediction and its residue.
-use Rattle.std.proofs.Common.{ℕ, ◌+◌, ◌≡◌, Bool, true, false, List, [], ◌∷◌, arith, ℤ, pos, ◌+ℤ◌, Option, Some, if◌then◌else◌}
+use Rattle.std.proofs.Common.{ℕ, ◌≡◌, Bool, true, false, List, [], ◌∷◌, arith, ℤ, pos, ◌+ℤ◌, Option, Some, if◌then◌else◌}
 use Rattle.std.specs.List.{fold}
 use Rattle.std.proofs.lemmas.Int.{ints}
 use Rattle.av1_frame.specs.Areas.{in_visible}

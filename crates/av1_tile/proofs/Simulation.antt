@@ -299,6 +299,7 @@ module _ {T : Type 0} (num : T → ℕ) (pixel : ℕ → T) (law : (v : ℕ) →
       (luma_same h block.leaf before planes.y (walked plan before Y) (walk_written plan before Y) ready.luma (ready.stored planes.y.plane_cfg s.room) (t Y)))
   prediction_same plan before k block n a planes p (predictions.Single mode reference mv) ready s t is r c hr hc = refl
   prediction_same plan before k block n a planes p (predictions.Compound mode references mvs) ready s t is r c hr hc = refl
+  prediction_same plan before k block n a planes p (predictions.Parts parts) ready s t is r c hr hc = refl
 
   -- a step that is ready, in its plane and on its canvas
   plane_agrees : (plan : PlanValue) (before : List PlaneStep) (k : Component) (step : Step) (planes : Planes T) → StepReadyIn plan.header k before step →

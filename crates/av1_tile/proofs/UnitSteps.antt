@@ -28,12 +28,15 @@ use Rattle.av1_plan.specs.declared.header.Header.{Header}
 use Rattle.av1_plan.specs.declared.leaf.Triple.{Triple}
 use Rattle.av1_references.specs.References.{leaf_area}
 use Rattle.av1_tile.specs.declared.plane_block.PlaneBlock.{PlaneBlock}
-use Rattle.av1_intra.specs.declared.neighbours.IntraEdgeFilterParameters.{IntraEdgeFilterParameters}
+use Rattle.av1_tile.specs.declared.plane_block.Nearby.{Nearby}
+use Rattle.av1_tile.specs.declared.plane_block.Parts.{Parts}
+use Rattle.av1_tile.specs.declared.plane_block.Prediction.{Prediction}
+use Rattle.av1_tile.specs.declared.plane_block.Prediction.TheVariants as predictions
 use Rattle.av1_plan.specs.declared.leaf.ChromaMode.TheVariants.{Plain, Cfl}
 use Rattle.av1_plan.specs.declared.leaf.LeafKind.{LeafKind}
 use Rattle.av1_plan.specs.declared.leaf.LeafKind.TheVariants.{Intra, Single, Compound}
 use Rattle.av1_tile.specs.Canvas.{Component, Y, U, V, is_same}
-use Rattle.av1_tile.specs.PlaneBlocks.{number, block_told, plane_block, prediction_in, told_at, is_whole, triples_in}
+use Rattle.av1_tile.specs.PlaneBlocks.{number, block_told, plane_block, prediction_in, near_at, is_whole, shared, triples_in}
 use Rattle.av1_tile.specs.Steps.{Step, predict, add, PlaneStep, joined, block_area, block_steps, steps_at, whole_steps, plane_steps, in_component}
 use Rattle.av1_tile.specs.Steps.{component_steps, steps_of, leaf_steps, steps_after, steps}
 
@@ -162,24 +165,29 @@ pieces_kept f g a (suc n) same =
     ∙ ap (λ l. cons_option (g a) [] ++ l) (pieces_kept f g (a + 1) n (λ i h. same i (omega arith)))
     ∙ joined_option (g a) (filter_map g (range_with_len (a + 1) n))
 
+-- so is a block in parts as one that isn't
+shared_whole : (parts : Option Parts) (own : Prediction) → is_whole own ≡ true → is_whole (shared parts own) ≡ true
+shared_whole (Some parts) own e = refl
+shared_whole None own e = e
+
 -- a leaf is predicted over its whole area where it is predicted from references
-pub whole_is_inter : (filter : Option IntraEdgeFilterParameters) (k : Component) (kind : LeafKind) → is_whole (prediction_in filter k kind) ≡ is_inter kind
-whole_is_inter filter Y (Intra mode step chroma) = refl
-whole_is_inter filter U (Intra mode step (Some (Plain uv_mode uv_step))) = refl
-whole_is_inter filter V (Intra mode step (Some (Plain uv_mode uv_step))) = refl
-whole_is_inter filter U (Intra mode step (Some (Cfl alpha_u alpha_v))) = refl
-whole_is_inter filter V (Intra mode step (Some (Cfl alpha_u alpha_v))) = refl
-whole_is_inter filter U (Intra mode step None) = refl
-whole_is_inter filter V (Intra mode step None) = refl
-whole_is_inter filter Y (Single mode reference mv) = refl
-whole_is_inter filter U (Single mode reference mv) = refl
-whole_is_inter filter V (Single mode reference mv) = refl
-whole_is_inter filter Y (Compound mode references mvs) = refl
-whole_is_inter filter U (Compound mode references mvs) = refl
-whole_is_inter filter V (Compound mode references mvs) = refl
+pub whole_is_inter : (near : Nearby) (k : Component) (kind : LeafKind) → is_whole (prediction_in near k kind) ≡ is_inter kind
+whole_is_inter near Y (Intra mode step chroma) = refl
+whole_is_inter near U (Intra mode step (Some (Plain uv_mode uv_step))) = refl
+whole_is_inter near V (Intra mode step (Some (Plain uv_mode uv_step))) = refl
+whole_is_inter near U (Intra mode step (Some (Cfl alpha_u alpha_v))) = refl
+whole_is_inter near V (Intra mode step (Some (Cfl alpha_u alpha_v))) = refl
+whole_is_inter near U (Intra mode step None) = refl
+whole_is_inter near V (Intra mode step None) = refl
+whole_is_inter near Y (Single mode reference mv) = shared_whole near.parts (predictions.Single mode reference mv) refl
+whole_is_inter near U (Single mode reference mv) = shared_whole near.parts (predictions.Single mode reference mv) refl
+whole_is_inter near V (Single mode reference mv) = shared_whole near.parts (predictions.Single mode reference mv) refl
+whole_is_inter near Y (Compound mode references mvs) = shared_whole near.parts (predictions.Compound mode references mvs) refl
+whole_is_inter near U (Compound mode references mvs) = shared_whole near.parts (predictions.Compound mode references mvs) refl
+whole_is_inter near V (Compound mode references mvs) = shared_whole near.parts (predictions.Compound mode references mvs) refl
 
 -- a leaf's block in plane k of a frame
-module _ (h : Header) (filter : Option IntraEdgeFilterParameters) (k : Component) (leaf : LeafValue) (frame : IsWholeFrame h) (grid : IsOnGrid h leaf)
+module _ (h : Header) (near : Nearby) (k : Component) (leaf : LeafValue) (frame : IsWholeFrame h) (grid : IsOnGrid h leaf)
     (valid : IsValidLeaf h leaf) where
   abbrev sx : ℕ
   sx = xdec h (number k)
@@ -191,7 +199,7 @@ module _ (h : Header) (filter : Option IntraEdgeFilterParameters) (k : Component
   coding = coding_in h (number k) leaf
 
   abbrev block : PlaneBlock
-  block = block_told h filter k leaf
+  block = block_told h near k leaf
 
   halved_down : sy ≤ 1
   halved_down = omega (arith, halved_x h (number k), halved_y h (number k))
@@ -259,14 +267,14 @@ module _ (h : Header) (filter : Option IntraEdgeFilterParameters) (k : Component
       let u = units_in h (number k) leaf frame grid valid in
       let begins_there = begins h (number k) leaf frame grid valid n in
       ap (λ o. units sx sy k (in_component k (block_steps block triples n o))) (block_is h (number k) leaf frame grid valid n lt)
-      ∙ units_block sx sy k block triples n (whole_is_inter filter k leaf.kind ∙ intra) begins_there (record { x = 4 * (u.x + x); y = 4 * (u.y + y) })
+      ∙ units_block sx sy k block triples n (whole_is_inter near k leaf.kind ∙ intra) begins_there (record { x = 4 * (u.x + x); y = 4 * (u.y + y) })
       ∙ ap (λ s. if begins_there then s ∷ [] else []) (unit_is x y)
       ∙ chosen begins_there (unit_at (widened sx sy (cells_of leaf)) x y coding.columns coding.rows)
 
   -- and where it is predicted from references
   number_added : (triples : List Triple) → is_inter leaf.kind ≡ true → (n : ℕ) → units sx sy k (in_component k (steps_at h block triples n)) ≡ []
   unfolding steps_at
-  number_added triples inter n = units_added sx sy k block triples n (whole_is_inter filter k leaf.kind ∙ inter) (transform_block h block.plane block.area n)
+  number_added triples inter n = units_added sx sy k block triples n (whole_is_inter near k leaf.kind ∙ inter) (transform_block h block.plane block.area n)
 
   pub blocks_added : (triples : List Triple) → is_inter leaf.kind ≡ true → (n : ℕ) → units sx sy k (in_component k (joined n (steps_at h block triples))) ≡ []
   unfolding joined
@@ -278,11 +286,11 @@ module _ (h : Header) (filter : Option IntraEdgeFilterParameters) (k : Component
 
   -- no prediction of the whole area comes before the blocks
   pub nothing_whole : is_inter leaf.kind ≡ false → whole_steps block ≡ []
-  nothing_whole intra = ap (λ (b : Bool). if b then predict block 0 (leaf_area block.area) ∷ [] else []) (whole_is_inter filter k leaf.kind ∙ intra)
+  nothing_whole intra = ap (λ (b : Bool). if b then predict block 0 (leaf_area block.area) ∷ [] else []) (whole_is_inter near k leaf.kind ∙ intra)
 
   -- or it does
   pub whole_first : is_inter leaf.kind ≡ true → whole_steps block ≡ predict block 0 (leaf_area block.area) ∷ []
-  whole_first inter = ap (λ (b : Bool). if b then predict block 0 (leaf_area block.area) ∷ [] else []) (whole_is_inter filter k leaf.kind ∙ inter)
+  whole_first inter = ap (λ (b : Bool). if b then predict block 0 (leaf_area block.area) ∷ [] else []) (whole_is_inter near k leaf.kind ∙ inter)
 
   intra_units : (triples : List Triple) → is_inter leaf.kind ≡ false → covers_plane h leaf.x leaf.y leaf.size (number k) ≡ true →
       units sx sy k (in_component k (plane_steps h block triples)) ≡ steps_in h (number k) leaf
@@ -384,7 +392,7 @@ leaf_units h earlier k leaf is =
 
     go : (t : Bool) → covers_plane h leaf.x leaf.y leaf.size (number k) ≡ t →
         (if t then component_units h (xdec h (number k)) (ydec h (number k)) (λ j. plane_block h earlier j leaf) leaf k k else []) ≡ steps_in h (number k) leaf
-    go true e = plane_units h (told_at h earlier k leaf) k leaf is.frame is.grid valid (triples_in k leaf) is.faultless e
+    go true e = plane_units h (near_at h earlier k leaf) k leaf is.frame is.grid valid (triples_in k leaf) is.faultless e
     go false e = sym (uncovered h (number k) leaf is.frame is.grid valid e)
 
 -- and those of all leaves

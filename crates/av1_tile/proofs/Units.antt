@@ -9,7 +9,7 @@ use Rattle.std.proofs.lemmas.Nat.{shl-shr}
 use Rattle.av1_avail.specs.Order.{is_in}
 use Rattle.av1_blocks.specs.Transforms.{tx_width, tx_height}
 use Rattle.av1_frame.specs.Areas.{VisibleArea, in_visible}
-use Rattle.av1_intra.specs.declared.neighbours.IntraEdgeFilterParameters.{IntraEdgeFilterParameters}
+use Rattle.av1_tile.specs.declared.plane_block.Nearby.{Nearby}
 use Rattle.av1_order.specs.Plans.{is_inter}
 use Rattle.av1_order.specs.Samples.{left, top, width_of, height_of, is_covered_sample}
 use Rattle.av1_order.specs.Steps as order
@@ -25,7 +25,7 @@ use Rattle.av1_plan.specs.declared.leaf.Triple.{Triple}
 use Rattle.av1_references.specs.References.{leaf_area}
 use Rattle.av1_tile.specs.declared.plane_block.PlaneBlock.{PlaneBlock}
 use Rattle.av1_tile.specs.Canvas.{Component, Y, U, V, is_same}
-use Rattle.av1_tile.specs.PlaneBlocks.{number, block_told, is_whole, plane_block, told_at, triples_in}
+use Rattle.av1_tile.specs.PlaneBlocks.{number, block_told, is_whole, plane_block, near_at, triples_in}
 use Rattle.av1_tile.specs.Steps.{Step, predict, add, PlaneStep, joined, block_area, block_steps, steps_at, whole_steps, plane_steps, in_component}
 use Rattle.av1_tile.specs.Steps.{component_steps, steps_of, leaf_steps, steps_after, steps}
 use Rattle.av1_tile.proofs.Readiness.{predicts, draws}
@@ -113,9 +113,9 @@ all_pieces : {A : Type 0} (P : A → Type 0) (f : ℕ → List A) (ns : List ℕ
 all_pieces P f [] each = tt
 all_pieces P f (n ∷ ns) each = all_append P (f n) (flat_map f ns) (each n) (all_pieces P f ns each)
 
-module _ (h : Header) (filter : Option IntraEdgeFilterParameters) (k : Component) (leaf : LeafValue) (is : IsCodedLeaf h leaf) where
+module _ (h : Header) (near : Nearby) (k : Component) (leaf : LeafValue) (is : IsCodedLeaf h leaf) where
   abbrev block : PlaneBlock
-  block = block_told h filter k leaf
+  block = block_told h near k leaf
 
   valid : IsValidLeaf h leaf
   valid = valid_leaf h leaf is.faultless
@@ -129,14 +129,14 @@ module _ (h : Header) (filter : Option IntraEdgeFilterParameters) (k : Component
       let x : b.x ≡ a.x + n % blocks_across a * tx_width a.tx_size = sym (ap (λ (c : TransformBlock). c.x) found) in
       let y : b.y ≡ a.y + n / blocks_across a * tx_height a.tx_size = sym (ap (λ (c : TransformBlock). c.y) found) in
       let (columns, rows) = tx_units (plane_tx_size h leaf.size leaf.tx_size (number k)) in
-      let tx_size = block_tx_size h filter k leaf is.frame is.grid valid in
+      let tx_size = block_tx_size h near k leaf is.frame is.grid valid in
       let wide : tx_width a.tx_size ≡ 4 * (tx_width a.tx_size / 4) = rw tx_size columns in
       let high : tx_height a.tx_size ≡ 4 * (tx_height a.tx_size / 4) = rw tx_size rows in
       record {
         x = on_units (xdec h (number k)) a.x (a.x / 4) (n % blocks_across a) (tx_width a.tx_size)
-            (tx_width a.tx_size / 4) b.x (omega (arith, block_x h filter k leaf is.frame is.grid valid)) wide x;
+            (tx_width a.tx_size / 4) b.x (omega (arith, block_x h near k leaf is.frame is.grid valid)) wide x;
         y = on_units (ydec h (number k)) a.y (a.y / 4) (n / blocks_across a) (tx_height a.tx_size)
-            (tx_height a.tx_size / 4) b.y (omega (arith, block_y h filter k leaf is.frame is.grid valid)) high y;
+            (tx_height a.tx_size / 4) b.y (omega (arith, block_y h near k leaf is.frame is.grid valid)) high y;
         columns = sym wide;
         rows = sym high;
       }
@@ -144,7 +144,7 @@ module _ (h : Header) (filter : Option IntraEdgeFilterParameters) (k : Component
   pub whole_on_units : is_inter leaf.kind ≡ true → IsOnUnits (xdec h (number k)) (ydec h (number k)) block (leaf_area block.area)
   whole_on_units inter =
       let w = inter_is_whole h (number k) leaf is.grid is.faultless inter in
-      let same = whole_unit h filter k leaf is.frame is.grid valid in
+      let same = whole_unit h near k leaf is.frame is.grid valid in
       let sx = xdec h (number k) in
       let sy = ydec h (number k) in
       record {
@@ -175,9 +175,9 @@ module _ (h : Header) (filter : Option IntraEdgeFilterParameters) (k : Component
   whole_steps_fit = go (is_inter leaf.kind) refl
     where
       go : (t : Bool) → is_inter leaf.kind ≡ t → AllByRecursion (fits_in h k) (whole_steps block)
-      go true e = subst (λ (ss : List Step). AllByRecursion (fits_in h k) ss) (sym (whole_first h filter k leaf is.frame is.grid valid e))
+      go true e = subst (λ (ss : List Step). AllByRecursion (fits_in h k) ss) (sym (whole_first h near k leaf is.frame is.grid valid e))
           (whole_on_units e, tt)
-      go false e = subst (λ (ss : List Step). AllByRecursion (fits_in h k) ss) (sym (nothing_whole h filter k leaf is.frame is.grid valid e)) tt
+      go false e = subst (λ (ss : List Step). AllByRecursion (fits_in h k) ss) (sym (nothing_whole h near k leaf is.frame is.grid valid e)) tt
 
   pub plane_steps_fit : (triples : List Triple) → AllByRecursion (fits_in h k) (plane_steps h block triples)
   plane_steps_fit triples =
@@ -193,7 +193,7 @@ module _ (h : Header) (earlier : List LeafValue) (leaf : LeafValue) (is : IsCode
   pub part_fits : (k : Component) → AllByRecursion (StepFits h) (component_steps h (λ j. plane_block h earlier j leaf) leaf k)
   part_fits k =
       in_component_fit h k (plane_steps h (plane_block h earlier k leaf) (triples_in k leaf))
-      (plane_steps_fit h (told_at h earlier k leaf) k leaf is (triples_in k leaf))
+      (plane_steps_fit h (near_at h earlier k leaf) k leaf is (triples_in k leaf))
 
   pub leaf_steps_fit : AllByRecursion (StepFits h) (leaf_steps h earlier leaf)
   unfolding steps_of

@@ -1,5 +1,5 @@
 -- Triples of leaves that pass the validity check: they stand in their blocks and fit the depth.
-use Rattle.std.proofs.Common.{ℕ, ◌+◌, ◌-◌, ◌^◌, ◌≡◌, true, not, ℤ, pos, neg_ℤ, int_lt, List, Option, All, arith}
+use Rattle.std.proofs.Common.{ℕ, ◌+◌, ◌-◌, ◌^◌, ◌≡◌, true, not, ℤ, pos, neg_ℤ, int_lt, List, All, arith}
 use Rattle.std.proofs.lemmas.Bool.{and_parts, not-true}
 use Rattle.std.proofs.lemmas.Int.{ints}
 use Rattle.av1_dct.specs.Arithmetic.{FitsBits}
@@ -9,7 +9,7 @@ use Rattle.av1_plan.specs.Geometry.{carries_chroma}
 use Rattle.av1_plan.specs.Plan.{LeafValue}
 use Rattle.av1_plan.specs.Validity.{fits_signed}
 use Rattle.av1_plan.proofs.ValidLeaves.{IsFittingTriple, IsValidLeaf, HasFittingTriples, blocks_rise, rising_triples}
-use Rattle.av1_intra.specs.declared.neighbours.IntraEdgeFilterParameters.{IntraEdgeFilterParameters}
+use Rattle.av1_tile.specs.declared.plane_block.Nearby.{Nearby}
 use Rattle.av1_tile.specs.declared.plane_block.PlaneBlock.{PlaneBlock}
 use Rattle.av1_tile.specs.Canvas.{Component, Y, U, V}
 use Rattle.av1_tile.specs.PlaneBlocks.{block_told, triples_in}
@@ -28,11 +28,11 @@ all_fit : (h : Header) (block : PlaneBlock) (triples : List Triple) → All (IsF
 all_fit h block triples fit k d within = let t = fit k d within in record { place = t.place; value = bits_fit (h.depth + 8) _ t.value }
 
 -- the triples of a valid leaf, in each plane that it covers a part of
-pub triples_fit : (h : Header) (filter : Option IntraEdgeFilterParameters) (leaf : LeafValue) (k : Component) → HasFittingTriples h leaf →
-    covers k (carries_chroma h leaf.x leaf.y leaf.size) ≡ true → All (TripleFits h.depth (block_told h filter k leaf)) (triples_in k leaf)
-triples_fit h filter leaf Y fit covered = all_fit h (block_told h filter Y leaf) (triples_in Y leaf) fit.y
-triples_fit h filter leaf U fit covered = all_fit h (block_told h filter U leaf) (triples_in U leaf) (fit.u covered)
-triples_fit h filter leaf V fit covered = all_fit h (block_told h filter V leaf) (triples_in V leaf) (fit.v covered)
+pub triples_fit : (h : Header) (near : Nearby) (leaf : LeafValue) (k : Component) → HasFittingTriples h leaf →
+    covers k (carries_chroma h leaf.x leaf.y leaf.size) ≡ true → All (TripleFits h.depth (block_told h near k leaf)) (triples_in k leaf)
+triples_fit h near leaf Y fit covered = all_fit h (block_told h near Y leaf) (triples_in Y leaf) fit.y
+triples_fit h near leaf U fit covered = all_fit h (block_told h near U leaf) (triples_in U leaf) (fit.u covered)
+triples_fit h near leaf V fit covered = all_fit h (block_told h near V leaf) (triples_in V leaf) (fit.v covered)
 
 -- ---- their order
 

@@ -18,10 +18,13 @@ use Rattle.av1_itx.proofs.NoWrap.{shallow_residue}
 use Rattle.av1_plan.specs.declared.header.Header.{Header}
 use Rattle.av1_plan.specs.declared.leaf.Triple.{Triple}
 use Rattle.av1_plan.specs.Geometry.{xdec, ydec, plane_width, plane_height, carries_chroma, covers_plane, plane_place, plane_size, plane_tx_size, plane_area}
+use Rattle.av1_plan.specs.declared.leaf.LeafKind.{LeafKind}
+use Rattle.av1_plan.specs.declared.leaf.LeafKind.TheVariants.{Intra, Single, Compound}
 use Rattle.av1_plan.specs.Geometry.{follows_av1, has_block, transform_block, shown_columns, shown_rows}
 use Rattle.av1_plan.specs.Plan.{LeafValue, PlanValue}
 use Rattle.av1_plan.specs.Versions.{header_in, plan_in}
 use Rattle.av1_references.specs.References.{compound_motion, plan_filter, reference_plane, single_motion, slot_in}
+use Rattle.av1_tile.specs.declared.plane_block.Parts.{Parts}
 use Rattle.av1_tile.specs.declared.plane_block.PlaneBlock.{PlaneBlock}
 use Rattle.av1_tile.specs.declared.plane_block.Prediction.{Prediction}
 use Rattle.av1_tile.specs.declared.plane_block.Prediction.TheVariants as predictions
@@ -29,7 +32,8 @@ use Rattle.av1_tile.specs.Canvas.{Component, Y, U, V, Canvas, blank, drawn, with
 use Rattle.av1_tile.specs.Edge.{sample_of}
 use Rattle.av1_tile.specs.Output.{visible, planes_of}
 use Rattle.av1_tile.specs.PlaneBlocks.{number, plane_block}
-use Rattle.av1_tile.specs.Reference.{added, block_residue, by_prediction, coefficients, predicted, slow_in, slow_step, slow_walk}
+use Rattle.av1_tile.specs.Reference.{above, added, beside, block_residue, by_prediction, coefficients, kind_motion, parts_motion, predicted, slow_in}
+use Rattle.av1_tile.specs.Reference.{slow_step, slow_walk}
 use Rattle.av1_tile.specs.Steps.{Step, predict, add, PlaneStep, steps_at, steps_of, component_steps, leaf_steps, steps_after, steps}
 use Rattle.av1_tile.specs.Versions.{AgreesIn, EarlierKeepFilter, EarlyAgree, ElsewhereAgree, VersionsShowTheSame}
 
@@ -82,6 +86,20 @@ module _ (n : ℕ) (plan : PlanValue) (agrees : AgreesIn n plan.header) where
   compound_same U references mvs a r k = ap (compound_by 1 references mvs a r k) filters_same
   compound_same V references mvs a r k = ap (compound_by 2 references mvs a r k) filters_same
 
+  kind_same : (c : Component) (kind : LeafKind) (a : VisibleArea) (r k : ℕ) →
+      kind_motion (plan_in n plan) (number c) kind a r k ≡ kind_motion plan (number c) kind a r k
+  kind_same c (Intra mode step chroma) a r k = refl
+  kind_same c (Single mode reference mv) a r k = single_same c reference mv a r k
+  kind_same c (Compound mode references mvs) a r k = compound_same c references mvs a r k
+
+  parts_same : (c : Component) (parts : Parts) (a : VisibleArea) (r k : ℕ) →
+      parts_motion (plan_in n plan) (number c) parts a r k ≡ parts_motion plan (number c) parts a r k
+  parts_same c parts a r k =
+      let kinds : kind_motion (plan_in n plan) (number c) ≡ kind_motion plan (number c) =
+      fun_ext (λ kind. fun_ext (λ b. fun_ext (λ i. fun_ext (λ j. kind_same c kind b i j)))) in
+      ap (λ (f : LeafKind → VisibleArea → ℕ → ℕ →
+      ℕ). above parts.low (beside parts.narrow (f parts.corner) (f parts.over)) (beside parts.narrow (f parts.side) (f parts.own)) a r k) kinds
+
   prediction_same : (c : Component) (prediction : Prediction) (a : VisibleArea) (edge : PredictionMode → ℤ → Edge) (luma : ℕ → ℕ → ℤ) (r k : ℕ)
       → by_prediction (plan_in n plan) (number c) prediction a edge luma r k ≡ by_prediction plan (number c) prediction a edge luma r k
   unfolding by_prediction plane_width plane_height xdec ydec
@@ -93,6 +111,7 @@ module _ (n : ℕ) (plan : PlanValue) (agrees : AgreesIn n plan.header) where
   prediction_same V (predictions.FromLuma alpha) a edge luma r k = refl
   prediction_same c (predictions.Single mode reference mv) a edge luma r k = single_same c reference mv a r k
   prediction_same c (predictions.Compound mode references mvs) a edge luma r k = compound_same c references mvs a r k
+  prediction_same c (predictions.Parts parts) a edge luma r k = parts_same c parts a r k
 
   predicted_same : (canvas : Canvas) (c : Component) (block : PlaneBlock) (a : VisibleArea) (r k : ℕ) →
       predicted (plan_in n plan) canvas c block a r k ≡ predicted plan canvas c block a r k

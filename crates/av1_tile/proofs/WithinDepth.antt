@@ -1,6 +1,7 @@
 -- Every step leaves samples within the depth.
-use Rattle.std.proofs.Common.{ℕ, ◌+◌, ◌^◌, ◌<◌, ◌≤◌, ◌≡◌, ◌&&◌, Bool, true, false, cond, min, if◌then◌else◌, List, [], ◌∷◌, ℤ, arith, refl, Option}
+use Rattle.std.proofs.Common.{ℕ, ◌+◌, ◌-◌, ◌/◌, ◌^◌, ◌<◌, ◌≤◌, ◌≡◌, ◌&&◌, Bool, true, false, cond, min, if◌then◌else◌, List, [], ◌∷◌, ℤ, arith, refl, Option}
 use Rattle.std.proofs.Common.{None}
+use Rattle.std.specs.Prelude.{nat_lt}
 use Rattle.std.specs.List.{fold}
 use Rattle.av1_blocks.specs.declared.predict.PredictionMode.{PredictionMode}
 use Rattle.av1_blocks.specs.declared.predict.PredictionMode.TheVariants.{UV_CFL_PRED}
@@ -22,13 +23,16 @@ use Rattle.av1_plan.specs.Geometry.{plane_width, plane_height}
 use Rattle.av1_plan.specs.Plan.{PlanValue}
 use Rattle.av1_references.specs.References.{ServesPlan, leaf_area}
 use Rattle.av1_references.proofs.Motion.{compound_motion_within, held_motion_within}
+use Rattle.av1_plan.specs.declared.leaf.LeafKind.{LeafKind}
+use Rattle.av1_plan.specs.declared.leaf.LeafKind.TheVariants.{Intra, Single, Compound}
+use Rattle.av1_tile.specs.declared.plane_block.Parts.{Parts}
 use Rattle.av1_tile.specs.declared.plane_block.PlaneBlock.{PlaneBlock}
 use Rattle.av1_tile.specs.declared.plane_block.Prediction.{Prediction}
 use Rattle.av1_tile.specs.declared.plane_block.Prediction.TheVariants as predictions
 use Rattle.av1_tile.specs.PlaneBlocks.{extent_of, is_whole}
-use Rattle.av1_tile.specs.Reference.{by_mode, by_prediction, no_luma}
+use Rattle.av1_tile.specs.Reference.{above, beside, by_mode, by_prediction, kind_motion, no_luma, parts_motion}
 use Rattle.av1_tile.specs.Steps.{predict, add, own_prediction, whole_steps}
-use Rattle.av1_tile.specs.Walk.{IsPlaneOf, Stores, PredictionFits, edge_by_place, answer_right, answer_low, placed_edge, fast_in}
+use Rattle.av1_tile.specs.Walk.{IsPlaneOf, KindServes, PartsServe, Stores, PredictionFits, edge_by_place, answer_right, answer_low, placed_edge, fast_in}
 use Rattle.av1_frame.proofs.Within.{chosen_below, clip_within, painted_numbers_below, sample_below, some_numbers}
 use Rattle.av1_edges.proofs.Within.{above_within, base_within, corner_within, left_within, smoothed_within, some_available, available_inside}
 use Rattle.av1_lists.proofs.Lists.{by_index-all}
@@ -108,6 +112,7 @@ module _ {T : Type 0} (num : T → ℕ) (pixel : ℕ → T) (law : (v : ℕ) →
       mode_within num plan.header p plane stores deep a is block n None UV_CFL_PRED (Alpha alpha) f r c
   prediction_within deep block n a is (predictions.Single mode reference mv) e f r c = absurd cc
   prediction_within deep block n a is (predictions.Compound mode references mvs) e f r c = absurd cc
+  prediction_within deep block n a is (predictions.Parts parts) e f r c = absurd cc
 
   -- so the plane stores its part of the frame once a transform block is predicted, where it is predicted by itself,
   pub own_stores : 8 ≤ plan.header.depth → (block : PlaneBlock) (n : ℕ) (a : VisibleArea) → BeginsIn plan.header p a →
@@ -126,6 +131,33 @@ module _ {T : Type 0} (num : T → ℕ) (pixel : ℕ → T) (law : (v : ℕ) →
       }
 
   module _ (fi : FrameInvariants T) (holds : ServesPlan num plan fi) (below : p < 3) where
+    -- what leaves of a kind predict lies within the depth
+    abbrev AreWithin : (VisibleArea → ℕ → ℕ → ℕ) → Type 0
+    AreWithin f = (a : VisibleArea) (r c : ℕ) → f a r c < 2 ^ plan.header.depth
+
+    kind_within : (kind : LeafKind) → KindServes plan.header kind → AreWithin (kind_motion plan p kind)
+    kind_within (Intra mode step chroma) serves a r c = absurd serves
+    kind_within (Single mode reference mv) serves a r c = held_motion_within num plan fi reference p mv a r c holds serves.1.has below
+    kind_within (Compound mode references mvs) serves a r c = compound_motion_within plan p references mvs a r c
+
+    -- and so do halves
+    narrow_within : (narrow : Bool) (f g : VisibleArea → ℕ → ℕ → ℕ) → AreWithin f → AreWithin g → AreWithin (beside narrow f g)
+    narrow_within false f g first second a r c = second a r c
+    narrow_within true f g first second a r c =
+        let w = a.width / 2 in
+        chosen_below (nat_lt c w) _ _ _ (first (record a { width = w }) r c) (second (record a { x = a.x + w; width = a.width - w }) r (c - w))
+
+    low_within : (low : Bool) (f g : VisibleArea → ℕ → ℕ → ℕ) → AreWithin f → AreWithin g → AreWithin (above low f g)
+    low_within false f g first second a r c = second a r c
+    low_within true f g first second a r c =
+        let n = a.height / 2 in
+        chosen_below (nat_lt r n) _ _ _ (first (record a { height = n }) r c) (second (record a { y = a.y + n; height = a.height - n }) (r - n) c)
+
+    parts_within : (parts : Parts) → PartsServe plan.header parts → AreWithin (parts_motion plan p parts)
+    parts_within parts serve =
+        low_within parts.low _ _ (narrow_within parts.narrow _ _ (kind_within parts.corner serve.corner) (kind_within parts.over serve.over))
+        (narrow_within parts.narrow _ _ (kind_within parts.side serve.side) (kind_within parts.own serve.own))
+
     -- what is predicted from references that frame settings hold lies within the depth too
     whole_within : (area : PlaneArea) (of : Prediction) → PredictionFits plan.header p area of → is_whole of ≡ true →
         (a : VisibleArea) (edge : PredictionMode → ℤ → Edge) (f : ℕ → ℕ → ℤ) (r c : ℕ)
@@ -134,8 +166,9 @@ module _ {T : Type 0} (num : T → ℕ) (pixel : ℕ → T) (law : (v : ℕ) →
     whole_within area (predictions.Intra mode step filter) fits e a edge f r c = absurd cc
     whole_within area (predictions.FromLuma alpha) fits e a edge f r c = absurd cc
     whole_within area (predictions.Single mode reference mv) fits e a edge f r c =
-        held_motion_within num plan fi reference p mv a r c holds fits.served.has below
+        held_motion_within num plan fi reference p mv a r c holds fits.serves.1.has below
     whole_within area (predictions.Compound mode references mvs) fits e a edge f r c = compound_motion_within plan p references mvs a r c
+    whole_within area (predictions.Parts parts) fits e a edge f r c = parts_within parts fits.serve a r c
 
     -- and a whole area is
     pub whole_stores : (block : PlaneBlock) → PredictionFits plan.header p block.area block.prediction →

@@ -1,4 +1,5 @@
 pub mod Canvas
+pub mod Shared
 pub mod PlaneBlocks
 pub mod Edge
 pub mod Steps

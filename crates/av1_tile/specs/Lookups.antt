@@ -49,6 +49,7 @@ PredictionFinds h canvas k block a (predictions.FromLuma alpha) =
     EdgeIsThere (canvas k) a × LumaIsThere h (canvas Y) block.leaf
 PredictionFinds h canvas k block a (predictions.Single mode reference mv) = Unit {0}
 PredictionFinds h canvas k block a (predictions.Compound mode references mvs) = Unit {0}
+PredictionFinds h canvas k block a (predictions.Parts parts) = Unit {0}
 
 -- what a step looks up: what its prediction does, or each sample that it adds to
 abbrev pub StepFinds : Header → Canvas → Component → Step → Type 0

@@ -24,9 +24,12 @@ use Rattle.av1_plan.specs.Geometry.{plane_width, plane_height, shown_columns, sh
 use Rattle.av1_plan.specs.Plan.{LeafValue}
 use Rattle.av1_tile.specs.declared.extent.PlaneExtent.{PlaneExtent}
 use Rattle.av1_tile.specs.declared.plane_block.PlaneBlock.{PlaneBlock}
+use Rattle.av1_tile.specs.declared.plane_block.Nearby.{Nearby}
+use Rattle.av1_tile.specs.declared.plane_block.Parts.{Parts}
 use Rattle.av1_tile.specs.declared.plane_block.Prediction.{Prediction}
 use Rattle.av1_tile.specs.declared.plane_block.Prediction.TheVariants as predictions
 use Rattle.av1_tile.specs.Canvas.{Component, Y, U, V}
+use Rattle.av1_tile.specs.Shared.{parts_in}
 
 -- ---- planes
 
@@ -89,16 +92,23 @@ filter_parameters h p above left = if h.edge_filter then Some (parameters_of p a
 
 -- ---- a leaf's block in a plane
 
--- how a leaf predicts a plane; `filter` is what the edge filter is told
-abbrev pub prediction_in : (filter : Option IntraEdgeFilterParameters) → Component → LeafKind → Prediction
-prediction_in filter Y (Intra mode step chroma) = predictions.Intra mode step filter
-prediction_in filter component (Intra mode step (Some (Plain chroma_mode chroma_step))) =
-    predictions.Intra chroma_mode chroma_step filter
-prediction_in filter U (Intra mode step (Some (Cfl alpha_u alpha_v))) = predictions.FromLuma alpha_u
-prediction_in filter V (Intra mode step (Some (Cfl alpha_u alpha_v))) = predictions.FromLuma alpha_v
-prediction_in filter component (Intra mode step None) = predictions.Intra DC_PRED (pos 0) filter
-prediction_in filter component (Single mode reference mv) = predictions.Single mode reference mv
-prediction_in filter component (Compound mode references mvs) = predictions.Compound mode references mvs
+-- the prediction of a leaf from references: in parts, where others share its block, or else its own
+abbrev pub shared : Option Parts → Prediction → Prediction
+shared (Some parts) own = predictions.Parts parts
+shared None own = own
+
+-- how a leaf predicts a plane, of which the leaves before it say `near`
+abbrev pub prediction_in : Nearby → Component → LeafKind → Prediction
+prediction_in near Y (Intra mode step chroma) = predictions.Intra mode step near.filter
+prediction_in near component (Intra mode step (Some (Plain chroma_mode chroma_step))) =
+    predictions.Intra chroma_mode chroma_step near.filter
+prediction_in near U (Intra mode step (Some (Cfl alpha_u alpha_v))) = predictions.FromLuma alpha_u
+prediction_in near V (Intra mode step (Some (Cfl alpha_u alpha_v))) = predictions.FromLuma alpha_v
+prediction_in near component (Intra mode step None) = predictions.Intra DC_PRED (pos 0) near.filter
+prediction_in near component (Single mode reference mv) =
+    shared near.parts (predictions.Single mode reference mv)
+prediction_in near component (Compound mode references mvs) =
+    shared near.parts (predictions.Compound mode references mvs)
 
 -- the type of its transforms
 abbrev pub type_in : Component → LeafValue → TxType
@@ -109,13 +119,13 @@ type_in component leaf = unwrap_or leaf.uv_type DCT_DCT
 abbrev pub triples_in : Component → LeafValue → List Triple
 triples_in component leaf = slice_index_or leaf.triples (number component) []
 
--- its block in a plane, where the edge filter is told so much
-abbrev pub block_told : Header → (filter : Option IntraEdgeFilterParameters) → Component → LeafValue → PlaneBlock
-block_told h filter component leaf = record {
+-- its block in a plane, of which the leaves before it say so much
+abbrev pub block_told : Header → Nearby → Component → LeafValue → PlaneBlock
+block_told h near component leaf = record {
   plane = number component;
   leaf = record { x = leaf.x; y = leaf.y; size = leaf.size; tx_size = leaf.tx_size };
   area = plane_area h leaf.x leaf.y leaf.size leaf.tx_size (number component);
-  prediction = prediction_in filter component leaf.kind;
+  prediction = prediction_in near component leaf.kind;
   tx_type = type_in component leaf;
 }
 
@@ -126,9 +136,14 @@ told_at h earlier component leaf =
     let a = plane_area h leaf.x leaf.y leaf.size leaf.tx_size p in
     filter_parameters h p (neighbour_above h p earlier a) (neighbour_left h p earlier a)
 
+-- all that the leaves before it say of its block: that, and its parts
+abbrev pub near_at : Header → (earlier : List LeafValue) → Component → LeafValue → Nearby
+near_at h earlier component leaf =
+    record { filter = told_at h earlier component leaf; parts = parts_in h earlier (number component) leaf }
+
 -- a leaf's block in a plane, behind the leaves before it
 abbrev pub plane_block : Header → (earlier : List LeafValue) → Component → LeafValue → PlaneBlock
-plane_block h earlier component leaf = block_told h (told_at h earlier component leaf) component leaf
+plane_block h earlier component leaf = block_told h (near_at h earlier component leaf) component leaf
 
 -- whether it is predicted from references, over its whole area at once
 abbrev pub is_whole : Prediction → Bool
@@ -136,6 +151,7 @@ is_whole (predictions.Intra mode step filter) = false
 is_whole (predictions.FromLuma alpha) = false
 is_whole (predictions.Single mode reference mv) = true
 is_whole (predictions.Compound mode references mvs) = true
+is_whole (predictions.Parts parts) = true
 
 -- whether a leaf's chroma is predicted from its luma
 abbrev pub is_from_luma : LeafKind → Bool

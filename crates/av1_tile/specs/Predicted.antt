@@ -70,10 +70,7 @@ with_rows Y kept rows = record kept { y = rows }
 with_rows U kept rows = record kept { u = rows }
 with_rows V kept rows = record kept { v = rows }
 
--- a rectangle of visible samples, whose rows are all that is stored
-abbrev pub visible_in : StoredArea → VisibleArea
-visible_in a = record { x = a.x; y = a.y; width = a.width; height = a.height }
-
+-- a rectangle of visible samples, where their rows are all that is stored
 abbrev pub stored_in : VisibleArea → StoredArea
 stored_in a = record { x = a.x; y = a.y; width = a.width; height = a.height }
 

@@ -1,9 +1,9 @@
 -- The slow definition of a plan's samples: its steps in coding order, over a canvas that is empty at first.
 -- AV1 specification: decode block syntax, compute prediction syntax (which calls the prediction processes),
 -- reconstruction process.
-use Rattle.std.specs.Prelude.{Bool, ℕ, ◌-◌, ◌==◌, List, replicate, slice_set, if◌then◌else◌, ℤ, pos, ◌+ℤ◌, Option}
-use Rattle.std.specs.Prelude.{Some, None}
-use Rattle.std.specs.Prelude.{option_map, unsigned_abs}
+use Rattle.std.specs.Prelude.{ℕ, ◌+◌, ◌-◌, ◌/◌, ◌==◌, List, replicate, slice_set, if◌then◌else◌, ℤ, pos, ◌+ℤ◌}
+use Rattle.std.specs.Prelude.{Option, Some}
+use Rattle.std.specs.Prelude.{None, option_map, unsigned_abs, Bool, true, false, nat_lt}
 use Rattle.std.specs.List.{fold}
 use Rattle.av1_blocks.specs.declared.predict.PredictionMode.{PredictionMode}
 use Rattle.av1_blocks.specs.declared.predict.PredictionMode.TheVariants.{UV_CFL_PRED}
@@ -22,12 +22,15 @@ use Rattle.av1_intra.specs.Neighbours.{uses_smooth_filter}
 use Rattle.av1_intra.specs.Predicted.{predicted as intra_predicted, variant_at, angle_or_alpha}
 use Rattle.av1_itx.specs.Residue.{residue_by}
 use Rattle.av1_plan.specs.declared.header.Header.{Header}
+use Rattle.av1_plan.specs.declared.leaf.LeafKind.{LeafKind}
+use Rattle.av1_plan.specs.declared.leaf.LeafKind.TheVariants.{Intra, Single, Compound}
 use Rattle.av1_plan.specs.declared.leaf.Triple.{Triple}
 use Rattle.av1_plan.specs.Geometry.{follows_av1, xdec, ydec, plane_width, plane_height}
 use Rattle.av1_plan.specs.Plan.{PlanValue}
 use Rattle.av1_references.specs.References.{single_motion, compound_motion}
 use Rattle.av1_tile.specs.declared.extent.PlaneExtent.{PlaneExtent}
 use Rattle.av1_tile.specs.declared.plane_block.LumaBlock.{LumaBlock}
+use Rattle.av1_tile.specs.declared.plane_block.Parts.{Parts}
 use Rattle.av1_tile.specs.declared.plane_block.PlaneBlock.{PlaneBlock}
 use Rattle.av1_tile.specs.declared.plane_block.Prediction.{Prediction}
 use Rattle.av1_tile.specs.declared.plane_block.Prediction.TheVariants as predictions
@@ -59,6 +62,34 @@ by_mode extent filter mode param a edge luma r c =
 abbrev pub no_luma : ℕ → ℕ → ℤ
 no_luma r c = pos 0
 
+-- what a leaf of this kind predicts of plane p from references; an intra leaf, which no part has, predicts nothing
+abbrev pub kind_motion : PlanValue → (p : ℕ) → LeafKind → VisibleArea → (r c : ℕ) → ℕ
+kind_motion plan p (Single mode reference mv) a r c = single_motion plan p reference mv a r c
+kind_motion plan p (Compound mode references mvs) a r c = compound_motion plan p references mvs a r c
+kind_motion plan p (Intra mode step chroma) a r c = 0
+
+-- a rectangle that g predicts; or, where it has two columns of parts, f its left half and g the right one
+abbrev pub beside : (narrow : Bool) → (f g : VisibleArea → ℕ → ℕ → ℕ) → VisibleArea → (r c : ℕ) → ℕ
+beside false f g a r c = g a r c
+beside true f g a r c =
+    let w = a.width / 2 in
+    if nat_lt c w then f (record a { width = w }) r c
+    else g (record a { x = a.x + w; width = a.width - w }) r (c - w)
+
+-- and, where it has two rows of them, f the upper half and g the lower one
+abbrev pub above : (low : Bool) → (f g : VisibleArea → ℕ → ℕ → ℕ) → VisibleArea → (r c : ℕ) → ℕ
+above false f g a r c = g a r c
+above true f g a r c =
+    let n = a.height / 2 in
+    if nat_lt r n then f (record a { height = n }) r c
+    else g (record a { y = a.y + n; height = a.height - n }) (r - n) c
+
+-- a rectangle of plane p that is predicted in parts
+abbrev pub parts_motion : PlanValue → (p : ℕ) → Parts → VisibleArea → (r c : ℕ) → ℕ
+parts_motion plan p parts =
+    above parts.low (beside parts.narrow (kind_motion plan p parts.corner) (kind_motion plan p parts.over))
+    (beside parts.narrow (kind_motion plan p parts.side) (kind_motion plan p parts.own))
+
 -- The sample that is predicted there, in plane p of a plan.
 unfoldable pub by_prediction : PlanValue → (p : ℕ) → Prediction → VisibleArea → (edge : PredictionMode → ℤ → Edge) →
     (luma : ℕ → ℕ → ℤ) → (r c : ℕ) → ℕ
@@ -69,6 +100,7 @@ by_prediction plan p (predictions.FromLuma alpha) a edge luma r c =
 by_prediction plan p (predictions.Single mode reference mv) a edge luma r c = single_motion plan p reference mv a r c
 by_prediction plan p (predictions.Compound mode references mvs) a edge luma r c =
     compound_motion plan p references mvs a r c
+by_prediction plan p (predictions.Parts parts) a edge luma r c = parts_motion plan p parts a r c
 
 -- a leaf of a frame, as chroma from luma sees it
 abbrev pub luma_of : Header → LumaBlock → LumaLeaf

@@ -1,15 +1,19 @@
--- Where what a plan comes to doesn't depend on the version of its grammar.
-use Rattle.std.specs.Prelude.{◌≡◌, ◌≢◌, ◌≤◌, ℕ, ℤ, List}
+-- Where what a plan comes to doesn't depend on the version of its grammar, and what earlier versions don't have.
+use Rattle.std.specs.Prelude.{◌≡◌, ◌≢◌, ◌≤◌, ℕ, ℤ, List, None}
 use Rattle.av1_blocks.specs.declared.mc.FilterMode.TheVariants.{SHARP}
 use Rattle.av1_blocks.specs.declared.transform.TxSize.{TxSize}
 use Rattle.av1_blocks.specs.declared.transform.TxType.{TxType}
 use Rattle.av1_itx.specs.Residue.{residue_by}
 use Rattle.av1_plan.specs.declared.header.Header.{Header}
 use Rattle.av1_plan.specs.Geometry.{follows_av1}
-use Rattle.av1_plan.specs.Plan.{PlanValue}
+use Rattle.av1_plan.specs.Plan.{LeafValue, PlanValue}
+use Rattle.av1_plan.specs.Validity.{fault_of}
 use Rattle.av1_plan.specs.Versions.{header_in, plan_in}
 use Rattle.av1_references.specs.References.{plan_filter}
+use Rattle.av1_tile.specs.Canvas.{Component}
 use Rattle.av1_tile.specs.Output.{planes_of}
+use Rattle.av1_tile.specs.PlaneBlocks.{number}
+use Rattle.av1_tile.specs.Shared.{parts_in}
 
 -- What a frame comes to goes by the same rules in this version: its filter is the same along each side, and the residue
 -- of any coefficients.
@@ -35,3 +39,11 @@ EarlyAgree = (version : ℕ) (h : Header) → version ≤ 2 → h.version ≤ 2 
 -- and all versions do where the filter isn't the sharp one and the depth isn't 12.
 abbrev pub ElsewhereAgree : Type 0
 ElsewhereAgree = (version : ℕ) (h : Header) → h.filter ≢ SHARP → h.depth ≤ 10 → AgreesIn version h
+
+-- In the first two versions no block of a valid leaf has parts, whatever leaves came before: the leaf alone predicts
+-- it.
+abbrev pub EarlierShareNone : Type 0
+EarlierShareNone =
+    (h : Header) (leaf : LeafValue) → h.version ≤ 2 → fault_of h leaf ≡ None →
+    (earlier : List LeafValue) (k : Component)
+    → parts_in h earlier (number k) leaf ≡ None

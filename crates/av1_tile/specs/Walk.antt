@@ -2,7 +2,7 @@
 -- of what was written, and what its functions ask of planes, blocks and leaves.
 use Rattle.std.specs.Prelude.{ℕ, ◌+◌, ◌-◌, ◌*◌, ◌/◌, ◌%◌, ◌^◌, ◌<◌, ◌≤◌, ◌≡◌, [], ◌∷◌, ◌++◌, true, false, Bool, ◌&&◌}
 use Rattle.std.specs.Prelude.{List, All, IsTrue, min, nat_lt, if◌then◌else◌, Option, Some, None, ℤ, pos, length}
-use Rattle.std.specs.Prelude.{slice_index_or, unsigned_abs}
+use Rattle.std.specs.Prelude.{slice_index_or, unsigned_abs, IfSome}
 use Rattle.std.specs.Int.{next_multiple_of}
 use Rattle.std.specs.List.{fold}
 use Rattle.av1_blocks.specs.declared.partition.RefType.{RefType}
@@ -34,23 +34,27 @@ use Rattle.av1_intra.specs.Predicted.{alpha_of}
 use Rattle.av1_inter.specs.Reference.{reference_of}
 use Rattle.av1_intra.specs.declared.neighbours.IntraEdgeFilterParameters.{IntraEdgeFilterParameters}
 use Rattle.av1_order.specs.Neighbours.{last_cell, leaf_holds}
+use Rattle.av1_order.specs.Plans.{is_inter}
 use Rattle.av1_plan.specs.declared.header.Header.{Header}
 use Rattle.av1_plan.specs.declared.geometry.PlaneArea.{PlaneArea}
 use Rattle.av1_plan.specs.declared.leaf.Leaf.{Leaf}
-use Rattle.av1_plan.specs.declared.leaf.LeafKind.TheVariants.{Intra}
+use Rattle.av1_plan.specs.declared.leaf.LeafKind.{LeafKind}
+use Rattle.av1_plan.specs.declared.leaf.LeafKind.TheVariants.{Intra, Single, Compound}
 use Rattle.av1_plan.specs.declared.leaf.Triple.{Triple}
 use Rattle.av1_plan.specs.Geometry.{xdec, ydec, plane_width, plane_height, shown_columns, shown_rows, plane_area}
 use Rattle.av1_plan.specs.Geometry.{carries_chroma, block_count, blocks_across, follows_av1}
 use Rattle.av1_plan.specs.Plan.{LeafValue, PlanValue}
 use Rattle.av1_plan.specs.ReadPlans.{IsOtherFrame, IsReadFrame}
 use Rattle.av1_plan.specs.Validity.{has_reference}
-use Rattle.av1_references.specs.References.{ServesPlan}
+use Rattle.av1_references.specs.References.{ServesPlan, leaf_area}
 use Rattle.av1_tile.specs.declared.block.BlockPlace.{BlockPlace}
 use Rattle.av1_tile.specs.declared.block.EdgePrediction.{EdgePrediction}
 use Rattle.av1_tile.specs.declared.cells.CodedCells.{CodedCells}
 use Rattle.av1_tile.specs.declared.extent.PlaneExtent.{PlaneExtent}
 use Rattle.av1_tile.specs.declared.frame.WalkedFrame.{WalkedFrame}
 use Rattle.av1_tile.specs.declared.plane_block.LumaBlock.{LumaBlock}
+use Rattle.av1_tile.specs.declared.plane_block.Nearby.{Nearby}
+use Rattle.av1_tile.specs.declared.plane_block.Parts.{Parts}
 use Rattle.av1_tile.specs.declared.plane_block.PlaneBlock.{PlaneBlock}
 use Rattle.av1_tile.specs.declared.plane_block.Prediction.{Prediction}
 use Rattle.av1_tile.specs.declared.plane_block.Prediction.TheVariants as predictions
@@ -59,6 +63,7 @@ use Rattle.av1_tile.specs.Canvas.{Component, Y, U, V}
 use Rattle.av1_tile.specs.PlaneBlocks.{number, component, extent_of, block_told, coded_info, filter_parameters}
 use Rattle.av1_tile.specs.PlaneBlocks.{is_from_luma}
 use Rattle.av1_tile.specs.PlaneBlocks.{triples_in}
+use Rattle.av1_tile.specs.Shared.{moved, parts_at}
 use Rattle.av1_tile.specs.Reference.{by_mode, by_prediction, luma_for, luma_of, added, block_residue}
 use Rattle.av1_tile.specs.Steps.{Step, predict, add, PlaneStep, steps_of}
 
@@ -152,6 +157,7 @@ has_edge (predictions.Intra mode step filter) = true
 has_edge (predictions.FromLuma alpha) = true
 has_edge (predictions.Single mode reference mv) = false
 has_edge (predictions.Compound mode references mvs) = false
+has_edge (predictions.Parts parts) = false
 
 -- the count of prepared edges after a step
 abbrev pub edges_in : ℕ → Step → ℕ
@@ -294,35 +300,47 @@ pub record FromLumaFits (area : PlaneArea) (alpha : ℤ) : Type 0 where
   pub weight : unsigned_abs alpha ≤ 16
   pub few : tx_width area.tx_size * tx_height area.tx_size ≤ 1024
 
--- a mode that predicts from references, over an area of plane p with sides up to 64 samples of luma
-pub record MotionFits (h : Header) (p : ℕ) (area : PlaneArea) (mode : PredictionMode) : Type 0 where
-  pub inter : is_intra mode ≡ false
-  pub wide : block_width area.size ≤ 64 / 2 ^ xdec h p
-  pub high : block_height area.size ≤ 64 / 2 ^ ydec h p
-
 -- a reference from LAST to ALTREF, whose slot carries planes
 pub record ReferenceFits (h : Header) (reference : RefType) : Type 0 where
   pub other : IsOtherFrame reference
   pub has : IsTrue (has_reference h reference)
 
--- a prediction of an area of plane p from one reference, and from two
-pub record SingleFits (h : Header) (p : ℕ) (area : PlaneArea) (mode : PredictionMode)
-    (reference : RefType) : Type 0 where
-  pub motion : MotionFits h p area mode
-  pub served : ReferenceFits h reference
+-- a leaf from references that can be predicted: its mode is one of references, and each has a slot that carries planes
+abbrev pub KindServes : Header → LeafKind → Type 0
+KindServes h (Intra mode step chroma) = ⊥
+KindServes h (Single mode reference mv) = (is_intra mode ≡ false) × ReferenceFits h reference
+KindServes h (Compound mode references mvs) =
+    (is_intra mode ≡ false) ×
+    (ReferenceFits h (reference_of references 0) × ReferenceFits h (reference_of references 1))
 
-pub record CompoundFits (h : Header) (p : ℕ) (area : PlaneArea) (mode : PredictionMode)
-    (references : List RefType) : Type 0 where
-  pub motion : MotionFits h p area mode
-  pub first : ReferenceFits h (reference_of references 0)
-  pub second : ReferenceFits h (reference_of references 1)
+-- it predicts a rectangle of plane p with sides up to 64 samples of luma
+pub record KindFits (h : Header) (p : ℕ) (a : VisibleArea) (kind : LeafKind) : Type 0 where
+  pub wide : a.width ≤ 64 / 2 ^ xdec h p
+  pub high : a.height ≤ 64 / 2 ^ ydec h p
+  pub serves : KindServes h kind
+
+-- each part's leaf can be predicted
+pub record PartsServe (h : Header) (parts : Parts) : Type 0 where
+  pub corner : KindServes h parts.corner
+  pub over : KindServes h parts.over
+  pub side : KindServes h parts.side
+  pub own : KindServes h parts.own
+
+-- and so each part of a rectangle of plane p
+pub record PartsFit (h : Header) (p : ℕ) (a : VisibleArea) (parts : Parts) : Type 0 where
+  pub wide : a.width ≤ 64 / 2 ^ xdec h p
+  pub high : a.height ≤ 64 / 2 ^ ydec h p
+  pub serve : PartsServe h parts
 
 -- a prediction of an area of plane p that can be made in a frame
 abbrev pub PredictionFits : Header → (p : ℕ) → PlaneArea → Prediction → Type 0
 PredictionFits h p area (predictions.Intra mode step filter) = ModeFits mode step
 PredictionFits h p area (predictions.FromLuma alpha) = FromLumaFits area alpha
-PredictionFits h p area (predictions.Single mode reference mv) = SingleFits h p area mode reference
-PredictionFits h p area (predictions.Compound mode references mvs) = CompoundFits h p area mode references
+PredictionFits h p area (predictions.Single mode reference mv) =
+    KindFits h p (leaf_area area) (Single mode reference mv)
+PredictionFits h p area (predictions.Compound mode references mvs) =
+    KindFits h p (leaf_area area) (Compound mode references mvs)
+PredictionFits h p area (predictions.Parts parts) = PartsFit h p (leaf_area area) parts
 
 -- a block that is reconstructed: it lies in a plane's storage, its prediction and its transforms can be made, and its
 -- triples fit and rise
@@ -364,19 +382,25 @@ pub record Begins (h : Header) (component : Component) (leaf : LeafValue) : Type
       (number component)
   pub row : (plane_area h leaf.x leaf.y leaf.size leaf.tx_size (number component)).y < plane_height h (number component)
 
--- each of a leaf's blocks can be reconstructed in its plane, whatever the edge filter is told
+-- what the leaves before a leaf say of it: where it has parts, each of these can be predicted
+abbrev pub NearServes : Header → Nearby → Type 0
+NearServes h near = IfSome near.parts (PartsServe h)
+
+-- each of a leaf's blocks can be reconstructed in its plane, whatever the leaves before it say, and it serves later
+-- ones
 pub record LeafFits {T : Type 0} (h : Header) (planes : Planes T) (leaf : LeafValue) : Type 0 where
   pub begins_y : Begins h Y leaf
   pub begins_u : carries_chroma h leaf.x leaf.y leaf.size ≡ true → Begins h U leaf
   pub begins_v : carries_chroma h leaf.x leaf.y leaf.size ≡ true → Begins h V leaf
   pub luma : carries_chroma h leaf.x leaf.y leaf.size ≡ true → is_from_luma leaf.kind ≡ true →
       LumaFits h planes.y.plane_cfg leaf
-  pub y : (filter : Option IntraEdgeFilterParameters) →
-      BlockFits planes.y.plane_cfg h (block_told h filter Y leaf) (triples_in Y leaf)
-  pub u : carries_chroma h leaf.x leaf.y leaf.size ≡ true → (filter : Option IntraEdgeFilterParameters) →
-      BlockFits planes.u.plane_cfg h (block_told h filter U leaf) (triples_in U leaf)
-  pub v : carries_chroma h leaf.x leaf.y leaf.size ≡ true → (filter : Option IntraEdgeFilterParameters) →
-      BlockFits planes.v.plane_cfg h (block_told h filter V leaf) (triples_in V leaf)
+  pub y : (near : Nearby) → NearServes h near →
+      BlockFits planes.y.plane_cfg h (block_told h near Y leaf) (triples_in Y leaf)
+  pub u : carries_chroma h leaf.x leaf.y leaf.size ≡ true → (near : Nearby) → NearServes h near →
+      BlockFits planes.u.plane_cfg h (block_told h near U leaf) (triples_in U leaf)
+  pub v : carries_chroma h leaf.x leaf.y leaf.size ≡ true → (near : Nearby) → NearServes h near →
+      BlockFits planes.v.plane_cfg h (block_told h near V leaf) (triples_in V leaf)
+  pub serves : is_inter leaf.kind ≡ true → KindServes h leaf.kind
 
 -- ---- the record of cells
 
@@ -395,12 +419,9 @@ pub record HasCells (h : Header) (cells : CodedCells) : Type 0 where
 abbrev pub Told : Type 0
 Told = (cx cy : ℕ) → CodedBlockInfo
 
--- what is told once a leaf is noted in each of its cells, and once leaves are, one after the other
+-- what is told once a leaf is noted in each of its cells
 abbrev pub with_leaf : Told → LeafValue → Told
 with_leaf told leaf = λ cx cy. if leaf_holds leaf cx cy then coded_info leaf.kind else told cx cy
-
-abbrev pub with_leaves : Told → List LeafValue → Told
-with_leaves told leaves = fold with_leaf told leaves
 
 -- what is told of the sample at column x of row y of plane p: what is told of the last cell of the sample's unit
 abbrev pub told_by : Header → Told → (p x y : ℕ) → CodedBlockInfo
@@ -417,18 +438,6 @@ abbrev pub filter_by : Header → Told → Component → LeafValue → Option In
 filter_by h told component leaf =
     parameters_by h told (number component) (plane_area h leaf.x leaf.y leaf.size leaf.tx_size (number component))
 
--- a leaf's block in a plane, and its steps
-abbrev pub block_by : Header → Told → Component → LeafValue → PlaneBlock
-block_by h told component leaf = block_told h (filter_by h told component leaf) component leaf
-
-abbrev pub leaf_steps_by : Header → Told → LeafValue → List PlaneStep
-leaf_steps_by h told leaf = steps_of h (λ component. block_by h told component leaf) leaf
-
--- the steps of leaves in coding order, each noted once it is reconstructed
-abbrev pub steps_by : Header → Told → List LeafValue → List PlaneStep
-steps_by h told [] = []
-steps_by h told (leaf ∷ leaves) = leaf_steps_by h told leaf ++ steps_by h (with_leaf told leaf) leaves
-
 -- a leaf and its triples in each plane
 abbrev pub leaf_with : Leaf → List Triple → List Triple → List Triple → LeafValue
 leaf_with l y u v = record {
@@ -442,15 +451,79 @@ leaf_with l y u v = record {
   triples = y ∷ u ∷ v ∷ [];
 }
 
+-- ---- leaves that share a block
+
+-- of each luma cell the kind of the leaf that was noted last in it, where that is predicted from references
+abbrev pub Movers : Type 0
+Movers = (cx cy : ℕ) → Option LeafKind
+
+-- none is noted yet; once a leaf is; and once leaves are, one after the other
+abbrev pub no_movers : Movers
+no_movers = λ cx cy. None
+
+abbrev pub with_mover : Movers → LeafValue → Movers
+with_mover movers leaf = λ cx cy. if leaf_holds leaf cx cy then moved (Some leaf) else movers cx cy
+
+abbrev pub movers_of : List Leaf → Movers
+movers_of leaves = fold (λ movers leaf. with_mover movers (leaf_with leaf [] [] [])) no_movers leaves
+
+-- each can be predicted
+abbrev pub MoversServe : Header → Movers → Type 0
+MoversServe h movers = (cx cy : ℕ) (kind : LeafKind) → movers cx cy ≡ Some kind → KindServes h kind
+
+-- the parts of a leaf's block in plane p
+abbrev pub parts_by : Header → Movers → (p : ℕ) → LeafValue → Option Parts
+parts_by h movers p leaf =
+    parts_at (is_narrow leaf.size (xdec h p)) (is_low leaf.size (ydec h p)) (with_mover movers leaf) (leaf.x / 4)
+    (leaf.y / 4)
+
+-- ---- steps by what is known
+
+-- what is known of the leaves before one
+pub record Known : Type 0 where
+  pub told : Told
+  pub movers : Movers
+
+-- no leaf came before, whatever the record of cells tells
+abbrev pub at_start : Told → Known
+at_start told = record { told = told; movers = no_movers }
+
+-- one more leaf came, and more
+abbrev pub with_known : Known → LeafValue → Known
+with_known known leaf =
+    record { told = with_leaf known.told leaf; movers = with_mover known.movers leaf }
+
+abbrev pub with_all_known : Known → List LeafValue → Known
+with_all_known known leaves = fold with_known known leaves
+
+-- what it says of a leaf's block in a plane, the block, and its steps
+abbrev pub near_by : Header → Known → Component → LeafValue → Nearby
+near_by h known component leaf = record {
+  filter = filter_by h known.told component leaf;
+  parts = parts_by h known.movers (number component) leaf;
+}
+
+abbrev pub block_by : Header → Known → Component → LeafValue → PlaneBlock
+block_by h known component leaf = block_told h (near_by h known component leaf) component leaf
+
+abbrev pub leaf_steps_by : Header → Known → LeafValue → List PlaneStep
+leaf_steps_by h known leaf = steps_of h (λ component. block_by h known component leaf) leaf
+
+-- the steps of leaves in coding order, each known once it is reconstructed
+abbrev pub steps_by : Header → Known → List LeafValue → List PlaneStep
+steps_by h known [] = []
+steps_by h known (leaf ∷ leaves) = leaf_steps_by h known leaf ++ steps_by h (with_known known leaf) leaves
+
 -- ---- the frame that is walked
 
--- its header is one that can be read, of a depth that samples of so many bits have; the record is one of its cells, and
--- its settings serve a plan with that header
+-- its header is one that can be read, of a depth that samples of so many bits have; the record is one of its cells, its
+-- settings serve a plan with that header, and so do the leaves before
 pub record IsWalked {T : Type 0} (num : T → ℕ) (bits : ℕ) (frame : WalkedFrame T) : Type 0 where
   pub header : IsReadFrame frame.header.now
   pub depth : frame.header.now.depth ≤ bits
   pub cells : HasCells frame.header.now frame.cells.now
   pub references : (value : PlanValue) × ServesPlan num (with_header frame.header.now value) frame.fi.now
+  pub movers : MoversServe frame.header.now (movers_of frame.earlier.now)
 
 -- plane p of a frame that can be read, of a depth that samples of so many bits have
 pub record HoldsPlane {T : Type 0} (num : T → ℕ) (bits : ℕ) (h : Header) (p : ℕ) (plane : Plane T) : Type 0 where
@@ -484,6 +557,10 @@ Walks num pixel h block luma steps before after =
     fold (fast_in num pixel (with_header h value) block.plane (λ _. ac_at (tx_width block.area.tx_size) luma))
     before steps
 
+-- what it knows of the leaves before
+abbrev pub known_in : {T : Type 0} → WalkedFrame T → Known
+known_in frame = record { told = cell_at frame.cells.now; movers = movers_of frame.earlier.now }
+
 -- a leaf's block in plane p of it
 abbrev pub block_in : {T : Type 0} → WalkedFrame T → (p : ℕ) → Leaf → PlaneBlock
-block_in frame p leaf = block_by frame.header.now (cell_at frame.cells.now) (component p) (leaf_with leaf [] [] [])
+block_in frame p leaf = block_by frame.header.now (known_in frame) (component p) (leaf_with leaf [] [] [])

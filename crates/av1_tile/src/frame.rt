@@ -2,7 +2,7 @@
 
 use crate::cells::CodedCells;
 use av1_frame::FrameInvariants;
-use av1_plan::Header;
+use av1_plan::{Header, Leaf};
 
 /// What the walk reads of the frame that it reconstructs.
 #[derive(Clone, Copy)]
@@ -13,4 +13,6 @@ pub struct WalkedFrame<'a, T> {
     pub fi: &'a FrameInvariants<T>,
     /// What is told of the leaves before.
     pub cells: &'a CodedCells,
+    /// The leaves before, in coding order.
+    pub earlier: &'a [Leaf],
 }

@@ -2,11 +2,16 @@
 
 ghost use Rattle.av1_tile.specs.Lookups.{OutputIsThere, StepsAreAnswered, StepsFindSamples};
 ghost use Rattle.av1_tile.specs.Residues.{SamplesAreSums};
-ghost use Rattle.av1_tile.specs.Versions.{EarlierKeepFilter, EarlyAgree, ElsewhereAgree, VersionsShowTheSame};
+ghost use Rattle.av1_tile.specs.Versions.{EarlierKeepFilter, EarlierShareNone, EarlyAgree, ElsewhereAgree, VersionsShowTheSame};
 
 /// A law: the planes of a plan are the same in each version of the plan format by whose rules its frame goes.
 pub fn versions_show_the_same()
     ensures { VersionsShowTheSame }
+{}
+
+/// A law: in the first two versions no leaves share a block of chroma that is predicted from references.
+pub fn earlier_versions_share_no_chroma()
+    ensures { EarlierShareNone }
 {}
 
 /// A law: in the first and the second version the filter along a side up to 4 is rav1e's, as along all other sides.

@@ -9,7 +9,7 @@ ghost use Rattle.av1_references.specs.References.{ServesPlan};
 ghost use Rattle.av1_tile.specs.PlaneBlocks.{is_from_luma};
 ghost use Rattle.av1_tile.specs.Predicted.{keeping_step};
 ghost use Rattle.av1_tile.specs.Reference.{luma_of};
-ghost use Rattle.av1_tile.specs.Walk.{cell_at, edges_after, leaf_steps_by, fast_step, leaf_with, luma_block, LeafFits, LumaFits, Stores};
+ghost use Rattle.av1_tile.specs.Walk.{known_in, edges_after, leaf_steps_by, fast_step, leaf_with, luma_block, LeafFits, LumaFits, Stores};
 ghost use Rattle.av1_tile.specs.Walk.{IsWalked, KeepsPlanes, StoresAll, with_header};
 
 use crate::buffers::WalkBuffers;
@@ -81,13 +81,13 @@ pub fn reconstruct_leaf<T: Pixel>(
     requires fits { LeafFits frame.now.header.now planes.old (leaf_with leaf.now y.now u.now v.now) }
     ensures walked { let h = frame.now.header.now in let l = leaf_with leaf.now y.now u.now v.now in
         (value : PlanValue) → ServesPlan T.num (with_header h value) frame.now.fi.now
-        → planes.new ≡ fold (fast_step T.num T.pixel (with_header h value)) planes.old (leaf_steps_by h (cell_at frame.now.cells.now) l) }
+        → planes.new ≡ fold (fast_step T.num T.pixel (with_header h value)) planes.old (leaf_steps_by h (known_in frame.now) l) }
     ensures counted { let l = leaf_with leaf.now y.now u.now v.now in buffers.new.edges.prepared ≡
-        fold edges_after buffers.old.edges.prepared (leaf_steps_by frame.now.header.now (cell_at frame.now.cells.now) l) }
+        fold edges_after buffers.old.edges.prepared (leaf_steps_by frame.now.header.now (known_in frame.now) l) }
     ensures kept { KeepsPlanes T.num frame.now.header.now planes.old planes.new }
     ensures predictions { let h = frame.now.header.now in let l = leaf_with leaf.now y.now u.now v.now in
         (value : PlanValue) → ServesPlan T.num (with_header h value) frame.now.fi.now → (planes.new, buffers.new.kept) ≡
-        fold (keeping_step T.num T.pixel (with_header h value)) (planes.old, buffers.old.kept) (leaf_steps_by h (cell_at frame.now.cells.now) l) }
+        fold (keeping_step T.num T.pixel (with_header h value)) (planes.old, buffers.old.kept) (leaf_steps_by h (known_in frame.now) l) }
 {
     let header = frame.header;
     reconstruct_leaf_in(&mut planes.y, buffers, frame, leaf, 0, y);

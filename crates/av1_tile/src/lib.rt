@@ -2,9 +2,10 @@
 //!
 //! A [`TileState`] holds the three planes of a frame and the references that it is predicted from, and
 //! [`reconstruct_tile`] writes into the planes what a valid plan says. It goes through the leaves in coding order, and
-//! through the parts that each covers in Y, U and V. A part is predicted from references over its whole area at once,
-//! or else block by block, each transform block from the samples above and left of it; the residues of its transform
-//! blocks are added in raster order. Places and sides are in samples of the plane at hand. A block that begins in the
+//! through the part that each covers in Y, U and V. Such a part is predicted from references over its whole area at
+//! once, or else block by block, each transform block from the samples above and left of it; the residues of its
+//! transform blocks are added in raster order. Chroma that small leaves from references share is predicted by each over
+//! its own luma. Places and sides are in samples of the plane at hand. A block that begins in the
 //! frame is written whole, though it may reach beyond; where a side of a block reaches beyond, it goes on with its last
 //! sample in the frame, and at the frame's left and upper ends it is a number close to mid-grey. Of a reference, the
 //! nearest sample in the frame stands for each that lies beyond it.
@@ -30,21 +31,24 @@ mod frame;
 mod laws;
 mod leaf;
 mod memory;
+mod parts;
 mod plane_block;
 mod planes;
 mod predicted;
 mod recon;
+mod shared;
 mod state;
 mod tile;
 mod walk;
 
 pub use extent::PlaneExtent;
 pub use laws::{
-    earlier_versions_keep_the_short_filter, look_ups_find_samples, samples_are_sums,
-    versions_agree_early, versions_agree_elsewhere, versions_show_the_same,
+    earlier_versions_keep_the_short_filter, earlier_versions_share_no_chroma,
+    look_ups_find_samples, samples_are_sums, versions_agree_early, versions_agree_elsewhere,
+    versions_show_the_same,
 };
 pub use memory::WalkMemory;
-pub use plane_block::{LumaBlock, PlaneBlock, Prediction};
+pub use plane_block::{LumaBlock, Nearby, Parts, PlaneBlock, Prediction};
 pub use planes::{Planes, visible_row};
 pub use predicted::{PredictedPlane, PredictedPlanes};
 pub use recon::{PredictedTile, reconstruct_tile, reconstruct_with_predictions};

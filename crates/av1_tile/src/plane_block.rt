@@ -2,11 +2,10 @@
 //!
 //! AV1 specification: residual syntax, which goes over the planes of a block.
 
-ghost use Rattle.std.specs.Prelude.{◌≡◌, ◌<◌, ℤ, Option};
+ghost use Rattle.std.specs.Prelude.{◌≡◌, ◌<◌, ℤ};
 ghost use Rattle.av1_blocks.specs.declared.predict.PredictionMode.{PredictionMode};
-ghost use Rattle.av1_intra.specs.declared.neighbours.IntraEdgeFilterParameters.{IntraEdgeFilterParameters};
 ghost use Rattle.av1_plan.specs.declared.leaf.LeafKind.TheVariants.{Intra};
-ghost use Rattle.av1_tile.specs.PlaneBlocks.{component, prediction_in, type_in};
+ghost use Rattle.av1_tile.specs.PlaneBlocks.{component, prediction_in, shared, type_in};
 ghost use Rattle.av1_tile.specs.Walk.{leaf_with};
 ghost use Rattle.std.specs.Prelude.{[]};
 
@@ -40,6 +39,35 @@ pub enum Prediction {
         references: [RefType; 2],
         mvs: [MotionVector; 2],
     },
+    /// In parts, each from the references of its own leaf.
+    Parts(Parts),
+}
+
+/// The parts of a block of chroma that leaves from references share: its halves or its quarters, of which each is
+/// predicted as its leaf says.
+#[derive(Clone, Copy, Debug, PartialEq, Eq)]
+pub struct Parts {
+    /// Whether there are two columns of parts.
+    pub narrow: bool,
+    /// Whether there are two rows of parts.
+    pub low: bool,
+    /// The leaf of the part in the upper left; where there is one column or one row alone, a part is named twice.
+    pub corner: LeafKind,
+    /// The leaf of the part in the upper right.
+    pub over: LeafKind,
+    /// The leaf of the part in the lower left.
+    pub side: LeafKind,
+    /// The leaf of the part in the lower right, which carries the chroma.
+    pub own: LeafKind,
+}
+
+/// What a leaf's block in a plane takes from the leaves before it.
+#[derive(Clone, Copy, Debug, PartialEq, Eq)]
+pub struct Nearby {
+    /// What the edge filter is told of the neighbours, where it is on.
+    pub filter: Option<IntraEdgeFilterParameters>,
+    /// The parts of the block, where leaves from references share it.
+    pub parts: Option<Parts>,
 }
 
 /// A leaf in luma: its place in samples, its size and the size of its transforms.
@@ -71,14 +99,11 @@ pub struct PlaneBlock {
 }
 
 /// How an intra leaf predicts plane `p` of chroma.
-fn chroma_prediction(
-    chroma: Option<ChromaMode>,
-    p: usize,
-    filter: Option<IntraEdgeFilterParameters>,
-) -> Prediction
+fn chroma_prediction(chroma: Option<ChromaMode>, p: usize, near: Nearby) -> Prediction
     requires { 0 < p }
-    ensures { (mode : PredictionMode) (step : ℤ) → result ≡ prediction_in filter (component p) (Intra mode step chroma) }
+    ensures { (mode : PredictionMode) (step : ℤ) → result ≡ prediction_in near (component p) (Intra mode step chroma) }
 {
+    let filter = near.filter;
     match chroma {
         Some(ChromaMode::Plain { mode, step }) => Prediction::Intra { mode, step, filter },
         Some(ChromaMode::Cfl { alpha_u, alpha_v }) => Prediction::FromLuma {
@@ -92,36 +117,56 @@ fn chroma_prediction(
     }
 }
 
+/// The prediction of a leaf from references: in parts, where others share its block, or else its own.
+fn shared(parts: Option<Parts>, own: Prediction) -> Prediction
+    ensures { result ≡ shared parts own }
+{
+    match parts {
+        Some(parts) => Prediction::Parts(parts),
+        None => own,
+    }
+}
+
 /// How a leaf predicts plane `p`.
-fn prediction_of(kind: LeafKind, p: usize, filter: Option<IntraEdgeFilterParameters>) -> Prediction
-    ensures { result ≡ prediction_in filter (component p) kind }
+fn prediction_of(kind: LeafKind, p: usize, near: Nearby) -> Prediction
+    ensures { result ≡ prediction_in near (component p) kind }
 {
     match kind {
         LeafKind::Intra { mode, step, chroma } => {
             if p == 0 {
-                Prediction::Intra { mode, step, filter }
+                Prediction::Intra {
+                    mode,
+                    step,
+                    filter: near.filter,
+                }
             } else {
-                chroma_prediction(chroma, p, filter)
+                chroma_prediction(chroma, p, near)
             }
         }
         LeafKind::Single {
             mode,
             reference,
             mv,
-        } => Prediction::Single {
-            mode,
-            reference,
-            mv,
-        },
+        } => shared(
+            near.parts,
+            Prediction::Single {
+                mode,
+                reference,
+                mv,
+            },
+        ),
         LeafKind::Compound {
             mode,
             references,
             mvs,
-        } => Prediction::Compound {
-            mode,
-            references,
-            mvs,
-        },
+        } => shared(
+            near.parts,
+            Prediction::Compound {
+                mode,
+                references,
+                mvs,
+            },
+        ),
     }
 }
 
@@ -141,16 +186,11 @@ impl PlaneBlock {
     ghost use Rattle.av1_tile.specs.PlaneBlocks.{block_told, component};
     ghost use Rattle.av1_tile.specs.Walk.{leaf_with};
 
-    /// The block of a leaf in plane `p`, where the edge filter is told `filter` of its neighbours.
+    /// The block of a leaf in plane `p`, of which the leaves before it say `near`.
     #[inline(always)]
-    pub fn of_leaf(
-        header: &Header,
-        leaf: &Leaf,
-        p: usize,
-        filter: Option<IntraEdgeFilterParameters>,
-    ) -> PlaneBlock
+    pub fn of_leaf(header: &Header, leaf: &Leaf, p: usize, near: Nearby) -> PlaneBlock
         requires { p < 3 }
-        ensures { result ≡ block_told header.now filter (component p) (leaf_with leaf.now [] [] []) }
+        ensures { result ≡ block_told header.now near (component p) (leaf_with leaf.now [] [] []) }
     {
         PlaneBlock {
             plane: p,
@@ -161,7 +201,7 @@ impl PlaneBlock {
                 tx_size: leaf.tx_size,
             },
             area: leaf.plane_area(header, p),
-            prediction: prediction_of(leaf.kind, p, filter),
+            prediction: prediction_of(leaf.kind, p, near),
             tx_type: type_of(leaf, p),
         }
     }

@@ -4,7 +4,7 @@ ghost use Rattle.std.specs.Prelude.{◌≡◌, ◌+◌, ◌*◌, ◌<◌, length
 ghost use Rattle.av1_frame.specs.Areas.{AreRows};
 ghost use Rattle.av1_frame.specs.Planes.{InPlane, sample_at};
 ghost use Rattle.av1_frame.specs.Samples.{paint};
-ghost use Rattle.av1_tile.specs.Predicted.{visible_in};
+ghost use Rattle.av1_references.specs.References.{visible_in};
 
 use av1_blocks::OutOfMemory;
 use av1_frame::{Pixel, Plane, StoredArea, copy_row, zero_samples};
@@ -49,7 +49,8 @@ impl<T: Pixel> PredictedPlane<T> {
     ghost use Rattle.std.specs.Prelude.{◌≡◌, IfOk, [], ◌<◌};
     ghost use Rattle.av1_frame.specs.Planes.{InPlane};
     ghost use Rattle.av1_plan.specs.ReadPlans.{IsReadFrame};
-    ghost use Rattle.av1_tile.specs.Predicted.{copied, no_rows, visible_in};
+    ghost use Rattle.av1_references.specs.References.{visible_in};
+    ghost use Rattle.av1_tile.specs.Predicted.{copied, no_rows};
 
     /// A plane in which nothing is kept.
     pub(crate) fn none(alloc: Global) -> PredictedPlane<T>
@@ -121,7 +122,8 @@ impl<T: Pixel> PredictedPlanes<T> {
     ghost use Rattle.av1_frame.specs.Planes.{InPlane};
     ghost use Rattle.av1_plan.specs.ReadPlans.{IsReadFrame};
     ghost use Rattle.av1_tile.specs.PlaneBlocks.{component};
-    ghost use Rattle.av1_tile.specs.Predicted.{AreBlank, copied, rows_in, visible_in, with_rows};
+    ghost use Rattle.av1_references.specs.References.{visible_in};
+    ghost use Rattle.av1_tile.specs.Predicted.{AreBlank, copied, rows_in, with_rows};
 
     /// Planes in which nothing is kept.
     pub(crate) fn none(alloc: Global) -> PredictedPlanes<T> {

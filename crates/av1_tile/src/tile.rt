@@ -6,7 +6,7 @@ ghost use Rattle.av1_plan.specs.Values.{leaves_value};
 ghost use Rattle.av1_plan.specs.Plan.{PlanValue};
 ghost use Rattle.av1_references.specs.References.{ServesPlan};
 ghost use Rattle.av1_tile.specs.Predicted.{keeping_step};
-ghost use Rattle.av1_tile.specs.Walk.{cell_at, edges_after, fast_step, steps_by, HasCells, HoldsPlanes, KeepsPlanes, LeafFits, with_header};
+ghost use Rattle.av1_tile.specs.Walk.{at_start, cell_at, edges_after, fast_step, steps_by, HasCells, HoldsPlanes, KeepsPlanes, LeafFits, with_header};
 
 use crate::buffers::WalkBuffers;
 use crate::cells::CodedCells;
@@ -32,15 +32,16 @@ pub fn reconstruct_leaves<T: Pixel>(
     requires references { (value : PlanValue) × ServesPlan T.num (with_header header.now value) fi.now }
     ensures walked { (value : PlanValue) → ServesPlan T.num (with_header header.now value) fi.now
         → planes.new ≡
-        fold (fast_step T.num T.pixel (with_header header.now value)) planes.old (steps_by header.now (cell_at cells.old) (leaves_value leaves.now)) }
+        fold (fast_step T.num T.pixel (with_header header.now value)) planes.old
+        (steps_by header.now (at_start (cell_at cells.old)) (leaves_value leaves.now)) }
     ensures counted { buffers.new.edges.prepared ≡
-        fold edges_after buffers.old.edges.prepared (steps_by header.now (cell_at cells.old) (leaves_value leaves.now)) }
+        fold edges_after buffers.old.edges.prepared (steps_by header.now (at_start (cell_at cells.old)) (leaves_value leaves.now)) }
     ensures kept { KeepsPlanes T.num header.now planes.old planes.new }
     ensures cells { HasCells header.now cells.new }
     ensures count { length cells.new.cells.items ≡ length cells.old.cells.items }
     ensures predictions { (value : PlanValue) → ServesPlan T.num (with_header header.now value) fi.now → (planes.new, buffers.new.kept) ≡
         fold (keeping_step T.num T.pixel (with_header header.now value)) (planes.old, buffers.old.kept)
-        (steps_by header.now (cell_at cells.old) (leaves_value leaves.now)) }
+        (steps_by header.now (at_start (cell_at cells.old)) (leaves_value leaves.now)) }
 {
     for index in 0..leaves.leaves().len() {
         let leaf = &leaves.leaves()[index];
@@ -48,6 +49,7 @@ pub fn reconstruct_leaves<T: Pixel>(
             header,
             fi,
             cells: &*cells,
+            earlier: &leaves.leaves()[..index],
         };
         reconstruct_leaf(
             planes,

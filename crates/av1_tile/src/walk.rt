@@ -5,31 +5,30 @@ ghost use Rattle.std.specs.List.{fold};
 ghost use Rattle.av1_blocks.specs.Transforms.{tx_width};
 ghost use Rattle.av1_frame.specs.Planes.{InPlane};
 ghost use Rattle.av1_intra.specs.ChromaFromLuma.{ac_at};
+ghost use Rattle.av1_order.specs.Plans.{is_inter};
 ghost use Rattle.av1_plan.specs.Plan.{PlanValue};
 ghost use Rattle.av1_references.specs.References.{ServesPlan, leaf_area};
 ghost use Rattle.av1_plan.specs.Geometry.{blocks_across, block_count, transform_block};
 ghost use Rattle.av1_plan.specs.ReadPlans.{IsReadFrame};
 ghost use Rattle.av1_plan.specs.declared.leaf.Triple.{Triple};
-ghost use Rattle.av1_tile.specs.Canvas.Component.{Y};
-ghost use Rattle.av1_tile.specs.PlaneBlocks.{block_told, component, is_whole, prediction_in};
-ghost use Rattle.av1_tile.specs.Predicted.{WalksKeeping, keeping_in, kept_in};
+ghost use Rattle.av1_tile.specs.PlaneBlocks.{block_told, component, is_whole};
+ghost use Rattle.av1_tile.specs.Predicted.{WalksKeeping, keeping_in, kept_in, stored_in};
 ghost use Rattle.av1_tile.specs.Reference.{no_luma};
 ghost use Rattle.av1_tile.specs.Steps.{own_prediction, whole_steps, plane_steps, steps_at, joined};
-ghost use Rattle.av1_tile.specs.Walk.{area_at, block_by, cell_at, Begins, edges_in, fast_in, leaf_with, BlockFits, HasCells, IsPlaceIn};
+ghost use Rattle.av1_tile.specs.Walk.{area_at, Begins, edges_in, fast_in, leaf_with, BlockFits, HasCells, IsPlaceIn};
 ghost use Rattle.av1_tile.specs.Walk.{block_in, HoldsPlane, IsWalked, KeepsPlane, PredictionFits, Stores, Walks, with_header};
 
 use crate::block::{BlockPlace, EdgePrediction, add_block, predict_from_edge};
 use crate::buffers::WalkBuffers;
-use crate::cells::CodedCells;
 use crate::frame::WalkedFrame;
-use crate::plane_block::{PlaneBlock, Prediction};
+use crate::parts::{predict_kind, predict_parts};
+use crate::plane_block::{Nearby, PlaneBlock, Prediction};
 use crate::predicted::PredictedPlanes;
+use crate::shared::parts_in;
 use av1_blocks::{IntraParam, PredictionMode};
 use av1_frame::{FrameInvariants, Pixel, Plane, StoredArea};
 use av1_inter::InterCompoundBuffers;
-use av1_intra::IntraEdgeFilterParameters;
-use av1_plan::{Header, Leaf, LeafKind, Triple};
-use av1_references::{predict_compound, predict_single};
+use av1_plan::{Header, Leaf, LeafKind, PlaneArea, Triple};
 
 /// Where the block of number `index` begins, of blocks with sides of `side` samples from `start` on.
 fn block_start(start: u16, index: usize, side: usize) -> usize
@@ -112,7 +111,7 @@ fn predict_block<T: Pixel>(
             };
             predict_from_edge(plane, edges, luma, header, block, at, how);
         }
-        Prediction::Single { .. } | Prediction::Compound { .. } => {}
+        Prediction::Single { .. } | Prediction::Compound { .. } | Prediction::Parts(_) => {}
     }
 }
 
@@ -121,7 +120,7 @@ fn is_whole(prediction: Prediction) -> bool
     ensures { result ≡ is_whole prediction }
 {
     match prediction {
-        Prediction::Single { .. } | Prediction::Compound { .. } => true,
+        Prediction::Single { .. } | Prediction::Compound { .. } | Prediction::Parts(_) => true,
         Prediction::Intra { .. } | Prediction::FromLuma { .. } => false,
     }
 }
@@ -150,6 +149,18 @@ fn keep_block<T: Pixel>(
     kept.keep(block.plane, plane, area);
 }
 
+/// The rectangle of a leaf's whole area in a plane.
+fn whole_area(area: PlaneArea) -> StoredArea
+    ensures { result ≡ stored_in (leaf_area area) }
+{
+    StoredArea {
+        x: usize::from(area.x),
+        y: usize::from(area.y),
+        width: area.size.width(),
+        height: area.size.height(),
+    }
+}
+
 /// Keeps the prediction of a leaf's whole area in a plane, where it is predicted from references.
 fn keep_whole<T: Pixel>(kept: &mut PredictedPlanes<T>, plane: &Plane<T>, block: &PlaneBlock)
     requires fits { InPlane (leaf_area block.now.area) plane.now }
@@ -158,14 +169,7 @@ fn keep_whole<T: Pixel>(kept: &mut PredictedPlanes<T>, plane: &Plane<T>, block: 
     if !is_whole(block.prediction) {
         return;
     }
-    let size = block.area.size;
-    let area = StoredArea {
-        x: usize::from(block.area.x),
-        y: usize::from(block.area.y),
-        width: size.width(),
-        height: size.height(),
-    };
-    kept.keep(block.plane, plane, area);
+    kept.keep(block.plane, plane, whole_area(block.area));
 }
 
 /// A transform block that begins in the frame: it is predicted, unless its leaf is from references, and its residue is
@@ -284,22 +288,33 @@ fn predict_whole<T: Pixel>(
         → plane.new ≡ fold (fast_in T.num T.pixel value block.now.plane (λ _. no_luma)) plane.old (whole_steps block.now) }
 {
     let p = block.plane;
-    let area = block.area;
+    let area = whole_area(block.area);
     match block.prediction {
         Prediction::Single {
             mode,
             reference,
             mv,
         } => {
-            predict_single(plane, fi, p, mode, area, reference, mv);
+            let kind = LeafKind::Single {
+                mode,
+                reference,
+                mv,
+            };
+            predict_kind(plane, compound, fi, p, kind, area);
         }
         Prediction::Compound {
             mode,
             references,
             mvs,
         } => {
-            predict_compound(plane, fi, p, mode, area, references, mvs, compound);
+            let kind = LeafKind::Compound {
+                mode,
+                references,
+                mvs,
+            };
+            predict_kind(plane, compound, fi, p, kind, area);
         }
+        Prediction::Parts(parts) => predict_parts(plane, compound, fi, p, parts, area),
         Prediction::Intra { .. } | Prediction::FromLuma { .. } => {}
     }
 }
@@ -340,7 +355,7 @@ fn reconstruct_plane_block<T: Pixel>(
 
 /// Whether a leaf is predicted from references.
 fn is_from_references(kind: LeafKind) -> bool
-    ensures { result ≡ is_whole (prediction_in None Y kind) }
+    ensures { result ≡ is_inter kind }
 {
     match kind {
         LeafKind::Single { .. } | LeafKind::Compound { .. } => true,
@@ -348,25 +363,27 @@ fn is_from_references(kind: LeafKind) -> bool
     }
 }
 
-/// What the edge filter is told at a leaf in plane `p`, where it is on. A leaf that is predicted from references has no
-/// edge.
-fn filter_at(
-    header: &Header,
-    cells: &CodedCells,
-    leaf: &Leaf,
-    p: usize,
-) -> Option<IntraEdgeFilterParameters>
-    requires frame { IsReadFrame header.now }
+/// What the leaves before a leaf say of its block in plane `p`. One that is predicted from references has no edge, one
+/// that isn't shares no block.
+fn near_leaf<T>(frame: &WalkedFrame<'_, T>, leaf: &Leaf, p: usize) -> Nearby
+    requires frame { IsReadFrame frame.now.header.now }
     requires plane { p < 3 }
-    requires cells { HasCells header.now cells.now }
-    requires begins { Begins header.now (component p) (leaf_with leaf.now [] [] []) }
-    ensures { let l = leaf_with leaf.now [] [] []
-        in block_told header.now result (component p) l ≡ block_by header.now (cell_at cells.now) (component p) l }
+    requires cells { HasCells frame.now.header.now frame.now.cells.now }
+    requires begins { Begins frame.now.header.now (component p) (leaf_with leaf.now [] [] []) }
+    ensures { block_told frame.now.header.now result (component p) (leaf_with leaf.now [] [] []) ≡ block_in frame.now p leaf.now }
 {
+    let header = frame.header;
     if is_from_references(leaf.kind) {
-        return None;
+        return Nearby {
+            filter: None,
+            parts: parts_in(header, frame.earlier, leaf, p),
+        };
     }
-    cells.filter_parameters(header, p, leaf.plane_area(header, p))
+    let area = leaf.plane_area(header, p);
+    Nearby {
+        filter: frame.cells.filter_parameters(header, p, area),
+        parts: None,
+    }
 }
 
 /// The block of a leaf in plane `p`.
@@ -397,7 +414,7 @@ pub fn reconstruct_leaf_in<T: Pixel>(
         (plane.old, buffers.old.kept) (plane_steps h block triples.now) }
 {
     let header = frame.header;
-    let filter = filter_at(header, frame.cells, leaf, p);
-    let block = PlaneBlock::of_leaf(header, leaf, p, filter);
+    let near = near_leaf(frame, leaf, p);
+    let block = PlaneBlock::of_leaf(header, leaf, p, near);
     reconstruct_plane_block(plane, buffers, frame, &block, triples);
 }

@@ -1,4 +1,4 @@
-use Rattle.std.proofs.Common.{◌≤◌, arith, refl, ap, ◌∙◌, length, take, List, pos, [], None}
+use Rattle.std.proofs.Common.{◌≤◌, arith, refl, ap, subst, sym, ◌∙◌, length, take, List, pos, [], None}
 use Rattle.std.specs.List.{fold}
 use Rattle.std.proofs.lemmas.List.{take_all}
 use Rattle.av1_blocks.specs.declared.partition.BlockSize.TheVariants.{BLOCK_4X4}
@@ -11,10 +11,11 @@ use Rattle.av1_plan.specs.Values.{leaf_list, leaves_value, triple_list}
 use Rattle.av1_plan.specs.Plan.{LeafValue}
 use Rattle.av1_tile.specs.declared.planes.Planes.{Planes}
 use Rattle.av1_tile.specs.Predicted.{Keeping, keeping_step}
-use Rattle.av1_tile.specs.Walk.{cell_at, edges_after, fast_step, steps_by, with_header, with_leaves}
+use Rattle.av1_tile.specs.Walk.{Known, at_start, cell_at, edges_after, fast_step, movers_of, steps_by, with_all_known, with_header}
 use Rattle.av1_tile.proofs.Lifts.{layout_kept}
 use Rattle.av1_tile.proofs.PlanFits.{whole_frame}
-use Rattle.av1_tile.proofs.PlanLeaves.{is_leaf_at, leaf_more, leaf_read, length_leaves, told_more, turn_begins, turn_fits}
+use Rattle.av1_tile.proofs.PlanLeaves.{KnowSame, is_leaf_at, known_more, leaf_more, leaf_read, length_leaves, movers_serve, no_mover_serves, turn_begins}
+use Rattle.av1_tile.proofs.PlanLeaves.{turn_fits}
 use Rattle.av1_tile.proofs.tile.reconstruct_leaves.Goals as goal
 
 -- what a read past the end would give
@@ -40,7 +41,8 @@ loop-index-init g c = record {
   cells = c.requires.cells;
   count = refl;
   predictions = λ value serves. refl;
-  told = λ cx cy hx hy. refl;
+  known = record { told = λ cx cy hx hy. refl; movers = λ cx cy. refl };
+  movers = no_mover_serves c.args.header.now;
 }
 
 pub reconstruct_leaf-requires-clause-fits : goal.reconstruct_leaf-requires-clause-fits
@@ -63,10 +65,14 @@ loop-index-preserved g c =
     let a = is_leaf_at leaves i c.leaves.result.now no_leaf _ _ _ c.leaves.ensures.items
     (omega (arith, ap length c.leaves.ensures.items, ap length c.leaves-index-end.ensures.items)) c.triples.ensures c.triples-in-loop-index.ensures
     c.triples-in-loop-index-2.ensures in
-    let start = cell_at c.args.cells.now in
-    let told = cell_at c.loop-index.cells in
-    let own = leaf_read leaves h i _ _ _ _ told (with_leaves start (take i (leaves_value leaves))) a (whole_frame h c.requires.held.frame)
-    (turn_begins leaves h i _ _ _ _ c.args.planes.now a c.requires.fits) held.told in
+    let start = at_start (cell_at c.args.cells.now) in
+    let all = with_all_known start (take i (leaves_value leaves)) in
+    let known : List Leaf → Known = λ ls. record { told = cell_at c.loop-index.cells; movers = movers_of (take i ls) } in
+    let stored = c.leaves-in-loop-index.result.now in
+    let same : KnowSame h (known stored) all = subst (λ (ls : List Leaf). KnowSame h (known ls) all) (sym c.leaves-in-loop-index.ensures.items) held.known in
+    let own = leaf_read leaves h i _ _ _ _ (known stored) all a (whole_frame h c.requires.held.frame)
+    (turn_begins leaves h i _ _ _ _ c.args.planes.now a c.requires.fits) same in
+    let fits = turn_fits leaves h i _ _ _ _ c.args.planes.now c.loop-index.planes a held.layout c.requires.fits in
     record {
       walked = λ value serves.
           let step = fast_step g.T.Pixel.num g.T.Pixel.pixel (with_header h value) in
@@ -86,8 +92,9 @@ loop-index-preserved g c =
           leaf_more keep leaves h i _ start (c.args.planes.now, c.args.buffers.now.kept) now
           (c.reconstruct_leaf.new.planes, c.reconstruct_leaf.new.buffers.kept) a.inside a.is (held.predictions value serves)
           (turn.predictions value serves ∙ ap (fold keep now) own);
-      told = told_more leaves h i _ start told (cell_at c.note.new.self) a.inside a.is held.told
+      known = known_more leaves h i _ start (cell_at c.loop-index.cells) (cell_at c.note.new.self) a.inside a.stored a.own a.is held.known
           (λ cx cy hx hy. c.note.ensures.noted cx cy (omega (arith, hx, held.cells.columns)) (omega (arith, hy, held.cells.rows)));
+      movers = movers_serve h (leaf_list leaves) i _ a.stored a.own held.movers fits.serves;
     }
 
 pub returns-clause-walked : goal.returns-clause-walked
@@ -98,7 +105,7 @@ returns-clause-walked g c = λ value serves.
     omega (arith, length_leaves (triple_list leaves) (leaf_list leaves), ap length c.leaves-index-end.ensures.items) in
     c.loop-index.invariant.walked value serves
     ∙ ap (λ (ls : List LeafValue). fold (fast_step g.T.Pixel.num g.T.Pixel.pixel (with_header c.args.header.now value)) c.args.planes.now
-    (steps_by c.args.header.now (cell_at c.args.cells.now) ls)) (take_all c.loop-index.index all past)
+    (steps_by c.args.header.now (at_start (cell_at c.args.cells.now)) ls)) (take_all c.loop-index.index all past)
 
 pub returns-clause-counted : goal.returns-clause-counted
 returns-clause-counted g c =
@@ -107,7 +114,7 @@ returns-clause-counted g c =
     let past : length all ≤ c.loop-index.index =
     omega (arith, length_leaves (triple_list leaves) (leaf_list leaves), ap length c.leaves-index-end.ensures.items) in
     c.loop-index.invariant.counted
-    ∙ ap (λ (ls : List LeafValue). fold edges_after c.args.buffers.now.edges.prepared (steps_by c.args.header.now (cell_at c.args.cells.now) ls))
+    ∙ ap (λ (ls : List LeafValue). fold edges_after c.args.buffers.now.edges.prepared (steps_by c.args.header.now (at_start (cell_at c.args.cells.now)) ls))
     (take_all c.loop-index.index all past)
 
 pub returns-clause-predictions : goal.returns-clause-predictions
@@ -117,4 +124,4 @@ returns-clause-predictions g c = λ value serves.
     omega (arith, length_leaves (triple_list leaves) (leaf_list leaves), ap length c.leaves-index-end.ensures.items) in
     c.loop-index.invariant.predictions value serves
     ∙ ap (λ (ls : List LeafValue). fold (keeping_step g.T.Pixel.num g.T.Pixel.pixel (with_header c.args.header.now value))
-    (c.args.planes.now, c.args.buffers.now.kept) (steps_by c.args.header.now (cell_at c.args.cells.now) ls)) (take_all c.loop-index.index _ past)
+    (c.args.planes.now, c.args.buffers.now.kept) (steps_by c.args.header.now (at_start (cell_at c.args.cells.now)) ls)) (take_all c.loop-index.index _ past)

@@ -1,91 +1,96 @@
-use Rattle.std.proofs.Common.{ℕ, ◌/◌, ◌^◌, ◌≤◌, ◌≡◌, List, subst}
-use Rattle.std.proofs.Math.Nat.{div-le_self, le_trans}
-use Rattle.av1_blocks.specs.Blocks.{block_width, block_height}
+use Rattle.std.proofs.Common.{ℕ, ◌≡◌, ◌∙◌, List, ap, refl, subst, sym}
 use Rattle.av1_blocks.specs.declared.mc.MotionVector.{MotionVector}
 use Rattle.av1_blocks.specs.declared.partition.RefType.{RefType}
 use Rattle.av1_blocks.specs.declared.predict.PredictionMode.{PredictionMode}
-use Rattle.av1_inter.specs.Reference.{reference_of}
+use Rattle.av1_frame.specs.declared.plane.Plane.{Plane}
+use Rattle.av1_frame.specs.Areas.{VisibleArea}
+use Rattle.av1_frame.specs.Planes.{painted_plane}
 use Rattle.av1_plan.specs.declared.geometry.PlaneArea.{PlaneArea}
 use Rattle.av1_plan.specs.declared.header.Header.{Header}
-use Rattle.av1_references.proofs.Served.{served}
+use Rattle.av1_plan.specs.declared.leaf.LeafKind.TheVariants as kinds
+use Rattle.av1_references.specs.References.{leaf_area, visible_in}
+use Rattle.av1_tile.specs.declared.plane_block.Parts.{Parts}
 use Rattle.av1_tile.specs.declared.plane_block.Prediction.{Prediction}
-use Rattle.av1_tile.specs.declared.plane_block.Prediction.TheVariants.{Single, Compound}
-use Rattle.av1_tile.specs.Reference.{no_luma}
-use Rattle.av1_tile.specs.Walk.{CompoundFits, PredictionFits, SingleFits}
-use Rattle.av1_tile.proofs.Predictions.{walked_compound, walked_single}
+use Rattle.av1_tile.specs.declared.plane_block.Prediction.TheVariants as predictions
+use Rattle.av1_tile.specs.Reference.{by_prediction, kind_motion, no_luma, parts_motion}
+use Rattle.av1_tile.specs.Walk.{KindFits, PartsFit, PredictionFits}
+use Rattle.av1_tile.proofs.Predictions.{walked_whole}
 use Rattle.av1_tile.proofs.walk.predict_whole.Goals as goal
 
-module _ (h : Header) (p : ℕ) (area : PlaneArea) (of : Prediction) (fits : PredictionFits h p area of) where
-  as_single : (mode : PredictionMode) (reference : RefType) (mv : MotionVector) → of ≡ Single mode reference mv → SingleFits h p area mode reference
-  as_single mode reference mv is = subst (λ (of : Prediction). PredictionFits h p area of) is fits
+module _ (h : Header) (p : ℕ) (area : PlaneArea) (of : Prediction) (fits : PredictionFits h p area of) (a : VisibleArea) (same : a ≡ leaf_area area) where
+  as_single : (mode : PredictionMode) (reference : RefType) (mv : MotionVector) → of ≡ predictions.Single mode reference mv →
+      KindFits h p a (kinds.Single mode reference mv)
+  as_single mode reference mv is =
+      subst (λ (b : VisibleArea). KindFits h p b (kinds.Single mode reference mv)) (sym same) (subst (λ (of : Prediction). PredictionFits h p area of) is fits)
 
-  as_compound : (mode : PredictionMode) (references : List RefType) (mvs : List MotionVector) → of ≡ Compound mode references mvs →
-      CompoundFits h p area mode references
-  as_compound mode references mvs is = subst (λ (of : Prediction). PredictionFits h p area of) is fits
+  as_compound : (mode : PredictionMode) (references : List RefType) (mvs : List MotionVector) → of ≡ predictions.Compound mode references mvs →
+      KindFits h p a (kinds.Compound mode references mvs)
+  as_compound mode references mvs is =
+      subst (λ (b : VisibleArea). KindFits h p b (kinds.Compound mode references mvs)) (sym same)
+      (subst (λ (of : Prediction). PredictionFits h p area of) is fits)
 
-up_to_64 : (n s : ℕ) → n ≤ 64 / 2 ^ s → n ≤ 64
-up_to_64 n s short = le_trans short (div-le_self 64 (2 ^ s))
+  as_parts : (parts : Parts) → of ≡ predictions.Parts parts → PartsFit h p a parts
+  as_parts parts is = subst (λ (b : VisibleArea). PartsFit h p b parts) (sym same) (subst (λ (of : Prediction). PredictionFits h p area of) is fits)
 
-pub predict_single-requires-clause-wide : goal.predict_single-requires-clause-wide
-predict_single-requires-clause-wide g c =
+pub predict_kind-requires-clause-references : goal.predict_kind-requires-clause-references
+predict_kind-requires-clause-references g c =
     let block = c.args.block.now in
-    up_to_64 _ _ (as_single c.requires.references.0.header block.plane block.area block.prediction c.requires.references.1.1 _ _ _ c.in-Single.is).motion.wide
+    let own = c.requires.references in
+    (own.0, (own.1.0, as_single own.0.header block.plane block.area block.prediction own.1.1 _ (ap visible_in c.whole_area-area.ensures) _ _ _ c.in-Single.is))
 
-pub predict_single-requires-clause-high : goal.predict_single-requires-clause-high
-predict_single-requires-clause-high g c =
+pub predict_kind-requires-in-Compound-clause-references : goal.predict_kind-requires-in-Compound-clause-references
+predict_kind-requires-in-Compound-clause-references g c =
     let block = c.args.block.now in
-    up_to_64 _ _ (as_single c.requires.references.0.header block.plane block.area block.prediction c.requires.references.1.1 _ _ _ c.in-Single.is).motion.high
+    let own = c.requires.references in (
+      own.0,
+      (
+        own.1.0,
+        as_compound own.0.header block.plane block.area block.prediction own.1.1 _ (ap visible_in c.whole_area-area.ensures) _ _ _ c.in-Compound.is,
+      ),
+    )
 
-pub predict_single-requires-clause-reference : goal.predict_single-requires-clause-reference
-predict_single-requires-clause-reference g c =
+pub predict_parts-requires-clause-references : goal.predict_parts-requires-clause-references
+predict_parts-requires-clause-references g c =
     let block = c.args.block.now in
-    let value = c.requires.references.0 in
-    let fits = as_single value.header block.plane block.area block.prediction c.requires.references.1.1 _ _ _ c.in-Single.is in
-    served g.T.Pixel.num value c.args.fi.now c.in-Single.reference block.plane (block_width block.area.size)
-    (block_height block.area.size) c.requires.references.1.0 fits.served.has fits.served.other.least fits.served.other.most c.requires.plane
-    fits.motion.wide fits.motion.high
+    let own = c.requires.references in
+    (own.0, (own.1.0, as_parts own.0.header block.plane block.area block.prediction own.1.1 _ (ap visible_in c.whole_area-area.ensures) _ c.in-Parts.is))
 
-pub predict_compound-requires-clause-wide : goal.predict_compound-requires-clause-wide
-predict_compound-requires-clause-wide g c =
-    let block = c.args.block.now in
-    up_to_64 _ _
-    (as_compound c.requires.references.0.header block.plane block.area block.prediction c.requires.references.1.1 _ _ _ c.in-Compound.is).motion.wide
-
-pub predict_compound-requires-clause-high : goal.predict_compound-requires-clause-high
-predict_compound-requires-clause-high g c =
-    let block = c.args.block.now in
-    up_to_64 _ _
-    (as_compound c.requires.references.0.header block.plane block.area block.prediction c.requires.references.1.1 _ _ _ c.in-Compound.is).motion.high
-
-pub predict_compound-requires-clause-first : goal.predict_compound-requires-clause-first
-predict_compound-requires-clause-first g c =
-    let block = c.args.block.now in
-    let value = c.requires.references.0 in
-    let fits = as_compound value.header block.plane block.area block.prediction c.requires.references.1.1 _ _ _ c.in-Compound.is in
-    served g.T.Pixel.num value c.args.fi.now (reference_of c.in-Compound.references 0) block.plane (block_width block.area.size)
-    (block_height block.area.size) c.requires.references.1.0 fits.first.has fits.first.other.least fits.first.other.most c.requires.plane fits.motion.wide
-    fits.motion.high
-
-pub predict_compound-requires-clause-second : goal.predict_compound-requires-clause-second
-predict_compound-requires-clause-second g c =
-    let block = c.args.block.now in
-    let value = c.requires.references.0 in
-    let fits = as_compound value.header block.plane block.area block.prediction c.requires.references.1.1 _ _ _ c.in-Compound.is in
-    served g.T.Pixel.num value c.args.fi.now (reference_of c.in-Compound.references 1) block.plane (block_width block.area.size)
-    (block_height block.area.size) c.requires.references.1.0 fits.second.has fits.second.other.least fits.second.other.most c.requires.plane
-    fits.motion.wide fits.motion.high
+-- what was painted in the area that is the block's
+moved_to : {T : Type 0} (plane after : Plane T) (area : PlaneArea) (a : VisibleArea) (f : VisibleArea → ℕ → ℕ → T) → a ≡ leaf_area area →
+    after ≡ painted_plane plane a (λ r c _. f a r c) → after ≡ painted_plane plane (leaf_area area) (λ r c _. f (leaf_area area) r c)
+moved_to plane after area a f same painted = painted ∙ ap (λ (b : VisibleArea). painted_plane plane b (λ r c _. f b r c)) same
 
 pub returns-in-Single : goal.returns-in-Single
+unfolding by_prediction
 returns-in-Single g c = λ value holds fits.
     let block = c.args.block.now in
-    walked_single g.T.Pixel.num g.T.Pixel.pixel value (λ _. no_luma) block c.args.plane.now c.predict_single.new.plane c.in-Single.mode c.in-Single.reference
-    c.in-Single.mv c.in-Single.is
-    (c.predict_single.ensures value holds (as_single value.header block.plane block.area block.prediction fits _ _ _ c.in-Single.is).served.has)
+    let w = c.in-Single in
+    let kind = kinds.Single w.mode w.reference w.mv in
+    let same = ap visible_in c.whole_area-area.ensures in
+    walked_whole g.T.Pixel.num g.T.Pixel.pixel value (λ _. no_luma) block c.args.plane.now c.predict_kind.new.plane
+    (predictions.Single w.mode w.reference w.mv) w.is refl
+    (moved_to c.args.plane.now c.predict_kind.new.plane block.area _ (λ b i j. g.T.Pixel.pixel (kind_motion value block.plane kind b i j)) same
+    (c.predict_kind.ensures value holds (as_single value.header block.plane block.area block.prediction fits _ same _ _ _ w.is)))
 
 pub returns-in-Compound : goal.returns-in-Compound
+unfolding by_prediction
 returns-in-Compound g c = λ value holds fits.
     let block = c.args.block.now in
-    let own = as_compound value.header block.plane block.area block.prediction fits _ _ _ c.in-Compound.is in
-    walked_compound g.T.Pixel.num g.T.Pixel.pixel value (λ _. no_luma) block c.args.plane.now c.predict_compound.new.plane c.in-Compound.mode
-    c.in-Compound.references c.in-Compound.mvs c.in-Compound.is
-    (c.predict_compound.ensures value holds own.first.has own.second.has)
+    let w = c.in-Compound in
+    let kind = kinds.Compound w.mode w.references w.mvs in
+    let same = ap visible_in c.whole_area-area.ensures in
+    let done = c.predict_kind-in-Compound in
+    walked_whole g.T.Pixel.num g.T.Pixel.pixel value (λ _. no_luma) block c.args.plane.now done.new.plane
+    (predictions.Compound w.mode w.references w.mvs) w.is refl
+    (moved_to c.args.plane.now done.new.plane block.area _ (λ b i j. g.T.Pixel.pixel (kind_motion value block.plane kind b i j)) same
+    (done.ensures value holds (as_compound value.header block.plane block.area block.prediction fits _ same _ _ _ w.is)))
+
+pub returns-in-Parts : goal.returns-in-Parts
+unfolding by_prediction
+returns-in-Parts g c = λ value holds fits.
+    let block = c.args.block.now in
+    let w = c.in-Parts in
+    let same = ap visible_in c.whole_area-area.ensures in
+    walked_whole g.T.Pixel.num g.T.Pixel.pixel value (λ _. no_luma) block c.args.plane.now c.predict_parts.new.plane (predictions.Parts w.parts) w.is refl
+    (moved_to c.args.plane.now c.predict_parts.new.plane block.area _ (λ b i j. g.T.Pixel.pixel (parts_motion value block.plane w.parts b i j)) same
+    (c.predict_parts.ensures value holds (as_parts value.header block.plane block.area block.prediction fits _ same _ w.is)))

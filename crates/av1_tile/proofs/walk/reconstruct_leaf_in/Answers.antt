@@ -7,7 +7,7 @@ use Rattle.av1_tile.specs.declared.plane_block.PlaneBlock.{PlaneBlock}
 use Rattle.av1_tile.specs.PlaneBlocks.{component}
 use Rattle.av1_tile.specs.Predicted.{Keeping, keeping_in}
 use Rattle.av1_tile.specs.Steps.{plane_steps}
-use Rattle.av1_tile.specs.Walk.{BlockFits, KeepsPlane, Stores, block_by, cell_at, edges_in, fast_in, leaf_with, with_header}
+use Rattle.av1_tile.specs.Walk.{BlockFits, KeepsPlane, Stores, block_by, edges_in, fast_in, known_in, leaf_with, with_header}
 use Rattle.av1_tile.proofs.Lifts.{number_component}
 use Rattle.av1_tile.proofs.walk.reconstruct_leaf_in.Goals as goal
 
@@ -25,14 +25,14 @@ pub reconstruct_plane_block-requires-clause-fits : goal.reconstruct_plane_block-
 reconstruct_plane_block-requires-clause-fits g c =
     let a = c.args in
     let h = a.frame.now.header.now in
-    let is = c.of_leaf-block.ensures ∙ c.filter_at-filter.ensures in
+    let is = c.of_leaf-block.ensures ∙ c.near_leaf-near.ensures in
     subst (λ (b : PlaneBlock). BlockFits a.plane.now.plane_cfg h b a.triples.now) (sym is) c.requires.fits
 
 pub returns-clause-counted : goal.returns-clause-counted
 returns-clause-counted g c =
     let a = c.args in
     let h = a.frame.now.header.now in
-    let is = c.of_leaf-block.ensures ∙ c.filter_at-filter.ensures in
+    let is = c.of_leaf-block.ensures ∙ c.near_leaf-near.ensures in
     c.reconstruct_plane_block.ensures.counted ∙ ap (λ (b : PlaneBlock). fold edges_in a.buffers.now.edges.prepared (plane_steps h b a.triples.now)) is
 
 pub returns-clause-walked : goal.returns-clause-walked
@@ -42,8 +42,8 @@ returns-clause-walked g c = λ value serves.
     let plan = with_header h value in
     let num = g.T.Pixel.num in
     let pixel = g.T.Pixel.pixel in
-    let block = block_by h (cell_at a.frame.now.cells.now) (component a.p) (leaf_with a.leaf.now [] [] []) in
-    let is = c.of_leaf-block.ensures ∙ c.filter_at-filter.ensures in
+    let block = block_by h (known_in a.frame.now) (component a.p) (leaf_with a.leaf.now [] [] []) in
+    let is = c.of_leaf-block.ensures ∙ c.near_leaf-near.ensures in
     c.reconstruct_plane_block.ensures.walked value serves
     ∙ ap (λ (b : PlaneBlock). fold (fast_in num pixel plan b.plane (λ _. ac_at (tx_width b.area.tx_size) a.buffers.now.luma.items)) a.plane.now
     (plane_steps h b a.triples.now)) is
@@ -64,8 +64,8 @@ returns-clause-predictions g c = λ value serves.
     let plan = with_header h value in
     let num = g.T.Pixel.num in
     let pixel = g.T.Pixel.pixel in
-    let block = block_by h (cell_at a.frame.now.cells.now) (component a.p) (leaf_with a.leaf.now [] [] []) in
-    let is = c.of_leaf-block.ensures ∙ c.filter_at-filter.ensures in
+    let block = block_by h (known_in a.frame.now) (component a.p) (leaf_with a.leaf.now [] [] []) in
+    let is = c.of_leaf-block.ensures ∙ c.near_leaf-near.ensures in
     let start : Keeping (Plane _) _ = (a.plane.now, a.buffers.now.kept) in
     c.reconstruct_plane_block.ensures.predictions value serves
     ∙ ap (λ (b : PlaneBlock). fold (keeping_in num pixel plan b.plane (λ _. ac_at (tx_width b.area.tx_size) a.buffers.now.luma.items)) start

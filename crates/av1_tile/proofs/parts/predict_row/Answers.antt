@@ -1,0 +1,25 @@
+use Rattle.std.proofs.Common.{◌+◌, ◌-◌, ◌/◌, ◌≡◌, true, arith, tests}
+use Rattle.av1_references.specs.References.{visible_in}
+use Rattle.av1_tile.specs.Reference.{kind_motion}
+use Rattle.av1_tile.proofs.Halves.{beside_joined, still_inside}
+use Rattle.av1_tile.proofs.parts.predict_row.Goals as goal
+
+pub predict_kind-requires-3-clause-fits : goal.predict_kind-requires-3-clause-fits
+predict_kind-requires-3-clause-fits g c =
+    let own = c.requires.references in
+    let f = c.requires.fits in
+    let a = visible_in c.args.area in
+    let left = record a { width = a.width / 2 } in
+    let right = record a { x = a.x + a.width / 2; width = a.width - a.width / 2 } in
+    let fits = own.1.1.0 in
+    still_inside c.args.plane.now c.predict_kind-2.new.plane left right _
+    (c.predict_kind-2.ensures own.0 own.1.0 (record { wide = omega (arith, fits.wide); high = fits.high; serves = fits.serves }))
+    (record { storage = f.storage; columns = omega (arith, f.columns); rows = f.rows })
+
+pub returns : goal.returns
+returns g c = λ value holds left right.
+    let narrow : c.args.row.narrow ≡ true = grind (arith, tests, c.if-not-row.false) in
+    beside_joined g.T.Pixel.pixel c.args.plane.now c.predict_kind-2.new.plane c.predict_kind-3.new.plane (visible_in c.args.area)
+    (kind_motion value c.args.p c.args.row.left) (kind_motion value c.args.p c.args.row.right) c.args.row.narrow narrow
+    (c.predict_kind-2.ensures value holds (record { wide = omega (arith, left.wide); high = left.high; serves = left.serves }))
+    (c.predict_kind-3.ensures value holds (record { wide = omega (arith, right.wide); high = right.high; serves = right.serves }))
