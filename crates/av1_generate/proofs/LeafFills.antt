@@ -94,7 +94,7 @@ coefficients_are number false l ts lists carried is luma chroma = rw (is, carrie
 -- ---- a leaf
 
 no_fault : (h : Header) (l : LeafValue) → has_block_size h l.size ≡ true → has_transforms h l.size l.tx_size l.tx_type l.uv_type ≡ true →
-    has_modes l.size l.kind ≡ true
+    has_modes h l.size l.kind ≡ true
     → has_vectors l.kind ≡ true → has_references h l.kind ≡ true → has_coefficients h l ≡ true → fault_of h l ≡ None
 unfolding fault_of
 no_fault h l size transforms modes vectors references coefficients = rw (size, transforms, modes, vectors, references, coefficients) refl

@@ -20,7 +20,7 @@ use Rattle.av1_plan.specs.Format.{one, two, any, Format, done, ◌>>=◌, field}
 use Rattle.av1_plan.specs.Geometry.{has_slot}
 use Rattle.av1_plan.specs.Grammar.{byte_from}
 use Rattle.av1_plan.specs.Grammar as grammar
-use Rattle.av1_plan.specs.Validity.{is_step, is_chroma_from_luma, is_chroma_mode, is_inter_size, has_modes, has_vectors, has_reference, has_references}
+use Rattle.av1_plan.specs.Validity.{is_step, is_chroma_from_luma, is_chroma_mode, admits_references, is_inter_size, has_modes, has_vectors, has_reference, has_references}
 use Rattle.av1_generate.specs.Draft.{writes, draws, ◌>>◌, only_if}
 use Rattle.av1_generate.specs.Generator.{less, frame, step, weight, chroma_step, chroma_modes, chroma_mode, intra, component, motion, single, compound, kind_of}
 use Rattle.av1_generate.specs.Generator.{kind}
@@ -113,7 +113,7 @@ chroma_fills size =
 
 -- the kind fits a leaf of this size
 pub record IsFitting (h : Header) (size : BlockSize) (kind : LeafKind) : Type 0 where
-  pub modes : has_modes size kind ≡ true
+  pub modes : has_modes h size kind ≡ true
   pub vectors : has_vectors kind ≡ true
   pub references : has_references h kind ≡ true
 
@@ -195,7 +195,7 @@ mode_fills k first last some le small = drawing k (λ v. writes one (first + v))
 
 single_rest : (number : ℕ) (size : BlockSize) (mode : PredictionMode) → is_inter_size size ≡ true →
     Fills motion (grammar.single mode) 5 (IsFitting (frame number) size)
-unfolding grammar.single grammar.reference_frame grammar.vector has_modes is_inter_size has_vectors has_references
+unfolding grammar.single grammar.reference_frame grammar.vector frame has_modes admits_references is_inter_size has_vectors has_references
 single_rest number size mode inter =
     ends (λ p. done (Single mode p.0 p.1)) (motion_fills number) (λ p m.
     fills_done (Single mode p.0 p.1) (record { modes = inter; vectors = m.short; references = m.present }))
@@ -209,7 +209,7 @@ single_fills number size carried inter =
 
 compound_rest : (number : ℕ) (size : BlockSize) (mode : PredictionMode) → is_inter_size size ≡ true →
     Fills (motion >> motion) (grammar.compound mode) 10 (IsFitting (frame number) size)
-unfolding grammar.compound grammar.reference_frame grammar.vector has_modes is_inter_size has_vectors has_references
+unfolding grammar.compound grammar.reference_frame grammar.vector frame has_modes admits_references is_inter_size has_vectors has_references
 compound_rest number size mode inter =
     follows (λ p. moving >>= λ q. done (Compound mode (p.0 ∷ q.0 ∷ []) (p.1 ∷ q.1 ∷ []))) (motion_fills number) (λ p m.
     ends (λ q. done (Compound mode (p.0 ∷ q.0 ∷ []) (p.1 ∷ q.1 ∷ []))) (motion_fills number) (λ q l.

@@ -13,7 +13,6 @@ use Rattle.av1_plan.specs.declared.leaf.LeafKind.TheVariants.{Intra, Single, Com
 use Rattle.av1_plan.specs.CodingOrder.{IsOnGrid, cells_of}
 use Rattle.av1_plan.specs.Geometry.{xdec, ydec, carries_chroma, covers_plane, plane_area, plane_size}
 use Rattle.av1_plan.specs.Plan.{LeafValue}
-use Rattle.av1_plan.specs.Validity.{has_modes, is_inter_size}
 use Rattle.av1_plan.proofs.ValidLeaves.{IsValidLeaf, valid_leaf}
 use Rattle.av1_avail.specs.Order.{is_in}
 use Rattle.av1_order.specs.Plans.{IsWholeFrame, coding_in, is_inter, steps_in}
@@ -30,57 +29,71 @@ use Rattle.av1_order.proofs.Choices.{first_true, second_true}
 
 -- ---- inter leaves
 
-no_small_side : (q q' r r' : Bool) (w t : ℕ) → 8 ≤ w → 8 ≤ t → (not (q && w == 4 && r) && not (q' && t == 4 && r')) ≡ true
-no_small_side q q' r r' w t hw ht = grind (arith, nat_tests)
-
-large_covers : (h : Header) (p : ℕ) (l : LeafValue) → is_inter_size l.size ≡ true → covers_plane h l.x l.y l.size p ≡ true
-unfolding is_inter_size covers_plane carries_chroma
-large_covers h p l e =
-    let (wide, high) = and_parts (nat_le 8 (block_width l.size)) (nat_le 8 (block_height l.size)) e in
-    second_true (p == 0) _ (no_small_side _ _ _ _ (block_width l.size) (block_height l.size) (leb-true 8 (block_width l.size) wide)
-    (leb-true 8 (block_height l.size) high))
-
-inter_is_large : (size : BlockSize) (kind : LeafKind) → is_inter kind ≡ true → has_modes size kind ≡ true → is_inter_size size ≡ true
-unfolding has_modes
-inter_is_large size (Intra mode step chroma) e modes = absurd (true≢false (sym e))
-inter_is_large size (Single mode reference mv) e modes = modes
-inter_is_large size (Compound mode references mvs) e modes = modes
-
 coded_whole : (carried inter : Bool) → carried ≡ true → inter ≡ true → (once by_blocks : List Step) →
     (if carried then (if inter then once else by_blocks) else []) ≡ once
 coded_whole true true e f once by_blocks = refl
 coded_whole true false e f once by_blocks = absurd (true≢false (sym f))
 coded_whole false inter e f once by_blocks = absurd (true≢false (sym e))
 
+not_coded : (carried inter : Bool) → carried ≡ false → (once by_blocks : List Step) →
+    (if carried then (if inter then once else by_blocks) else []) ≡ []
+not_coded true inter e once by_blocks = absurd (true≢false e)
+not_coded false inter e once by_blocks = refl
+
+-- a leaf's area in a plane, whether it covers it or not
+pub record IsWholeArea (h : Header) (p : ℕ) (l : LeafValue) : Type 0 where
+  pub x : left (xdec h p) (ydec h p) (whole_step h p l) ≡ (plane_area h l.x l.y l.size l.tx_size p).x
+  pub y : top (xdec h p) (ydec h p) (whole_step h p l) ≡ (plane_area h l.x l.y l.size l.tx_size p).y
+  pub columns : width_of (xdec h p) (ydec h p) (whole_step h p l) ≡ block_width (plane_area h l.x l.y l.size l.tx_size p).size
+  pub rows : height_of (xdec h p) (ydec h p) (whole_step h p l) ≡ block_height (plane_area h l.x l.y l.size l.tx_size p).size
+
 module _ (h : Header) (p : ℕ) (l : LeafValue) (grid : IsOnGrid h l) (valid : IsValidLeaf h l) where
   low : ydec h p ≤ 1
   low = omega (arith, halved_x h p, halved_y h p)
 
-  pub whole_is : is_inter l.kind ≡ true → IsPredictedWhole h p l
+  pub whole_area : IsWholeArea h p l
   unfolding plane_area plane_size
-  whole_is inter =
-      let sx = xdec h p in
-      let sy = ydec h p in
-      let b = widened sx sy (cells_of l) in
-      let u = area sx sy b in
-      let c = coding_in h p l in
-      let covered = large_covers h p l (inter_is_large l.size l.kind inter valid.modes) in
+  whole_area =
       let sides = in_plane_block h l.size p valid.size in
-      let x = place_is p l.x sx (halved_x h p) (luma_x h p) grid.cell_x in
-      let y = place_is p l.y sy low (luma_y h p) grid.cell_y in
+      let x = place_is p l.x (xdec h p) (halved_x h p) (luma_x h p) grid.cell_x in
+      let y = place_is p l.y (ydec h p) low (luma_y h p) grid.cell_y in
       record {
-        covered = covered;
-        one =
-            coded_whole (carries sx sy (cells_of l)) (is_inter l.kind) (carries_is h p l ∙ covered) inter (whole_step h p l ∷ [])
-            (block_steps sx sy (h.width / 4) (h.height / 4) b c 0 (u.rows / c.rows));
         x = omega (arith, x);
         y = omega (arith, y);
         columns = sym sides.width;
         rows = sym sides.height;
       }
 
+  pub whole_is : is_inter l.kind ≡ true → covers_plane h l.x l.y l.size p ≡ true → IsPredictedWhole h p l
+  whole_is inter covered =
+      let sx = xdec h p in
+      let sy = ydec h p in
+      let b = widened sx sy (cells_of l) in
+      let u = area sx sy b in
+      let c = coding_in h p l in
+      record {
+        one =
+            coded_whole (carries sx sy (cells_of l)) (is_inter l.kind) (carries_is h p l ∙ covered) inter (whole_step h p l ∷ [])
+            (block_steps sx sy (h.width / 4) (h.height / 4) b c 0 (u.rows / c.rows));
+        x = whole_area.x;
+        y = whole_area.y;
+        columns = whole_area.columns;
+        rows = whole_area.rows;
+      }
+
+  no_steps : covers_plane h l.x l.y l.size p ≡ false → steps_in h p l ≡ []
+  no_steps uncovered =
+      let sx = xdec h p in
+      let sy = ydec h p in
+      let b = widened sx sy (cells_of l) in
+      let u = area sx sy b in
+      let c = coding_in h p l in
+      not_coded (carries sx sy (cells_of l)) (is_inter l.kind) (carries_is h p l ∙ uncovered) (whole_step h p l ∷ [])
+      (block_steps sx sy (h.width / 4) (h.height / 4) b c 0 (u.rows / c.rows))
+
 pub inter_is_whole : InterIsWhole
-inter_is_whole h p l grid faultless inter = whole_is h p l grid (valid_leaf h l faultless) inter
+inter_is_whole h p l grid faultless inter =
+    let valid = valid_leaf h l faultless in (whole_is h p l grid valid inter, no_steps h p l grid valid)
 
 -- ---- the blocks of a leaf
 
@@ -152,7 +165,7 @@ module _ (h : Header) (p : ℕ) (l : LeafValue) (frame : IsWholeFrame h) (grid :
 
       go : (inter : Bool) → is_inter l.kind ≡ inter → is_written h p (steps_in h p l) x y ≡ true
       go false intra = block_written h p l frame grid valid n b at intra covered x y e
-      go true inter = ap (λ ss. is_written h p ss x y) (whole_is h p l grid valid inter).one ∙ first_true _ false inside
+      go true inter = ap (λ ss. is_written h p ss x y) (whole_is h p l grid valid inter covered).one ∙ first_true _ false inside
 
 pub residues_find_samples : ResiduesFindSamples
 residues_find_samples h p l frame grid faultless = blocks_written h p l frame grid (valid_leaf h l faultless)

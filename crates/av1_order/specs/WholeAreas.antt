@@ -1,6 +1,6 @@
 -- Leaves that are predicted from other frames: their whole area at once, before any block of it is added to.
 -- AV1 specification: compute prediction syntax; residual syntax.
-use Rattle.std.specs.Prelude.{◌≡◌, true, ℕ, None, Some, [], ◌∷◌}
+use Rattle.std.specs.Prelude.{◌≡◌, true, false, ℕ, None, Some, [], ◌∷◌}
 use Rattle.av1_blocks.specs.Blocks.{block_width, block_height}
 use Rattle.av1_blocks.specs.Transforms.{tx_width, tx_height}
 use Rattle.av1_plan.specs.declared.geometry.TransformBlock.{TransformBlock}
@@ -23,9 +23,8 @@ module _ (h : Header) (p : ℕ) (l : LeafValue) where
       let u = area (xdec h p) (ydec h p) b in
       record { block = b; right = 0; down = 0; columns = u.columns; rows = u.rows }
 
-  -- the leaf covers a part of the plane and has this one step there, whose rectangle is the leaf's area
+  -- the leaf has this one step in the plane, whose rectangle is the leaf's area
   pub record IsPredictedWhole : Type 0 where
-    pub covered : covers_plane h l.x l.y l.size p ≡ true
     pub one : steps_in h p l ≡ whole_step ∷ []
     pub x : left (xdec h p) (ydec h p) whole_step ≡ (plane_area h l.x l.y l.size l.tx_size p).x
     pub y : top (xdec h p) (ydec h p) whole_step ≡ (plane_area h l.x l.y l.size l.tx_size p).y
@@ -40,10 +39,11 @@ module _ (h : Header) (p : ℕ) (l : LeafValue) where
       → (x y : ℕ) → is_in x y b.x b.y (tx_width (tx_in h p l)) (tx_height (tx_in h p l)) ≡ true →
       is_written h p (steps_in h p l) x y ≡ true
 
--- It is so of each valid inter leaf, which thus carries chroma,
+-- It is so of each valid inter leaf that covers a part of the plane; another has no steps there,
 abbrev pub InterIsWhole : Type 0
 InterIsWhole = (h : Header) (p : ℕ) (l : LeafValue) → IsOnGrid h l → fault_of h l ≡ None → is_inter l.kind ≡ true →
-    IsPredictedWhole h p l
+    (covers_plane h l.x l.y l.size p ≡ true → IsPredictedWhole h p l)
+    × (covers_plane h l.x l.y l.size p ≡ false → steps_in h p l ≡ [])
 
 -- and of the blocks of each valid leaf, inter or not.
 abbrev pub ResiduesFindSamples : Type 0

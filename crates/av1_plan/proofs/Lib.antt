@@ -23,6 +23,7 @@ pub mod Carried
 pub mod Versions
 pub mod ValidLeaves
 pub mod ValidModes
+pub mod ValidVersions
 pub mod Composed
 pub mod Behind
 pub mod Continued

@@ -25,7 +25,7 @@ use Rattle.av1_plan.specs.Validity.{is_transform, has_transforms, has_modes, has
 pub record IsValidLeaf (h : Header) (l : LeafValue) : Type 0 where
   pub size : has_block_size h l.size ≡ true
   pub transforms : has_transforms h l.size l.tx_size l.tx_type l.uv_type ≡ true
-  pub modes : has_modes l.size l.kind ≡ true
+  pub modes : has_modes h l.size l.kind ≡ true
   pub vectors : has_vectors l.kind ≡ true
   pub references : has_references h l.kind ≡ true
   pub coefficients : has_coefficients h l ≡ true
@@ -40,11 +40,11 @@ valid_leaf h l e =
     let coefficients = if not (has_coefficients h l) then Some kinds.Coefficient else None in
     let references = if not (has_references h l.kind) then Some kinds.MissingReference else coefficients in
     let vectors = if not (has_vectors l.kind) then Some kinds.Vector else references in
-    let modes = if not (has_modes l.size l.kind) then Some kinds.Mode else vectors in
+    let modes = if not (has_modes h l.size l.kind) then Some kinds.Mode else vectors in
     let transforms = if not (has_transforms h l.size l.tx_size l.tx_type l.uv_type) then Some kinds.Transform else modes in
     let (size, e1) = no_fault (has_block_size h l.size) kinds.InvalidBlockSize transforms e in
     let (fits, e2) = no_fault (has_transforms h l.size l.tx_size l.tx_type l.uv_type) kinds.Transform modes e1 in
-    let (mode, e3) = no_fault (has_modes l.size l.kind) kinds.Mode vectors e2 in
+    let (mode, e3) = no_fault (has_modes h l.size l.kind) kinds.Mode vectors e2 in
     let (vector, e4) = no_fault (has_vectors l.kind) kinds.Vector references e3 in
     let (reference, e5) = no_fault (has_references h l.kind) kinds.MissingReference coefficients e4 in
     let (coefficient, _) = no_fault (has_coefficients h l) kinds.Coefficient None e5 in

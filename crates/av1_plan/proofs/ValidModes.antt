@@ -16,7 +16,7 @@ use Rattle.av1_plan.specs.declared.leaf.LeafKind.{LeafKind}
 use Rattle.av1_plan.specs.declared.leaf.LeafKind.TheVariants.{Intra, Single, Compound}
 use Rattle.av1_plan.specs.Geometry.{has_slot}
 use Rattle.av1_plan.specs.Plan.{LeafValue}
-use Rattle.av1_plan.specs.Validity.{is_step, is_chroma_from_luma, is_chroma_mode, is_inter_size, has_modes, has_reference, has_references}
+use Rattle.av1_plan.specs.Validity.{admits_references, is_step, is_chroma_from_luma, is_chroma_mode, is_inter_size, has_modes, has_reference, has_references}
 use Rattle.av1_plan.proofs.ValidLeaves.{IsValidLeaf, all_by}
 
 -- ---- modes
@@ -51,10 +51,10 @@ pub record IsValidIntra (size : BlockSize) (mode : PredictionMode) (step : ℤ) 
   pub chroma_valid : IsValidChroma size chroma
 
 -- modes that a leaf of this size may have
-abbrev pub HasValidModes : BlockSize → LeafKind → Type 0
-HasValidModes size (Intra mode step chroma) = IsValidIntra size mode step chroma
-HasValidModes size (Single mode reference mv) = IsInterSize size
-HasValidModes size (Compound mode references mvs) = IsInterSize size
+abbrev pub HasValidModes : Header → BlockSize → LeafKind → Type 0
+HasValidModes h size (Intra mode step chroma) = IsValidIntra size mode step chroma
+HasValidModes h size (Single mode reference mv) = h.version ≤ 2 → IsInterSize size
+HasValidModes h size (Compound mode references mvs) = h.version ≤ 2 → IsInterSize size
 
 no_size : (z : ℤ) → nat_abs z ≡ 0 → z ≡ pos 0
 no_size (pos zero) e = refl
@@ -98,20 +98,29 @@ inter_size size e =
     let (width, height) = and_parts (nat_le 8 (block_width size)) (nat_le 8 (block_height size)) e in
     record { width = leb-true 8 (block_width size) width; height = leb-true 8 (block_height size) height }
 
-modes_by : (size : BlockSize) (kind : LeafKind) → has_modes size kind ≡ true → HasValidModes size kind
+-- a size that a version before the third admits
+earlier_size : (h : Header) (size : BlockSize) → admits_references h size ≡ true → h.version ≤ 2 → IsInterSize size
+unfolding admits_references
+earlier_size h size e few = inter_size size (second_of_two (h.version == 3) (is_inter_size size) (grind (arith, nat_tests)) e)
+  where
+    second_of_two : (a b : Bool) → a ≡ false → (a || b) ≡ true → b ≡ true
+    second_of_two true b e f = absurd cc
+    second_of_two false b e f = f
+
+modes_by : (h : Header) (size : BlockSize) (kind : LeafKind) → has_modes h size kind ≡ true → HasValidModes h size kind
 unfolding has_modes
-modes_by size (Intra mode step (Some chroma)) e =
+modes_by h size (Intra mode step (Some chroma)) e =
     let (front, chroma_valid) = and_parts (not (is_cfl mode) && is_step mode step) (is_chroma_mode size chroma) e in
     let (plain, step_valid) = and_parts (not (is_cfl mode)) (is_step mode step) front in
     record { plain = not-true (is_cfl mode) plain; step_valid = valid_step mode step step_valid; chroma_valid = valid_chroma size chroma chroma_valid }
-modes_by size (Intra mode step None) e =
+modes_by h size (Intra mode step None) e =
     let (plain, step_valid) = and_parts (not (is_cfl mode)) (is_step mode step) e in
     record { plain = not-true (is_cfl mode) plain; step_valid = valid_step mode step step_valid; chroma_valid = tt }
-modes_by size (Single mode reference mv) e = inter_size size e
-modes_by size (Compound mode references mvs) e = inter_size size e
+modes_by h size (Single mode reference mv) e = earlier_size h size e
+modes_by h size (Compound mode references mvs) e = earlier_size h size e
 
-pub valid_modes : (h : Header) (l : LeafValue) → IsValidLeaf h l → HasValidModes l.size l.kind
-valid_modes h l valid = modes_by l.size l.kind valid.modes
+pub valid_modes : (h : Header) (l : LeafValue) → IsValidLeaf h l → HasValidModes h l.size l.kind
+valid_modes h l valid = modes_by h l.size l.kind valid.modes
 
 -- ---- references
 

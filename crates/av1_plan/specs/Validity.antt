@@ -63,16 +63,21 @@ unfoldable pub is_chroma_mode : BlockSize → ChromaMode → Bool
 is_chroma_mode size (Plain mode step) = is_step mode step
 is_chroma_mode size (Cfl u v) = is_chroma_from_luma size u v
 
--- an inter leaf has no side under 8
+-- a leaf of this size has no side under 8
 unfoldable pub is_inter_size : BlockSize → Bool
 is_inter_size size = nat_le 8 (block_width size) && nat_le 8 (block_height size)
 
+-- a leaf of this size may be predicted from references: in the third version each, before it one without a side under 8
+unfoldable pub admits_references : Header → BlockSize → Bool
+admits_references h size = h.version == 3 || is_inter_size size
+
 -- the modes fit the leaf: chroma from luma is no luma mode
-unfoldable pub has_modes : BlockSize → LeafKind → Bool
-has_modes size (Intra mode step (Some chroma)) = not (is_cfl mode) && is_step mode step && is_chroma_mode size chroma
-has_modes size (Intra mode step None) = not (is_cfl mode) && is_step mode step
-has_modes size (Single mode reference mv) = is_inter_size size
-has_modes size (Compound mode references mvs) = is_inter_size size
+unfoldable pub has_modes : Header → BlockSize → LeafKind → Bool
+has_modes h size (Intra mode step (Some chroma)) =
+    not (is_cfl mode) && is_step mode step && is_chroma_mode size chroma
+has_modes h size (Intra mode step None) = not (is_cfl mode) && is_step mode step
+has_modes h size (Single mode reference mv) = admits_references h size
+has_modes h size (Compound mode references mvs) = admits_references h size
 
 -- ---- vectors and references
 
@@ -146,7 +151,7 @@ unfoldable pub fault_of : Header → LeafValue → Option InvalidKind
 fault_of h l =
     if not (has_block_size h l.size) then Some kinds.InvalidBlockSize
     else (if not (has_transforms h l.size l.tx_size l.tx_type l.uv_type) then Some kinds.Transform
-    else (if not (has_modes l.size l.kind) then Some kinds.Mode
+    else (if not (has_modes h l.size l.kind) then Some kinds.Mode
     else (if not (has_vectors l.kind) then Some kinds.Vector
     else (if not (has_references h l.kind) then Some kinds.MissingReference
     else (if not (has_coefficients h l) then Some kinds.Coefficient else None)))))

@@ -1,12 +1,13 @@
 -- What the versions of the plan grammar have in common.
-use Rattle.std.specs.Prelude.{◌≡◌, ℕ, ◌%◌, ◌≤◌, codes, List, ◌++◌}
+use Rattle.std.specs.Prelude.{◌≡◌, ℕ, ◌%◌, ◌≤◌, codes, List, ◌++◌, None}
 use Rattle.std.specs.List.{All}
 use Rattle.av1_plan.specs.declared.header.Header.{Header}
 use Rattle.av1_plan.specs.CodingOrder.{IsTwoToOne}
 use Rattle.av1_plan.specs.Geometry.{plane_width, plane_height, shown_columns, shown_rows}
 use Rattle.av1_plan.specs.Grammar.{plan}
-use Rattle.av1_plan.specs.Plan.{PlanValue}
+use Rattle.av1_plan.specs.Plan.{LeafValue, PlanValue}
 use Rattle.av1_plan.specs.Spelling.{AreText}
+use Rattle.av1_plan.specs.Validity.{fault_of}
 
 -- the same frame in this version
 abbrev pub header_in : ℕ → Header → Header
@@ -60,3 +61,8 @@ ShowsAll h = (p : ℕ) → (shown_columns h p ≡ plane_width h p) × (shown_row
 
 abbrev pub EarlierShowAll : Type 0
 EarlierShowAll = (bytes : List ℕ) (p : PlanValue) → AreText plan bytes p → p.header.version ≤ 2 → ShowsAll p.header
+
+-- A leaf that is valid in the second version is valid in the third.
+abbrev pub ValidStaysValid : Type 0
+ValidStaysValid =
+    (h : Header) (l : LeafValue) → fault_of (header_in 2 h) l ≡ None → fault_of (header_in 3 h) l ≡ None

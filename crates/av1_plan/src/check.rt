@@ -11,6 +11,7 @@ ghost use Rattle.av1_plan.specs.Validity.{
   is_step,
   is_chroma_from_luma,
   is_chroma_mode,
+  admits_references,
   is_inter_size,
   has_modes,
   has_vectors,
@@ -103,7 +104,7 @@ fn is_chroma_mode(size: BlockSize, chroma: ChromaMode) -> bool
     }
 }
 
-/// Whether an inter leaf may have this size: no side is under 8.
+/// Whether a leaf of this size may be predicted from references in each version: no side is under 8.
 #[tactic(auto, unfolding(crate::specs::Validity::is_inter_size))]
 pub fn is_inter_size(size: BlockSize) -> bool
     ensures { result ≡ is_inter_size size }
@@ -111,10 +112,19 @@ pub fn is_inter_size(size: BlockSize) -> bool
     8 <= size.width() && 8 <= size.height()
 }
 
+/// Whether a leaf of this size may be predicted from references: in the third version each, before it one that has no
+/// side under 8.
+#[tactic(auto, unfolding(crate::specs::Validity::admits_references))]
+pub fn admits_references(header: &Header, size: BlockSize) -> bool
+    ensures { result ≡ admits_references header.now size }
+{
+    header.version == 3 || is_inter_size(size)
+}
+
 /// Whether a leaf of this size may have these modes.
 #[tactic(auto, unfolding(crate::specs::Validity::has_modes))]
-fn has_modes(size: BlockSize, kind: LeafKind) -> bool
-    ensures { result ≡ has_modes size kind }
+fn has_modes(header: &Header, size: BlockSize, kind: LeafKind) -> bool
+    ensures { result ≡ has_modes header.now size kind }
 {
     match kind {
         LeafKind::Intra {
@@ -127,7 +137,7 @@ fn has_modes(size: BlockSize, kind: LeafKind) -> bool
             step,
             chroma: None,
         } => !mode.is_cfl() && is_step(mode, step),
-        LeafKind::Single { .. } | LeafKind::Compound { .. } => is_inter_size(size),
+        LeafKind::Single { .. } | LeafKind::Compound { .. } => admits_references(header, size),
     }
 }
 
@@ -320,7 +330,7 @@ fn fault_of(header: &Header, leaves: &Leaves, i: usize, leaf: &Leaf) -> Option<I
         Some(InvalidKind::InvalidBlockSize)
     } else if !has_transforms(header, leaf.size, leaf.tx_size, leaf.tx_type, leaf.uv_type) {
         Some(InvalidKind::Transform)
-    } else if !has_modes(leaf.size, leaf.kind) {
+    } else if !has_modes(header, leaf.size, leaf.kind) {
         Some(InvalidKind::Mode)
     } else if !has_vectors(leaf.kind) {
         Some(InvalidKind::Vector)

@@ -6,7 +6,7 @@ ghost use Rattle.av1_plan.specs.Lengths.{HeadersAreTwenty, ReferencesAreSlots};
 ghost use Rattle.av1_plan.specs.Pieces.{PiecesArePlan, PiecesAreRefused, PlanIsPieces};
 ghost use Rattle.av1_plan.specs.Plan.{PlanValue};
 ghost use Rattle.av1_plan.specs.Spelling.{AreText};
-ghost use Rattle.av1_plan.specs.Versions.{SecondKeepsFirst, FirstHasRest, ThirdKeepsSecond, SecondHasRest, EarlierShowAll};
+ghost use Rattle.av1_plan.specs.Versions.{SecondKeepsFirst, FirstHasRest, ThirdKeepsSecond, SecondHasRest, EarlierShowAll, ValidStaysValid};
 
 /// A law: bytes are the text of one plan at most.
 pub fn texts_are_of_one_plan()
@@ -41,6 +41,11 @@ pub fn the_second_version_has_the_rest()
 /// shown as are coded, so that its references, its output and what is read of them are those of whole planes.
 pub fn earlier_versions_show_what_is_coded()
     ensures { EarlierShowAll }
+{}
+
+/// A law: a leaf that is valid in the second version is valid in the third.
+pub fn valid_stays_valid()
+    ensures { ValidStaysValid }
 {}
 
 /// A law: what stands before the leaves of a plan, its references and the leaves behind them are the plan. The bytes of

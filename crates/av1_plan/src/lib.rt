@@ -44,14 +44,14 @@ mod plan;
 mod planes;
 mod reader;
 
-pub use check::{check_leaves, check_plan, is_inter_size};
+pub use check::{admits_references, check_leaves, check_plan, is_inter_size};
 pub use error::{Invalid, InvalidKind, PlanError};
 pub use geometry::{PlaneArea, TransformBlock, carries_chroma, coded_side, plane_tx_size};
 pub use header::Header;
 pub use laws::{
     earlier_versions_show_what_is_coded, fronts_have_these_lengths, pieces_are_a_plan,
     texts_are_of_one_plan, the_first_version_has_the_rest, the_second_version_has_the_rest,
-    the_second_version_keeps_the_first, the_third_version_keeps_the_second,
+    the_second_version_keeps_the_first, the_third_version_keeps_the_second, valid_stays_valid,
 };
 pub use leaf::{ChromaMode, Leaf, LeafKind, Triple};
 pub use leaves::Leaves;

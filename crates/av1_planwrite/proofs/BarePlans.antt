@@ -179,7 +179,7 @@ no_fault : (h : Header) (l : LeafValue) → fault_of h l ≡ None → fault_of h
 unfolding fault_of
 no_fault h l is =
     rw (coefficients_left_out h l)
-    (no_reason (has_block_size h l.size) (has_transforms h l.size l.tx_size l.tx_type l.uv_type) (has_modes l.size l.kind) (has_vectors l.kind)
+    (no_reason (has_block_size h l.size) (has_transforms h l.size l.tx_size l.tx_type l.uv_type) (has_modes h l.size l.kind) (has_vectors l.kind)
     (has_references h l.kind) (has_coefficients h l) _ _ _ _ _ _ is)
 
 no_first : (n : ℕ) (o : Option InvalidKind) (later : Option Invalid) → or_later n o later ≡ None → (o ≡ None) × (later ≡ None)

@@ -88,12 +88,12 @@ fits_in origin room first read more z n w reads begins ends fits = omega (arith,
 -- ---- a leaf
 
 -- a valid leaf whose chroma is predicted from luma has no side past 32
-pub small_sides : (size : BlockSize) (kind : LeafKind) → HasValidModes size kind → is_from_luma kind ≡ true → (block_width size ≤ 32) × (block_height size ≤ 32)
-small_sides size (Intra mode step (Some (Cfl alpha_u alpha_v))) valid is = (valid.chroma_valid.width, valid.chroma_valid.height)
-small_sides size (Intra mode step (Some (Plain uv_mode uv_step))) valid is = absurd cc
-small_sides size (Intra mode step None) valid is = absurd cc
-small_sides size (Single mode reference mv) valid is = absurd cc
-small_sides size (Compound mode references mvs) valid is = absurd cc
+pub small_sides : (h : Header) (size : BlockSize) (kind : LeafKind) → HasValidModes h size kind → is_from_luma kind ≡ true → (block_width size ≤ 32) × (block_height size ≤ 32)
+small_sides h size (Intra mode step (Some (Cfl alpha_u alpha_v))) valid is = (valid.chroma_valid.width, valid.chroma_valid.height)
+small_sides h size (Intra mode step (Some (Plain uv_mode uv_step))) valid is = absurd cc
+small_sides h size (Intra mode step None) valid is = absurd cc
+small_sides h size (Single mode reference mv) valid is = absurd cc
+small_sides h size (Compound mode references mvs) valid is = absurd cc
 
 shallow : (d : ℕ) → (d ≡ 8) ⊎ (d ≡ 10) ⊎ (d ≡ 12) → d ≤ 12
 shallow d (inl e) = omega arith
@@ -105,7 +105,7 @@ module _ (h : Header) (leaf : LeafValue) (frame : IsReadFrame h) (grid : IsOnGri
   transform : IsOneTransform leaf.size (xdec h 1) (ydec h 1)
   unfolding has_block_size
   transform =
-      let (narrow, short) = small_sides leaf.size leaf.kind (valid_modes h leaf valid) is in
+      let (narrow, short) = small_sides h leaf.size leaf.kind (valid_modes h leaf valid) is in
       one_transform leaf.size (xdec h 1) (ydec h 1) (halved_x h 1) (halved_y h 1) narrow short valid.size
 
   inside : (leaf.x < h.width) × (leaf.y < h.height)

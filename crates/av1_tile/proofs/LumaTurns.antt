@@ -132,7 +132,7 @@ module _ (h : Header) (earlier : List LeafValue) (leaf : LeafValue) (later : Lis
   unfolding plane_size
   written x y hx hy =
       let all = leaves_steps h 0 (earlier ++ leaf ∷ []) in
-      let (narrow, short) = small_sides leaf.size leaf.kind (valid_modes h leaf valid) from in
+      let (narrow, short) = small_sides h leaf.size leaf.kind (valid_modes h leaf valid) from in
       let plane = in_plane_block h leaf.size 1 valid.size in
       let column =
       is_over (xdec h 1) (plane_side (block_width leaf.size) (xdec h 1)) (chroma_block (luma_of h (luma_block leaf))).last_column x (halved_x h 1) hx in

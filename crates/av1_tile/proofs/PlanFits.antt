@@ -212,7 +212,7 @@ compound_fits h p area near carried mode references mvs serve sides read has =
 
 -- a leaf whose chroma may be predicted from its luma, and which may be predicted from references
 mode_fits : (h : Header) (near : Nearby) (k : Component) (area : PlaneArea) (carried : Bool) (size : BlockSize) (kind : LeafKind) →
-    NearServes h near → IsReadKind carried kind → HasValidModes size kind → HasValidReferences h kind → HasMotionSides h (number k) area
+    NearServes h near → IsReadKind carried kind → HasValidModes h size kind → HasValidReferences h kind → HasMotionSides h (number k) area
     → (is_same Y k ≡ false → is_from_luma kind ≡ true → (alpha : ℤ) → unsigned_abs alpha ≤ 16 → FromLumaFits area alpha) →
     PredictionFits h (number k) area (prediction_in near k kind)
 mode_fits h near Y area carried size (Intra mode step chroma) serve read valid has sides luma =

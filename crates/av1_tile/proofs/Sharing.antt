@@ -70,7 +70,7 @@ large_shares_none h earlier p leaf is =
 pub earlier_share_none : EarlierShareNone
 earlier_share_none h leaf few valid earlier k = go leaf.kind refl (valid_modes h leaf (valid_leaf h leaf valid))
   where
-    go : (kind : LeafKind) → leaf.kind ≡ kind → HasValidModes leaf.size kind → parts_in h earlier (number k) leaf ≡ None
+    go : (kind : LeafKind) → leaf.kind ≡ kind → HasValidModes h leaf.size kind → parts_in h earlier (number k) leaf ≡ None
     go (Intra mode step chroma) is modes = intra_shares_none h earlier (number k) leaf (ap is_inter is)
-    go (Single mode reference mv) is modes = large_shares_none h earlier (number k) leaf modes
-    go (Compound mode references mvs) is modes = large_shares_none h earlier (number k) leaf modes
+    go (Single mode reference mv) is modes = large_shares_none h earlier (number k) leaf (modes few)
+    go (Compound mode references mvs) is modes = large_shares_none h earlier (number k) leaf (modes few)

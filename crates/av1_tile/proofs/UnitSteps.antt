@@ -302,9 +302,9 @@ module _ (h : Header) (near : Nearby) (k : Component) (leaf : LeafValue) (frame 
       (numbered_in h (number k) leaf frame grid valid) 0 (block_count block.area) (λ n lt. number_units triples intra n (omega arith))
       ∙ sym (leaf_numbered h (number k) leaf frame grid valid intra covered)
 
-  inter_units : (triples : List Triple) → fault_of h leaf ≡ None → is_inter leaf.kind ≡ true →
+  inter_units : (triples : List Triple) → fault_of h leaf ≡ None → is_inter leaf.kind ≡ true → covers_plane h leaf.x leaf.y leaf.size (number k) ≡ true →
       units sx sy k (in_component k (plane_steps h block triples)) ≡ steps_in h (number k) leaf
-  inter_units triples faultless inter =
+  inter_units triples faultless inter covered =
       let own : units sx sy k (in_component k (predict block 0 (leaf_area block.area) ∷ [])) ≡ whole_step h (number k) leaf ∷ [] =
       rw (same_component k) (ap (λ (s : order.Step). s ∷ []) whole_unit) in
       ap (λ (w : List Step). units sx sy k (in_component k (w ++ joined (block_count block.area) (steps_at h block triples)))) (whole_first inter)
@@ -312,7 +312,7 @@ module _ (h : Header) (near : Nearby) (k : Component) (leaf : LeafValue) (frame 
       (in_component k (joined (block_count block.area) (steps_at h block triples)))
       ∙ ap (λ l. l ++ units sx sy k (in_component k (joined (block_count block.area) (steps_at h block triples)))) own
       ∙ ap (λ l. whole_step h (number k) leaf ∷ l) (blocks_added triples inter (block_count block.area))
-      ∙ sym (inter_is_whole h (number k) leaf grid faultless inter).one
+      ∙ sym ((inter_is_whole h (number k) leaf grid faultless inter).0 covered).one
 
   -- its steps are those of the theory
   pub plane_units : (triples : List Triple) → fault_of h leaf ≡ None → covers_plane h leaf.x leaf.y leaf.size (number k) ≡ true →
@@ -320,7 +320,7 @@ module _ (h : Header) (near : Nearby) (k : Component) (leaf : LeafValue) (frame 
   plane_units triples faultless covered = go (is_inter leaf.kind) refl
     where
       go : (t : Bool) → is_inter leaf.kind ≡ t → units sx sy k (in_component k (plane_steps h block triples)) ≡ steps_in h (number k) leaf
-      go true e = inter_units triples faultless e
+      go true e = inter_units triples faultless e covered
       go false e = intra_units triples e covered
 
 -- ---- the steps of leaves

@@ -15,7 +15,7 @@ use Rattle.av1_order.specs.Samples.{left, top, width_of, height_of, is_covered_s
 use Rattle.av1_order.specs.Steps as order
 use Rattle.av1_order.proofs.Edges.{covered-append}
 use Rattle.av1_order.proofs.Sizes.{tx_units}
-use Rattle.av1_order.proofs.WholeAreas.{inter_is_whole}
+use Rattle.av1_order.proofs.WholeAreas.{whole_area}
 use Rattle.av1_plan.proofs.ValidLeaves.{IsValidLeaf, valid_leaf}
 use Rattle.av1_plan.specs.Geometry.{xdec, ydec, block_at, block_count, blocks_across, carries_chroma, plane_tx_size, transform_block}
 use Rattle.av1_plan.specs.Plan.{LeafValue}
@@ -141,9 +141,9 @@ module _ (h : Header) (near : Nearby) (k : Component) (leaf : LeafValue) (is : I
         rows = sym high;
       }
 
-  pub whole_on_units : is_inter leaf.kind ≡ true → IsOnUnits (xdec h (number k)) (ydec h (number k)) block (leaf_area block.area)
-  whole_on_units inter =
-      let w = inter_is_whole h (number k) leaf is.grid is.faultless inter in
+  pub whole_on_units : IsOnUnits (xdec h (number k)) (ydec h (number k)) block (leaf_area block.area)
+  whole_on_units =
+      let w = whole_area h (number k) leaf is.grid valid in
       let same = whole_unit h near k leaf is.frame is.grid valid in
       let sx = xdec h (number k) in
       let sy = ydec h (number k) in
@@ -176,7 +176,7 @@ module _ (h : Header) (near : Nearby) (k : Component) (leaf : LeafValue) (is : I
     where
       go : (t : Bool) → is_inter leaf.kind ≡ t → AllByRecursion (fits_in h k) (whole_steps block)
       go true e = subst (λ (ss : List Step). AllByRecursion (fits_in h k) ss) (sym (whole_first h near k leaf is.frame is.grid valid e))
-          (whole_on_units e, tt)
+          (whole_on_units, tt)
       go false e = subst (λ (ss : List Step). AllByRecursion (fits_in h k) ss) (sym (nothing_whole h near k leaf is.frame is.grid valid e)) tt
 
   pub plane_steps_fit : (triples : List Triple) → AllByRecursion (fits_in h k) (plane_steps h block triples)
