@@ -20,7 +20,8 @@ use Rattle.av1_plan.specs.Format.{one, two, any, Format, done, ◌>>=◌, field}
 use Rattle.av1_plan.specs.Geometry.{has_slot}
 use Rattle.av1_plan.specs.Grammar.{byte_from}
 use Rattle.av1_plan.specs.Grammar as grammar
-use Rattle.av1_plan.specs.Validity.{is_step, is_chroma_from_luma, is_chroma_mode, admits_references, is_inter_size, has_modes, has_vectors, has_reference, has_references}
+use Rattle.av1_plan.specs.Validity.{is_step, is_chroma_from_luma, is_chroma_mode, admits_references, is_inter_size, has_modes, has_vectors, has_reference}
+use Rattle.av1_plan.specs.Validity.{has_references}
 use Rattle.av1_generate.specs.Draft.{writes, draws, ◌>>◌, only_if}
 use Rattle.av1_generate.specs.Generator.{less, frame, step, weight, chroma_step, chroma_modes, chroma_mode, intra, component, motion, single, compound, kind_of}
 use Rattle.av1_generate.specs.Generator.{kind}

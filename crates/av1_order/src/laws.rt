@@ -100,8 +100,9 @@ pub fn luma_is_written()
     ensures { LumaIsWritten }
 {}
 
-/// A law: an inter leaf has one step in each plane that it covers a part of, over its whole area; and each sample of each transform block that
-/// begins in the visible plane, to which a residue may be added, is written by its leaf's steps.
+/// A law: an inter leaf has one step in each plane that it covers a part of, over its whole area; and each sample of
+/// each transform block that begins in the visible plane, to which a residue may be added, is written by its leaf's
+/// steps.
 pub fn areas_are_predicted()
     ensures whole { InterIsWhole }
     ensures added { ResiduesFindSamples }

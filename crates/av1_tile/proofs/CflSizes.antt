@@ -88,7 +88,8 @@ fits_in origin room first read more z n w reads begins ends fits = omega (arith,
 -- ---- a leaf
 
 -- a valid leaf whose chroma is predicted from luma has no side past 32
-pub small_sides : (h : Header) (size : BlockSize) (kind : LeafKind) → HasValidModes h size kind → is_from_luma kind ≡ true → (block_width size ≤ 32) × (block_height size ≤ 32)
+pub small_sides : (h : Header) (size : BlockSize) (kind : LeafKind) → HasValidModes h size kind → is_from_luma kind ≡ true →
+    (block_width size ≤ 32) × (block_height size ≤ 32)
 small_sides h size (Intra mode step (Some (Cfl alpha_u alpha_v))) valid is = (valid.chroma_valid.width, valid.chroma_valid.height)
 small_sides h size (Intra mode step (Some (Plain uv_mode uv_step))) valid is = absurd cc
 small_sides h size (Intra mode step None) valid is = absurd cc
