@@ -1,17 +1,13 @@
 -- Inter leaves are predicted whole, and each block of a leaf is written by the leaf's steps.
-use Rattle.std.proofs.Common.{◌≡◌, ℕ, ◌+◌, ◌*◌, ◌/◌, ◌%◌, ◌<◌, ◌≤◌, Bool, true, false, not, ◌&&◌, List, [], ◌∷◌, inl, inr, refl, sym, subst, ◌∙◌, ap, arith}
-use Rattle.std.specs.Prelude.{nat_le, ◌==◌, if◌then◌else◌}
+use Rattle.std.proofs.Common.{◌≡◌, ℕ, ◌+◌, ◌*◌, ◌/◌, ◌%◌, ◌<◌, ◌≤◌, Bool, true, false, List, [], ◌∷◌, inl, inr, refl, sym, subst, ◌∙◌, ap, arith}
+use Rattle.std.specs.Prelude.{if◌then◌else◌}
 use Rattle.std.proofs.Math.Nat.{mul-le-mul_right}
-use Rattle.std.proofs.lemmas.Bool.{and_parts, cases_lt, leb-true, true≢false}
-use Rattle.std.proofs.lemmas.Bool.Decides.{nat_tests}
-use Rattle.av1_blocks.specs.declared.partition.BlockSize.{BlockSize}
+use Rattle.std.proofs.lemmas.Bool.{cases_lt, true≢false}
 use Rattle.av1_blocks.specs.Blocks.{block_width, block_height}
 use Rattle.av1_blocks.specs.Transforms.{tx_width, tx_height}
 use Rattle.av1_plan.specs.declared.header.Header.{Header}
-use Rattle.av1_plan.specs.declared.leaf.LeafKind.{LeafKind}
-use Rattle.av1_plan.specs.declared.leaf.LeafKind.TheVariants.{Intra, Single, Compound}
 use Rattle.av1_plan.specs.CodingOrder.{IsOnGrid, cells_of}
-use Rattle.av1_plan.specs.Geometry.{xdec, ydec, carries_chroma, covers_plane, plane_area, plane_size}
+use Rattle.av1_plan.specs.Geometry.{xdec, ydec, covers_plane, plane_area, plane_size}
 use Rattle.av1_plan.specs.Plan.{LeafValue}
 use Rattle.av1_plan.proofs.ValidLeaves.{IsValidLeaf, valid_leaf}
 use Rattle.av1_avail.specs.Order.{is_in}
@@ -25,7 +21,7 @@ use Rattle.av1_order.proofs.PlanBlocks.{column_of, count_is, row_of, units_in}
 use Rattle.av1_order.proofs.Plans.{carries_is, halved_x, halved_y, in_plane_block, leaf_tiled, luma_x, luma_y, place_is}
 use Rattle.av1_order.proofs.Rectangles.{places, placed as held}
 use Rattle.av1_order.proofs.Units.{whole_multiple}
-use Rattle.av1_order.proofs.Choices.{first_true, second_true}
+use Rattle.av1_order.proofs.Choices.{first_true}
 
 -- ---- inter leaves
 

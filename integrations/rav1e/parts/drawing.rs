@@ -16,7 +16,7 @@ use crate::partition::{BlockSize, MvSubpelPrecision, PartitionType, RefType, ALL
 use crate::predict::PredictionMode::*;
 use crate::predict::{AngleDelta, PredictionMode};
 use crate::rdo::RDOType;
-use crate::recorder::{earlier_versions, setting};
+use crate::recorder::{admits_references, earlier_versions, setting};
 use crate::tiling::TileStateMut;
 use crate::transform::{TxSize, TxType};
 use crate::util::Pixel;
@@ -182,14 +182,14 @@ fn leaf<T: Pixel, W: Writer>(
   );
 }
 
-/// A plan has no references on leaves with a side of 4.  With plans of versions 1 and 2 the sharp filter is kept from chroma
+/// Plans of versions 1 and 2 have no references on leaves with a side of 4.  With them the sharp filter is kept from chroma
 /// sides up to 4, where rav1e departs from AV1, unless RECORD_SHORT_SHARP is set.
 fn may_have_references<T: Pixel>(fi: &FrameInvariants<T>, bsize: BlockSize) -> bool {
   let (w, h) = (bsize.width(), bsize.height());
   let (xdec, ydec) = fi.sequence.chroma_sampling.get_decimation().unwrap_or((0, 0));
   let sharp = fi.default_filter == crate::mc::FilterMode::SHARP;
   let kept_off = sharp && earlier_versions() && setting("RECORD_SHORT_SHARP").is_none();
-  fi.frame_type.has_inter() && w >= 8 && h >= 8 && !(kept_off && (w >> xdec <= 4 || h >> ydec <= 4))
+  fi.frame_type.has_inter() && admits_references(bsize) && !(kept_off && (w >> xdec <= 4 || h >> ydec <= 4))
 }
 
 /// An angle step, where AV1 codes one: on directions, from 8x8 on in its order of sizes (4x16 and 16x4 stand behind).
@@ -233,7 +233,8 @@ fn draw_intra<T: Pixel>(
 fn draw_inter<T: Pixel>(
   fi: &FrameInvariants<T>, cw: &mut ContextWriter, bsize: BlockSize, at: TileBlockOffset,
 ) -> Prediction {
-  let two = one_in(3);
+  // AV1 codes two references from 8x8 on.
+  let two = bsize.width() >= 8 && bsize.height() >= 8 && one_in(3);
   // The first of each list comes more often, so that leaves have neighbours of the same reference, and thus candidates.
   let pick = |from: &[RefType]| if one_in(2) { from[0] } else { one_of(from) };
   let references = match (two, one_in(2)) {

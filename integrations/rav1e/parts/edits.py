@@ -10,7 +10,7 @@ import shutil
 import sys
 
 HERE = os.path.dirname(os.path.abspath(__file__))
-MODULES = ("recorder", "drawing", "levels")
+MODULES = ("recorder", "drawing", "levels", "shared")
 
 ENCODER = "src/encoder.rs"
 PARTITION = "src/partition.rs"
@@ -88,10 +88,15 @@ SETTINGS = [
 
 # What a plan can't say is left out of the search, and what rav1e doesn't try comes in.
 SEARCH = [
-    Edit("no leaf with a side of 4 has references", RDO,
+    Edit("no leaf with a side of 4 has references in versions 1 and 2", RDO,
          ") -> PartitionParameters {\n  let mut best = PartitionParameters::default();\n\n  // we can never",
          ") -> PartitionParameters {\n  let mut best = PartitionParameters::default();\n"
-         "  if bsize.width() < 8 || bsize.height() < 8 {\n    return best;\n  }\n\n  // we can never"),
+         "  if !crate::recorder::admits_references(bsize) {\n    return best;\n  }\n\n  // we can never"),
+    Edit("chroma that leaves share", ENCODER, "    if p > 0 && bsize < BlockSize::BLOCK_8X8 {\n",
+         "    let own = crate::shared::Motion { mode: luma_mode, references: ref_frames, vectors: mvs };\n"
+         "    if p > 0\n      && crate::shared::predict(\n"
+         "        fi, tile_rect, p, po, rec, &cw.bc, own, bsize, tile_bo, compound_buffer,\n      )\n    {\n      continue;\n    }\n"
+         "    if false {\n"),
     Edit("types of leaves with references", RDO, "      && !is_inter\n      && !skip;\n",
          "      && (!is_inter || crate::recorder::inter_types())\n      && !skip;\n"),
     Edit("all sixteen types", "src/transform/mod.rs", "  //TxType::V_FLIPADST,",

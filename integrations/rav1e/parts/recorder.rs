@@ -107,6 +107,12 @@ pub fn earlier_versions() -> bool {
   setting("RECORD_EARLIER_VERSIONS").is_some()
 }
 
+/// Whether a leaf of this size may be predicted from references: not in versions 1 and 2 where it has a side of 4.
+pub fn admits_references(size: BlockSize) -> bool {
+  static ALL: OnceLock<bool> = OnceLock::new();
+  *ALL.get_or_init(|| !earlier_versions()) || size.width() >= 8 && size.height() >= 8
+}
+
 /// Which short filter stands for `filter` along sides up to 4, 0 the regular one and 1 the smooth one: AV1's choice, which is
 /// the regular one for the sharp filter; with plans of versions 1 and 2 that of rav1e, unless RECORD_SHORT_AS_AV1 is set.
 pub fn short_filter(filter: usize) -> usize {
