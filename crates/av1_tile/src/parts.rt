@@ -25,6 +25,7 @@ struct PartRow {
 
 /// Predicts a rectangle of plane `p` as a leaf from references says. The frame settings hold the references of a plan
 /// in which that can be done.
+#[inline(always)]
 pub fn predict_kind<T: Pixel>(
     plane: &mut Plane<T>,
     compound: &mut InterCompoundBuffers,

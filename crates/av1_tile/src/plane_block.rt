@@ -118,6 +118,7 @@ fn chroma_prediction(chroma: Option<ChromaMode>, p: usize, near: Nearby) -> Pred
 }
 
 /// The prediction of a leaf from references: in parts, where others share its block, or else its own.
+#[inline(always)]
 fn shared(parts: Option<Parts>, own: Prediction) -> Prediction
     ensures { result ≡ shared parts own }
 {
@@ -128,6 +129,7 @@ fn shared(parts: Option<Parts>, own: Prediction) -> Prediction
 }
 
 /// How a leaf predicts plane `p`.
+#[inline(always)]
 fn prediction_of(kind: LeafKind, p: usize, near: Nearby) -> Prediction
     ensures { result ≡ prediction_in near (component p) kind }
 {
