@@ -61,6 +61,7 @@ pub fn predict_kind<T: Pixel>(
 }
 
 /// Predicts a row of parts.
+#[inline(never)]
 fn predict_row<T: Pixel>(
     plane: &mut Plane<T>,
     compound: &mut InterCompoundBuffers,
@@ -95,6 +96,7 @@ fn predict_row<T: Pixel>(
 }
 
 /// Predicts a rectangle of plane `p` that leaves from references share, part by part.
+#[inline(never)]
 pub fn predict_parts<T: Pixel>(
     plane: &mut Plane<T>,
     compound: &mut InterCompoundBuffers,

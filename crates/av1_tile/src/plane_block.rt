@@ -99,6 +99,7 @@ pub struct PlaneBlock {
 }
 
 /// How an intra leaf predicts plane `p` of chroma.
+#[inline(always)]
 fn chroma_prediction(chroma: Option<ChromaMode>, p: usize, near: Nearby) -> Prediction
     requires { 0 < p }
     ensures { (mode : PredictionMode) (step : ℤ) → result ≡ prediction_in near (component p) (Intra mode step chroma) }

@@ -46,6 +46,7 @@ fn moved_at(leaves: &[Leaf], cx: usize, cy: usize) -> Option<LeafKind>
 }
 
 /// The same with one more leaf behind these.
+#[inline(never)]
 fn moved_near(earlier: &[Leaf], leaf: &Leaf, cx: usize, cy: usize) -> Option<LeafKind>
     ensures { result ≡ with_mover (movers_of earlier.now) (leaf_with leaf.now [] [] []) cx cy }
 {
@@ -58,6 +59,7 @@ fn moved_near(earlier: &[Leaf], leaf: &Leaf, cx: usize, cy: usize) -> Option<Lea
 
 /// The parts of a leaf's block behind the leaves before it: in two columns where it is narrow, in two rows where it is
 /// low.
+#[inline(always)]
 fn parts_at(earlier: &[Leaf], leaf: &Leaf, narrow: bool, low: bool) -> Option<Parts>
     ensures { let l = leaf_with leaf.now [] [] [] in
         result ≡ parts_at narrow low (with_mover (movers_of earlier.now) l) (l.x / 4) (l.y / 4) }
@@ -84,6 +86,7 @@ fn parts_at(earlier: &[Leaf], leaf: &Leaf, narrow: bool, low: bool) -> Option<Pa
 }
 
 /// The parts of a leaf's block in plane `p` behind the leaves before it, where leaves from references share it.
+#[inline(always)]
 pub fn parts_in(header: &Header, earlier: &[Leaf], leaf: &Leaf, p: usize) -> Option<Parts>
     ensures { result ≡ parts_by header.now (movers_of earlier.now) p (leaf_with leaf.now [] [] []) }
 {
