@@ -3,7 +3,7 @@
 #include "heap.h"
 #include "plans.h"
 
-enum { PARTS = 3, MOST_ENTRIES = 8, MOST_PLANES = 6 * MOST_SIDE * MOST_SIDE };
+enum { MOST_ENTRIES = 8, MOST_PLANES = 6 * MOST_SIDE * MOST_SIDE };
 
 /* ---- a sequence that is drawn ---- */
 
@@ -16,35 +16,42 @@ static numbers drawn_part(av1_plan_header header, bool plain) {
     return (numbers){.at = room + (len < front ? len : front), .count = len < front ? 0 : len - front};
 }
 
-/* What the head of a frame says, but its kind. */
-static void put_head(void) {
-    uint8_t usual = below(4);
-    put_byte(number(4)), put_byte(number(2));
-    for (int i = 0; i < 7; i++) put_byte(one_in(4) ? number(8) : usual);
-    put_byte(byte());
-}
+/* What the head of an entry says: of a frame its settings and its slots, or the slot whose frame is shown again. */
+typedef struct {
+    uint8_t kind, slot, refresh, settings[9];
+    bool plain; /* whether its part is the one that reads no references */
+} drawn_entry;
 
 /* A frame that isn't shown, a frame that is, or the frame of a slot, which is shown again. Sequences of frames of version 2 have the second alone. */
-static void put_entry(bool has_kinds, numbers part) {
-    uint8_t kind = has_kinds ? number(3) : 1;
-    if (has_kinds) put_byte(kind);
-    if (kind == 2) {
-        put_byte(number(8)), put_byte(byte());
+static drawn_entry draw_entry(bool has_kinds) {
+    drawn_entry made = {.kind = has_kinds ? number(3) : 1, .slot = number(8), .refresh = byte(), .settings = {number(4), number(2)}};
+    uint8_t usual = below(4);
+    for (int i = 2; i < 9; i++) made.settings[i] = one_in(4) ? number(8) : usual;
+    made.plain = one_in(2);
+    return made;
+}
+
+static void put_entry(bool has_kinds, drawn_entry made, numbers part) {
+    if (has_kinds) put_byte(made.kind);
+    if (made.kind == 2) {
+        put_byte(made.slot), put_byte(made.refresh);
     } else {
-        put_head();
+        put(made.settings, 9), put_byte(made.refresh);
         put_part(part.at, part.count);
     }
 }
 
 static void draw_entries(void) {
     av1_plan_header header = drawn_header();
+    drawn_entry made[MOST_ENTRIES];
     bool has_kinds = header.version == 3;
-    numbers plain = drawn_part(header, true), other = drawn_part(header, false);
     uint8_t count = below(MOST_ENTRIES);
+    for (int i = 0; i < count; i++) made[i] = draw_entry(has_kinds);
+    numbers plain = drawn_part(header, true), other = drawn_part(header, false);
     put(has_kinds ? "RSQ2" : "RSQ1", 4);
     put(&header.width, 2), put(&header.height, 2), put_byte(header.depth), put_byte(header.sampling);
     put_byte(count), put_byte(0);
-    for (int i = 0; i < count; i++) put_entry(has_kinds, i == 0 || one_in(2) ? plain : other);
+    for (int i = 0; i < count; i++) put_entry(has_kinds, made[i], i == 0 || made[i].plain ? plain : other);
 }
 
 static numbers drawn_sequence(void) {
@@ -137,6 +144,7 @@ static outcome frame_of(const uint8_t *front, uint32_t version, const entry *of,
         if (plan[19] >> slot & 1) memcpy(plan + len, held[slot], planes), len += planes;
     memcpy(plan + len, of->part, of->len);
     uint32_t status = av1_reconstruct_plan(plan, len + of->len, frame, sizeof frame, &written, &refusal);
+    came_up(2 + version, plan[19], refusal.kind, status);
     if (status == AV1_MALFORMED) return (outcome){AV1_MALFORMED_PART, {number, refusal.at - (uint32_t)len, 0, 0}, 0};
     if (status == AV1_INVALID) return (outcome){AV1_INVALID_PART, {number, 0, refusal.leaf, refusal.kind}, 0};
     CHECK(status == AV1_DONE && written == planes);
@@ -167,6 +175,7 @@ static outcome entries_outcome(const uint8_t *front, uint32_t version, uint32_t 
         entry next;
         CHECK(take_entry(version, &next));
         outcome found = next.kind == 2 ? again(&next, number, planes) : frame_of(front, version, &next, number, planes);
+        came_up(version, 16 * next.kind + number % 16, filled ? 16 * next.kind + (uint32_t)__builtin_popcount(filled) : 0, found.status);
         if (found.status != AV1_DONE) return found;
         show_and_keep(&next, planes, &written);
     }
