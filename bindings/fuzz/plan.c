@@ -1,86 +1,7 @@
 /* Whole plans: av1_planes_len and av1_reconstruct_plan, on the fuzzer's bytes, and on plans that a builder made and some of whose bytes were changed.
- * The same plans as grids of one tile, as sequences of one frame and as traces: av1_reconstruct_tiles, av1_reconstruct_sequence, av1_trace_differences.
- * The library takes memory by the functions here: now and then an allocation fails, and now and then each lies flush with a page that no one may touch. */
+ * The same plans as grids of one tile, as sequences of one frame and as traces: av1_reconstruct_tiles, av1_reconstruct_sequence, av1_trace_differences. */
+#include "heap.h"
 #include "plans.h"
-
-struct tried { bool ok; void *p; };
-
-static char nothing;
-static bool guarded;
-static long left_to_give, kept;
-
-/* The allocations between guards, of which few are kept at a time. */
-static struct { uint8_t *map, *at; size_t size, pages; } given[256];
-
-static void *guard(size_t size, size_t align) {
-    size_t pages = (size + PAGE - 1) / PAGE + 2;
-    for (size_t i = 0; i < 256; i++) {
-        if (given[i].map) continue;
-        given[i].map = mmap(NULL, pages * PAGE, PROT_READ | PROT_WRITE, MAP_PRIVATE | MAP_ANONYMOUS, -1, 0);
-        CHECK(given[i].map != MAP_FAILED);
-        CHECK(mprotect(given[i].map, PAGE, PROT_NONE) == 0 && mprotect(given[i].map + (pages - 1) * PAGE, PAGE, PROT_NONE) == 0);
-        given[i].size = size, given[i].pages = pages;
-        return given[i].at = given[i].map + (pages - 1) * PAGE - (size + align - 1) / align * align;
-    }
-    return malloc(size);
-}
-
-struct tried rattle_alloc(size_t n, size_t align) {
-    void *p = left_to_give-- == 0 ? NULL : guarded ? guard(n ? n : align, align) : malloc(n ? n : align);
-    kept += p != NULL;
-    return (struct tried){p != NULL, p ? p : &nothing};
-}
-
-void rattle_dealloc(void *p) {
-    kept--;
-    for (size_t i = 0; i < 256; i++)
-        if (given[i].map && given[i].at == p) {
-            CHECK(munmap(given[i].map, given[i].pages * PAGE) == 0);
-            given[i].map = NULL;
-            return;
-        }
-    free(p);
-}
-
-struct tried rattle_realloc(void *old, size_t used, size_t n, size_t align) {
-    if (!guarded) {
-        void *p = left_to_give-- == 0 ? NULL : realloc(old, n ? n : align);
-        return (struct tried){p != NULL, p ? p : &nothing};
-    }
-    struct tried made = rattle_alloc(n, align);
-    if (made.ok) {
-        memcpy(made.p, old, used < n ? used : n);
-        rattle_dealloc(old);
-    }
-    return made;
-}
-
-/* A plan by a builder, whose calls are looked at by another target. */
-static size_t build(uint8_t *room, size_t room_len) {
-    static uint16_t flat[72 * 72];
-    av1_plan_header header = drawn_header();
-    av1_builder builder;
-    size_t samples[3], len;
-    plane_samples(&header, samples);
-    for (size_t i = 0, start = byte(); i < 72 * 72; i++) flat[i] = (start + i * 7) & 255;
-    if (av1_builder_begin(&header, &builder, room, room_len) != AV1_DONE) return 0;
-    if (samples[0] > 72 * 72) return builder.written;
-    while (builder.slot < 8)
-        if (av1_builder_reference(&builder, room, room_len, flat, samples[0], flat, samples[1], flat, samples[2]) != AV1_DONE) return builder.written;
-    for (int i = 0; i < 700 && av1_builder_finish(&builder, room, room_len, &len) != AV1_DONE; i++) {
-        av1_coefficient values[3][6];
-        size_t counts[3] = {drawn_coefficients(values[0], 6), drawn_coefficients(values[1], 6), drawn_coefficients(values[2], 6)};
-        av1_leaf leaf = drawn_leaf(&builder, asked_size(&builder)), bare = without_chroma(leaf);
-        uint8_t mark = below(4);
-        if (builder.count && builder.parts[builder.count - 1].kind == 0) {
-            if (av1_builder_leaf(&builder, room, room_len, &leaf, values[0], counts[0], values[1], counts[1], values[2], counts[2]) != AV1_DONE)
-                av1_builder_leaf(&builder, room, room_len, &bare, values[0], counts[0], NULL, 0, NULL, 0);
-        } else if (av1_builder_mark(&builder, room, room_len, mark) != AV1_DONE) {
-            av1_builder_mark(&builder, room, room_len, 3);
-        }
-    }
-    return builder.written;
-}
 
 static numbers drawn_plan(void) {
     static uint8_t room[SLOT / 2];
@@ -89,7 +10,8 @@ static numbers drawn_plan(void) {
         for (size_t i = 0; i < raw.count; i++) set(raw, i, byte());
         return keep(raw), raw;
     }
-    size_t len = build(room, sizeof room), changed = one_in(2) ? 0 : 1 + below(3);
+    av1_plan_header header = drawn_header();
+    size_t len = build(&header, room, sizeof room), changed = one_in(2) ? 0 : 1 + below(3);
     while (changed-- && len) room[below(one_in(2) && len > 40 ? 40 : len)] = byte();
     if (one_in(16)) len -= below(len < 30 ? len + 1 : 30);
     if (one_in(16) && len < sizeof room) room[len++] = byte();
@@ -108,6 +30,7 @@ static size_t planes_of(numbers plan) {
     answered(status, 0 OR(DONE) OR(TOO_LONG) OR(MALFORMED));
     CHECK(kept == 0);
     CHECK(status == AV1_DONE ? refusal.at == 7 : wanted == SIZE_MAX && refusal.at < 20 && refusal.leaf == 0 && refusal.kind == 0);
+    if (status == AV1_DONE) CHECK(plan.count >= HEADER && wanted == frame_bytes((uint8_t *)plan.at + 4));
     all_kept(plan);
     return wanted;
 }
@@ -120,20 +43,6 @@ static void told(uint32_t status, av1_refusal refusal, size_t len) {
 }
 
 /* ---- a plan as the part of something else ---- */
-
-static uint8_t text[SLOT];
-static size_t text_len;
-
-static void put(const void *bytes, size_t len) {
-    memcpy(text + text_len, bytes, len);
-    text_len += len;
-}
-
-static void put_part(const uint8_t *bytes, size_t len) {
-    uint8_t length[4] = {(uint8_t)len, (uint8_t)(len >> 8), (uint8_t)(len >> 16), 0};
-    put(length, 4);
-    put(bytes, len);
-}
 
 /* What a part is refused for is what the plan is refused for, but that marks 8 and 9 are admitted in every part. `front` bytes are not in it. */
 static void told_alike(uint32_t status, av1_part_refusal told, uint32_t plan_status, av1_refusal plan_told, size_t front) {
@@ -181,17 +90,37 @@ static void as_trace(numbers plan, numbers planes, size_t wanted) {
     CHECK(found == (status != AV1_DONE ? 77 : changed < wanted ? 1 : 0));
 }
 
-/* All three, where all of the references are there. */
+/* Whether a plan is the same as one of version 2: tiles are of that version. */
+static bool goes_by_version_2(const uint8_t *plan) {
+    return plan[3] != '3' || (plan[4] % 8 == 0 && plan[6] % 8 == 0 && plan[8] != 12 && plan[10] != AV1_SHARP);
+}
+
+/* The text is the plan's frame as a grid of one tile. */
+static void put_grid(const uint8_t *plan, size_t front, size_t len) {
+    text_len = 0;
+    put("RTL1", 4), put(plan + 4, front - 4), put("\1\1", 2), put_part(plan + front, len - front);
+}
+
+/* The text is a plan without references as a sequence of its frame, which is shown and kept nowhere. */
+static void put_sequence(const uint8_t *plan, size_t len) {
+    bool has_kinds = plan[3] == '3';
+    text_len = 0;
+    put(has_kinds ? "RSQ2" : "RSQ1", 4), put(plan + 4, 6), put("\1\0", 2);
+    if (has_kinds) put_byte(1);
+    put(plan + 10, 9), put_byte(0), put_part(plan + HEADER, len - HEADER);
+}
+
+/* All three, where all of the references are there, and a grid where tiles say the same. */
 static void as_parts(numbers plan, numbers planes, size_t wanted, uint32_t status, av1_refusal refusal) {
     const uint8_t *bytes = plan.at;
-    size_t front = 20 + (size_t)__builtin_popcount(bytes[19]) * wanted;
+    size_t front = HEADER + (size_t)__builtin_popcount(bytes[19]) * wanted;
     if (plan.count < front || plan.count + wanted > SLOT / 4) return;
-    text_len = 0;
-    put("RTL1", 4), put(bytes + 4, front - 4), put("\1\1", 2), put_part(bytes + front, plan.count - front);
-    comes_to(false, planes, wanted, status, refusal, front);
+    if (goes_by_version_2(bytes)) {
+        put_grid(bytes, front, plan.count);
+        comes_to(false, planes, wanted, status, refusal, front);
+    }
     if (bytes[19] == 0) {
-        text_len = 0;
-        put("RSQ1", 4), put(bytes + 4, 6), put("\1", 2), put(bytes + 10, 9), put("", 1), put_part(bytes + front, plan.count - front);
+        put_sequence(bytes, plan.count);
         comes_to(true, planes, wanted, status, refusal, front);
     }
     if (status == AV1_DONE) as_trace(plan, planes, wanted);

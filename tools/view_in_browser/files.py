@@ -2,50 +2,55 @@
 import random
 import struct
 
-from plans import Plan, great
+from plans import Plan, great, halves, odd
 
 FRONT = 20
 
 
-def plane_sides(width, height, sampling):
-    halved = (width >> (sampling < 2), height >> (sampling == 0))
-    return [(width, height), halved, halved]
-
-
 def plane_bytes(width, height, depth, sampling):
     """How many bytes the planes of a frame have."""
-    return (1 if depth == 8 else 2) * sum(w * h for w, h in plane_sides(width, height, sampling))
+    return (1 if depth == 8 else 2) * sum(w * h for w, h in halves(width, height, sampling))
 
 
 # ---- sequences
 
 
 class Frame:
-    """A frame of a sequence: which frame each slot holds before it, none as -1, which slots it replaces, and its plan."""
+    """An entry of a sequence: which frame each slot holds before its frame, none as -1; which slots it replaces; the plan of its frame; the number of
+    that, which is its own, or the one that it shows again; and whether it is shown."""
 
-    def __init__(self, held, refresh, plan):
-        self.held, self.refresh, self.plan = held, refresh, plan
+    def __init__(self, held, refresh, plan, shows, shown):
+        self.held, self.refresh, self.plan, self.shows, self.shown = held, refresh, plan, shows, shown
 
 
 def frames_of(data, planes_of):
-    """The frames of a sequence, in turn. `planes_of` gives the planes of a frame before by its number, or of the last one by its plan."""
-    width, height, depth, sampling, count = struct.unpack_from("<HHBBH", data, 4)
-    at, held = 12, [-1] * 8
+    """The entries of a sequence, in turn. `planes_of` gives the planes of a frame before by its number, or of the last one by its plan."""
+    letters, count = data[:4], struct.unpack_from("<H", data, 10)[0]
+    at, held, frames = 12, [-1] * 8, []
     for number in range(count):
-        settings, slots, refresh, (length,) = data[at:at + 2], data[at + 2:at + 9], data[at + 9], struct.unpack_from("<I", data, at + 10)
-        read = sorted({slot for slot in slots if held[slot] >= 0})
-        front = b"RPL2" + data[4:10] + settings + slots + bytes([sum(1 << slot for slot in read)])
-        plan = front + b"".join(planes_of(held[slot]) for slot in read) + data[at + 14:at + 14 + length]
-        yield Frame(list(held), refresh, plan)
-        held = [number if refresh >> slot & 1 else other for slot, other in enumerate(held)]
-        at += 14 + length
+        kind = data[at] if letters == b"RSQ2" else 1
+        at += letters == b"RSQ2"
+        if kind == 2:
+            first = frames[held[data[at]]]
+            made = Frame(first.held, data[at + 1], first.plan, first.shows, True)
+            at += 2
+        else:
+            settings, slots, refresh, (length,) = data[at:at + 2], data[at + 2:at + 9], data[at + 9], struct.unpack_from("<I", data, at + 10)
+            read = sorted({slot for slot in slots if held[slot] >= 0})
+            front = (b"RPL3" if letters == b"RSQ2" else b"RPL2") + data[4:10] + settings + slots + bytes([sum(1 << slot for slot in read)])
+            plan = front + b"".join(planes_of(held[slot]) for slot in read) + data[at + 14:at + 14 + length]
+            made = Frame(list(held), refresh, plan, number, kind == 1)
+            at += 14 + length
+        frames.append(made)
+        yield made
+        held = [made.shows if made.refresh >> slot & 1 else other for slot, other in enumerate(held)]
 
 
 def reconstructed(data, recon):
-    """The planes of all frames, each from its own plan."""
+    """The planes of all entries, each from the plan of its frame."""
     planes = []
     for frame in frames_of(data, lambda number: planes[number]):
-        planes.append(recon(frame.plan))
+        planes.append(recon(frame.plan) if frame.shows == len(planes) else planes[frame.shows])
     return planes
 
 
@@ -55,6 +60,18 @@ def frame(refresh, part, slots=range(7), settings=b"\0\0"):
 
 def sequence(frames, width=512, height=512, depth=10, sampling=0):
     return b"RSQ1" + struct.pack("<HHBBH", width, height, depth, sampling, len(frames)) + b"".join(frames)
+
+
+def shown_and_not(entries, width=73, height=51, depth=10, sampling=0):
+    return b"RSQ2" + struct.pack("<HHBBH", width, height, depth, sampling, len(entries)) + b"".join(entries)
+
+
+def hidden():
+    """Entries of the second version: frame 0; 1, from it, which entry 3 shows; 2, from 1; 3; 4, from 1 and never shown; and 5, from 4."""
+    plain, *others = (leaves_of(odd(depth=10, seed=seed, moves=seed > 0)) for seed in range(5))
+    heads = [(1, 3, 0), (0, 4, 0), (1, 0, 2), None, (0, 1, 3), (1, 0, 0)]
+    parts = iter([plain, *others])
+    return shown_and_not([b"\2\2\10" if head is None else bytes(head[:1]) + frame(head[1], next(parts), 7 * [head[2]]) for head in heads])
 
 
 def leaves_of(plan):
@@ -116,12 +133,12 @@ def joined(data, recon):
     """The planes of a grid's frame, of each tile from its own plan."""
     width, height, depth, sampling = struct.unpack_from("<HHBB", data, 4)
     size = 1 if depth == 8 else 2
-    planes = [bytearray(size * w * h) for w, h in plane_sides(width, height, sampling)]
+    planes = [bytearray(size * w * h) for w, h in halves(width, height, sampling)]
     for tile in tiles_of(data):
         at, found = 0, recon(tile.plan)
-        sides = plane_sides(*struct.unpack_from("<HH", tile.plan, 4), sampling)
+        sides = halves(*struct.unpack_from("<HH", tile.plan, 4), sampling)
         for p, (wide, high) in enumerate(sides):
-            row_length = size * plane_sides(width, height, sampling)[p][0]
+            row_length = size * halves(width, height, sampling)[p][0]
             x, y = tile.x * sides[p][0] // sides[0][0], tile.y * sides[p][1] // sides[0][1]
             for row in range(high):
                 start = (y + row) * row_length + size * x
@@ -134,7 +151,7 @@ def two_tiles(make):
     """Two tiles of 512x512, made from numbers, from one slot with other samples in each tile."""
     draw, width, height = random.Random(11), 1024, 512
     slot = []
-    for p, (w, h) in enumerate(plane_sides(width, height, 0)):
+    for p, (w, h) in enumerate(halves(width, height, 0)):
         levels = (480, 530) if p else (300, 700)
         slot += [levels[x * 2 >= w] + draw.randrange(64) for _ in range(h) for x in range(w)]
     front = b"RTL1" + struct.pack("<HHBBBB", width, height, 10, 0, 0, 1) + bytes(7) + b"\1" + struct.pack(f"<{len(slot)}H", *slot)

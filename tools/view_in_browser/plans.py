@@ -9,6 +9,12 @@ SIZES = [(4, 4), (8, 8), (16, 16), (32, 32), (64, 64), (4, 8), (8, 4), (8, 16), 
 CHANGES = [number // 2 if number % 2 == 0 else 255 - number // 2 for number in range(256)]
 
 
+def halves(width, height, sampling):
+    """The sides of the planes of a frame: half of an odd side is rounded up."""
+    half = (width + (sampling < 2) >> (sampling < 2), height + (sampling == 0) >> (sampling == 0))
+    return [(width, height), half, half]
+
+
 class Plan:
     """What a plan says: its frame, the planes of its slots, and its leaves as lists of number, column, row, sides, mode, step, chroma mode,
     weights, vectors, sides of luma transforms and triples."""
@@ -16,8 +22,8 @@ class Plan:
     def __init__(self, data):
         self.data, self.leaves, self.types, self.lists = data, [], [], []
         self.read_front()
-        for y in range(0, self.height, 64):
-            for x in range(0, self.width, 64):
+        for y in range(0, self.coded[0][1], 64):
+            for x in range(0, self.coded[0][0], 64):
                 self.node(x, y, 64)
 
     def read_front(self):
@@ -25,10 +31,10 @@ class Plan:
         data = self.data
         self.width, self.height, self.depth, self.sampling = struct.unpack_from("<HHBB", data, 4)
         self.mask = data[19]
-        halved = self.sampling < 2, self.sampling == 0
-        self.sides = [(self.width, self.height)] + 2 * [(self.width >> halved[0], self.height >> halved[1])]
+        self.halved = self.sampling < 2, self.sampling == 0
+        self.sides = halves(self.width, self.height, self.sampling)
+        self.coded = halves(self.width + 7 & ~7, self.height + 7 & ~7, self.sampling)
         self.bytes = 1 if self.depth == 8 else 2
-        self.halved = halved
         length, self.at, self.slots = self.bytes * sum(w * h for w, h in self.sides), 20, {}
         for slot in range(8):
             if self.mask >> slot & 1:
@@ -41,7 +47,7 @@ class Plan:
         return values if len(values) > 1 else values[0]
 
     def node(self, x, y, side):
-        if x >= self.width or y >= self.height:
+        if x >= self.coded[0][0] or y >= self.coded[0][1]:
             return
         mark, half, quarter = self.take("B"), side // 2, side // 4
         cuts = {0: [(0, 0, side, side)], 1: [(0, 0, side, half), (0, half, side, half)], 2: [(0, 0, half, side), (half, 0, half, side)],
@@ -63,7 +69,7 @@ class Plan:
         return triples
 
     def leaf(self, x, y, w, h):
-        if x >= self.width or y >= self.height:
+        if x >= self.coded[0][0] or y >= self.coded[0][1]:
             return
         carried = not (self.halved[0] and w == 4 and x // 4 % 2 == 0) and not (self.halved[1] and h == 4 and y // 4 % 2 == 0)
         mode, step, chroma, weights, vectors = self.take("B"), 0, -1, None, []
@@ -108,7 +114,7 @@ class Plan:
     def luma(self, leaf):
         """How many luma samples of the frame lie in a leaf."""
         x, y, w, h = leaf[1:5]
-        return (min(x + w, self.width) - x) * (min(y + h, self.height) - y)
+        return max(min(x + w, self.width) - x, 0) * max(min(y + h, self.height) - y, 0)
 
     def cut(self, number, block):
         """The plan with none of the coefficients from a transform block on: those of this block and of the later ones in list `number` of
@@ -121,7 +127,7 @@ class Plan:
         return b"".join(pieces) + self.data[at:]
 
     def blocks(self, leaf, p):
-        """The transform blocks of a leaf in a plane that begin in it: number, column, row and sides."""
+        """The transform blocks of a leaf in a plane that begin in what is coded of it: number, column, row and sides."""
         x, y, w, h = leaf[1:5]
         (across, down), (tw, th) = (0, 0), leaf[10]
         if p:
@@ -129,7 +135,7 @@ class Plan:
             x, y, w, h = x // 4 // (1 + across) * 4, y // 4 // (1 + down) * 4, max(w >> across, 4), max(h >> down, 4)
             tw, th = min(w, 32), min(h, 32)
         places = [(x + dx, y + dy) for dy in range(0, h, th) for dx in range(0, w, tw)]
-        return [(n, bx, by, tw, th) for n, (bx, by) in enumerate(places) if bx < self.sides[p][0] and by < self.sides[p][1]]
+        return [(n, bx, by, tw, th) for n, (bx, by) in enumerate(places) if bx < self.coded[p][0] and by < self.coded[p][1]]
 
     def inside(self, samples, p, x, y, w, h):
         """The samples of a plane's rectangle, as far as it is visible."""
@@ -174,6 +180,46 @@ def great(side, most=250):
 
     for _ in range((side // 64) ** 2):
         node(64)
+    return b"".join(out)
+
+
+def odd(width=73, height=51, depth=8, sampling=0, seed=9, moves=True):
+    """A plan of version 3 whose sides are no multiples of 8: leaves of 4x4 and of 8x8, some of which lie past what is shown, intra and, where it
+    moves, from slot 0."""
+    draw = random.Random(seed)
+    planes = [draw.randrange(1 << depth) for side in halves(width, height, sampling) for _ in range(side[0] * side[1])]
+    out = [b"RPL3" + struct.pack("<HHBBBB", width, height, depth, sampling, 0, 0) + bytes(7) + bytes([moves])]
+    out.append(struct.pack(f"<{len(planes)}{'B' if depth == 8 else 'H'}", *planes) if moves else b"")
+    columns, rows = width + 7 & ~7, height + 7 & ~7
+
+    def leaf(x, y, side):
+        carried = side == 8 or ((sampling == 2 or x // 4 % 2 == 1) and (sampling > 0 or y // 4 % 2 == 1))
+        if side == 8 and moves and draw.randrange(2):
+            out.append(bytes([19, 1]) + struct.pack("<hh", draw.randrange(-200, 200), draw.randrange(-200, 200)))
+        else:
+            out.append(bytes([draw.choice((0, 9, 12)), 0]) + (bytes([draw.choice((0, 1, 2, 9)), 0]) if carried else b""))
+        out.append(bytes([side == 8, 0]) + (b"\0" if carried else b""))
+        count = draw.randrange(3)
+        out.append(struct.pack("<H", count) + b"".join(struct.pack("<BHi", 0, i, draw.randrange(-900, 900)) for i in range(count)))
+        out.append(bytes(4) if carried else b"")
+
+    def node(x, y, side):
+        if x >= columns or y >= rows:
+            return
+        whole = side == 8 and draw.randrange(2)
+        out.append(b"\0" if whole else b"\3")
+        if whole:
+            leaf(x, y, 8)
+            return
+        for dx, dy in ((0, 0), (side // 2, 0), (0, side // 2), (side // 2, side // 2)):
+            if side == 8:
+                leaf(x + dx, y + dy, 4)
+            else:
+                node(x + dx, y + dy, side // 2)
+
+    for y in range(0, rows, 64):
+        for x in range(0, columns, 64):
+            node(x, y, 64)
     return b"".join(out)
 
 

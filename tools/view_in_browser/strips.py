@@ -55,23 +55,40 @@ def look_at_strip(browser, checks, frames, planes):
         checks.same(f"{name}: its number", browser.json("[view.state.frame, Number(document.querySelector('#frames [aria-selected=true]').dataset.frame)]"),
                     2 * [number])
         checks.true(f"{name}: the panel says so", browser.text("frame").startswith(f"frame {number} of {len(frames)}, "))
+        checks.true(f"{name}: and where it is shown and kept", browser.text("frame").endswith(", " + kept_text(frames, number)))
         checks.same(f"{name}: what the leaves say", browser.json(LEAVES), plan.leaves)
         held = {f"slot {slot}": planes[other] for slot, other in enumerate(frame.held) if other >= 0}
         look_at_samples(browser, checks, name, plan, {"reconstruction": planes[number], **held})
         labels = browser.json("[...document.querySelectorAll('#sources label')].map((l) => l.textContent.trim())")
         checks.same(f"{name}: its slots", labels, ["reconstruction"] + [f"slot {s}, frame {other}" for s, other in enumerate(frame.held) if other >= 0])
-        look_at_cursor(browser, checks, name, plan, planes[number], 200 + number, 131)
+        look_at_cursor(browser, checks, name, plan, planes[number], min(200 + number, plan.width - 1), min(131, plan.height - 1))
         look_at_item(browser, checks, plan, number, frame, planes[number])
         browser.value("document.getElementById('strip').focus()")
         browser.key("ArrowRight")
     checks.same("behind the last frame there is none", browser.value("view.state.frame"), len(frames) - 1)
 
 
+def is_held(frames, number):
+    """Whether the page has the samples of an entry's frame: it is shown, if not here then elsewhere."""
+    return any(other.shown and other.shows == frames[number].shows for other in frames)
+
+
+def kept_text(frames, number):
+    """What the panel says last of an entry."""
+    frame, slots = frames[number], [str(slot) for slot in range(8) if frames[number].refresh >> slot & 1]
+    kept = "all slots" if len(slots) == 8 else f"slot{'s' * (len(slots) > 1)} {', '.join(slots)}"
+    if frame.shows != number:
+        return f"frame {frame.shows} again, kept in " + (kept if slots else "no other slot")
+    where = "" if frame.shown else "not shown here, " if is_held(frames, number) else "never shown, its samples are not here, "
+    return where + "kept in " + (kept if slots else "no slot")
+
+
 def look_at_item(browser, checks, plan, number, frame, planes):
     """The frame in small, with the slots that it replaces."""
     replaced = [str(slot) for slot in range(8) if frame.refresh >> slot & 1]
     spans = browser.json(f"[...document.querySelectorAll('#frame-{number} span')].map((s) => s.textContent)")
-    checks.same(f"frame {number}: the slots that it replaces", spans[0], str(number) + (" to " + ("all" if len(replaced) == 8 else " ".join(replaced)) if replaced else ""))
+    said = f" again {frame.shows}" if frame.shows != number else "" if frame.shown else " hidden"
+    checks.same(f"frame {number}: the slots that it replaces", spans[0], str(number) + said + (" to " + ("all" if len(replaced) == 8 else " ".join(replaced)) if replaced else ""))
     sides = browser.json(f"((c) => [c.width, c.height])(document.querySelector('#frame-{number} canvas'))")
     at = [side // 3 for side in sides]
     x, y = (int((at[i] + 0.5) * length / sides[i]) for i, length in enumerate((plan.width, plan.height)))

@@ -243,6 +243,24 @@ def sequence(browser, pages, checks, options):
     checks.same("long: faults of the page", browser.faults(), [])
 
 
+def hidden(browser, pages, checks, options):
+    """A sequence of which one frame is shown later, one again, and one never."""
+    data = files.hidden()
+    path, shown = pages.write_file("hidden", "sequence", data)
+    planes = files.reconstructed(data, pages.planes)
+    frames = list(files.frames_of(data, lambda number: planes[number]))
+    checks.same("hidden: what is shown of it", shown, b"".join(held for frame, held in zip(frames, planes) if frame.shown))
+    grey = len(planes[0]) // 2 * b"\0\2"
+    browser.open(path)
+    strips.look_at_strip(browser, checks, frames, [held if strips.is_held(frames, i) else grey for i, held in enumerate(planes)])
+    screenshot(browser, options, "hidden", "view.setFrame(3), view.moveTo(72, 50), view.fitFrame()")
+    checks.same("hidden: faults of the page", browser.faults(), [])
+    if options.view != "none":
+        again = files.shown_and_not([b"\1" + files.frame(2, files.leaves_of(plans.odd(depth=10, moves=False))), b"\2\5\0"])
+        refused = subprocess.run(shlex.split(options.view) + ["sequence"], input=again, capture_output=True)
+        checks.same("an empty slot that is to be shown again", (refused.returncode, refused.stdout, refused.stderr.splitlines()[:1]), (2, b"", [b"frame 1 empty slot"]))
+
+
 def grid(browser, pages, checks, options):
     """Grids of tiles: the stored one, and two large tiles that read a reference."""
     with open(os.path.join(CRATES, "av1_tools", "stdin"), "rb") as file:
@@ -342,7 +360,7 @@ def coded(browser, pages, checks, options):
     checks.same("coded: faults of the page", browser.faults(), [])
 
 
-SMALL = [worked, stripes, departures, five, coded, trace, everywhere, sequence, grid]
+SMALL = [worked, stripes, departures, five, coded, trace, everywhere, sequence, hidden, grid]
 LARGE = [great, greatest_trace, recorded]
 
 
