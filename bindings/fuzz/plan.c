@@ -90,11 +90,6 @@ static void as_trace(numbers plan, numbers planes, size_t wanted) {
     CHECK(found == (status != AV1_DONE ? 77 : changed < wanted ? 1 : 0));
 }
 
-/* Whether a plan is the same as one of version 2: tiles are of that version. */
-static bool goes_by_version_2(const uint8_t *plan) {
-    return plan[3] != '3' || (plan[4] % 8 == 0 && plan[6] % 8 == 0 && plan[8] != 12 && plan[10] != AV1_SHARP);
-}
-
 /* The text is the plan's frame as a grid of one tile. */
 static void put_grid(const uint8_t *plan, size_t front, size_t len) {
     text_len = 0;
@@ -110,12 +105,12 @@ static void put_sequence(const uint8_t *plan, size_t len) {
     put(plan + 10, 9), put_byte(0), put_part(plan + HEADER, len - HEADER);
 }
 
-/* All three, where all of the references are there, and a grid where tiles say the same. */
+/* All three, where all of the references are there; no grid of version 3, since tiles are of version 2. */
 static void as_parts(numbers plan, numbers planes, size_t wanted, uint32_t status, av1_refusal refusal) {
     const uint8_t *bytes = plan.at;
     size_t front = HEADER + (size_t)__builtin_popcount(bytes[19]) * wanted;
     if (plan.count < front || plan.count + wanted > SLOT / 4) return;
-    if (goes_by_version_2(bytes)) {
+    if (bytes[3] != '3') {
         put_grid(bytes, front, plan.count);
         comes_to(false, planes, wanted, status, refusal, front);
     }
