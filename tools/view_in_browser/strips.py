@@ -3,6 +3,7 @@ import json
 import random
 
 from checks import FRAMES, drawn, pixels, place_in_window
+from edges import look_at_cursor, source_sample
 from held import LEAVES
 from plans import Plan
 
@@ -23,23 +24,6 @@ def look_at_samples(browser, checks, name, plan, held):
     checks.same(f"{name}: samples", browser.json(script), wanted)
     found = browser.json("view.sources.map((s) => s.of.reduce((sum, v) => sum + v, 0))")
     checks.same(f"{name}: the sums of all samples", found, [sum(map(sum, planes)) for planes in samples])
-
-
-def look_at_cursor(browser, checks, name, plan, planes, x, y):
-    """What stands beside the cursor is the sample under the mouse."""
-    browser.value("view.setLocked(false), view.fitFrame()")
-    browser.mouse("mouseMoved", *place_in_window(browser, x, y))
-    samples = plan.samples(planes)
-    wanted = [str(samples[p][(y >> (p > 0 and plan.halved[1])) * plan.sides[p][0] + (x >> (p > 0 and plan.halved[0]))]) for p in range(3)]
-    found = browser.json("[...document.querySelectorAll('#samples tr')][1].textContent")
-    checks.same(f"{name}: the samples under the cursor", found, "reconstruction" + "".join(wanted))
-
-
-def source_sample(browser, leaf):
-    """The sample at the middle of a block of luma in the first figure of its source, in grey."""
-    zoom = 200 / (max(leaf[3], leaf[4]) + 8)
-    at = [int((3 + side // 2 + 0.5) * zoom) for side in leaf[3:5]]
-    return browser.value(f"document.querySelector('#source canvas').getContext('2d').getImageData({at[0]}, {at[1]}, 1, 1).data[0]")
 
 
 # ---- sequences

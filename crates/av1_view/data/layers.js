@@ -228,13 +228,13 @@ function drawMap(context) {
   const { property, found } = state;
   const wanted = found && new Set(found);
   const colour = (l) => wanted && !wanted.has(l.number) ? 0 : pixelOf(property.colourOf(property.classOf(l)), 170);
-  drawOverFrame(context, cellImage('map', property.id + ' ' + foundKey(), colour), false);
+  drawOverFrame(context, cellImage('map', property.id + ' ' + foundKey(), colour), false, 4);
   return true;
 }
 
 // A tint over leaves that depart from AV1, and a sign where there is room.
 function drawDepartures(context, seen, part, crowded) {
-  drawOverFrame(context, cellImage('departures', '', (l) => departures.has(l.number) ? pixelOf([255, 59, 92], 80) : 0), false);
+  drawOverFrame(context, cellImage('departures', '', (l) => departures.has(l.number) ? pixelOf([255, 59, 92], 80) : 0), false, 4);
   if (crowded) return true;
   for (const leaf of seen) {
     if (!departures.has(leaf.number) || Math.min(leaf.width, leaf.height) * state.zoom < 20) continue;

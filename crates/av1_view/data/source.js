@@ -24,7 +24,8 @@ function sourceFigure(leaf, m) {
   const samples = document.createElement('canvas');
   samples.width = read.width;
   samples.height = read.height;
-  samples.getContext('2d').putImageData(paint(painter, leaf.area, read), 0, 0);
+  const area = plan.tiles ? leaf.area : shownOf(frame);
+  samples.getContext('2d').putImageData(paint(painter, area, read), 0, 0);
   const figure = document.createElement('figure');
   const caption = document.createElement('figcaption');
   caption.textContent = REFERENCES[m.reference] + ', ' + slotText(slot) + ': from column ' + eighths(8 * leaf.x + m.column) + ', row ' + eighths(8 * leaf.y + m.row);

@@ -912,11 +912,12 @@ const layers = Object.fromEntries(LAYERS.map((layer) => [layer.id, layer.on && H
 // Lengths are of CSS pixels, of which each has `scale` of the device's on a side. `left` and `top` are the luma place at the corner.
 const state = {
   frame: 0, source: sources && sources[0], component: 'RGB', matrix: MATRICES[0], gain: 'automatic', zoom: 1, left: 0, top: 0, width: 1, height: 1, scale: 1, ground: '',
-  x: 0, y: 0, locked: false, property: PROPERTIES[0], chosen: null, words: '', found: null, difference: -1,
+  x: 0, y: 0, unseen: null, locked: false, property: PROPERTIES[0], chosen: null, words: '', found: null, difference: -1,
 };
 
 const leafAt = (x, y) => leaves[cells.leaves[(y >> 2) * cells.columns + (x >> 2)]];
-const leafHere = () => leafAt(state.x, state.y);
+// The leaf at the cursor, or the one that was gone to and lies past what is shown.
+const leafHere = () => state.unseen === null ? leafAt(state.x, state.y) : leaves[state.unseen];
 const shownPlane = () => Math.max(PLANES.indexOf(state.component), 0);
 const gainHere = () => gainOf(frame, state.source, state.component, state.gain);
 const colourOf = (id) => LAYERS.find((layer) => layer.id === id).colour;
@@ -1022,10 +1023,10 @@ function barAt(context, text, x, y, colour) {
   textAt(context, text, x, y, 13, colour);
 }
 
-// An image stretched over the frame.
-function drawOverFrame(context, image, smooth) {
+// An image over the frame, as far as that is shown; each pixel of the image is as wide and as high as so many luma samples.
+function drawOverFrame(context, image, smooth, samples = 1) {
   context.imageSmoothingEnabled = smooth;
-  context.drawImage(image, 0, 0, image.width, image.height, across(0), down(0), frame.width * state.zoom, frame.height * state.zoom);
+  context.drawImage(image, 0, 0, frame.width / samples, frame.height / samples, across(0), down(0), frame.width * state.zoom, frame.height * state.zoom);
 }
 
 // An image with a pixel for each luma cell, in the colour of its leaf. One is kept for each name, while its key stays.
@@ -1276,13 +1277,13 @@ function drawMap(context) {
   const { property, found } = state;
   const wanted = found && new Set(found);
   const colour = (l) => wanted && !wanted.has(l.number) ? 0 : pixelOf(property.colourOf(property.classOf(l)), 170);
-  drawOverFrame(context, cellImage('map', property.id + ' ' + foundKey(), colour), false);
+  drawOverFrame(context, cellImage('map', property.id + ' ' + foundKey(), colour), false, 4);
   return true;
 }
 
 // A tint over leaves that depart from AV1, and a sign where there is room.
 function drawDepartures(context, seen, part, crowded) {
-  drawOverFrame(context, cellImage('departures', '', (l) => departures.has(l.number) ? pixelOf([255, 59, 92], 80) : 0), false);
+  drawOverFrame(context, cellImage('departures', '', (l) => departures.has(l.number) ? pixelOf([255, 59, 92], 80) : 0), false, 4);
   if (crowded) return true;
   for (const leaf of seen) {
     if (!departures.has(leaf.number) || Math.min(leaf.width, leaf.height) * state.zoom < 20) continue;
@@ -1318,7 +1319,7 @@ const rowOf = (d) => down((d.row + 0.5) * (1 << frame.ydecs[d.plane]));
 function drawDifferences(context, seen, part, crowded) {
   const entries = entriesSeen(seen, crowded);
   if (!entries) {
-    drawOverFrame(context, heatOfLeaves(), false);
+    drawOverFrame(context, heatOfLeaves(), false, 4);
     return false;
   }
   const rings = [];
@@ -1400,7 +1401,8 @@ function sourceFigure(leaf, m) {
   const samples = document.createElement('canvas');
   samples.width = read.width;
   samples.height = read.height;
-  samples.getContext('2d').putImageData(paint(painter, leaf.area, read), 0, 0);
+  const area = plan.tiles ? leaf.area : shownOf(frame);
+  samples.getContext('2d').putImageData(paint(painter, area, read), 0, 0);
   const figure = document.createElement('figure');
   const caption = document.createElement('figcaption');
   caption.textContent = REFERENCES[m.reference] + ', ' + slotText(slot) + ': from column ' + eighths(8 * leaf.x + m.column) + ', row ' + eighths(8 * leaf.y + m.row);
@@ -1590,7 +1592,8 @@ function sampleRows() {
 // All that is said of the leaf and the sample at the cursor.
 function showPlace() {
   const l = leafHere();
-  element('place').textContent = 'leaf ' + l.number + ', sample at column ' + state.x + ', row ' + state.y;
+  const past = state.unseen === null ? '' : ' past what is shown';
+  element('place').textContent = 'leaf ' + l.number + past + ', sample at column ' + state.x + ', row ' + state.y;
   element('locked').textContent = state.locked ? 'Locked: Esc lets go.' : 'A click locks it.';
   element('samples').replaceChildren(row('', ...PLANES), ...sampleRows());
   const found = (differences.ofLeaf.get(l.number) || []).map((d) =>
@@ -1731,8 +1734,9 @@ function showList() {
 
 // ---- Moving.
 
-// Puts the cursor on a luma sample, and shows all that is said of it.
-function point(x, y) {
+// Puts the cursor on a luma sample, and shows all that is said of it, or of a leaf past what is shown.
+function point(x, y, unseen = null) {
+  state.unseen = unseen;
   state.x = Math.min(Math.max(x, 0), frame.width - 1);
   state.y = Math.min(Math.max(y, 0), frame.height - 1);
   showPlace();
@@ -1742,8 +1746,8 @@ function point(x, y) {
 }
 
 // The same, and puts the sample into view.
-function moveTo(x, y) {
-  point(x, y);
+function moveTo(x, y, unseen = null) {
+  point(x, y, unseen);
   const width = state.width / state.zoom;
   const height = state.height / state.zoom;
   if (state.x < state.left || state.x >= state.left + width) state.left = state.x - width / 2;
@@ -1758,8 +1762,9 @@ function setLocked(locked) {
 }
 
 function moveToLeaf(number) {
+  const { x, y, width, height } = visibleBox(frame, leaves[number]);
   state.locked = true;
-  moveTo(leaves[number].x, leaves[number].y);
+  moveTo(x, y, width * height > 0 ? null : number);
 }
 
 // The next or the previous leaf that is found.
@@ -1902,6 +1907,7 @@ function setFrame(number) {
   if (number < 0 || number >= file.count || number === state.frame) return;
   takeFrame(number);
   state.frame = number;
+  state.unseen = null;
   state.source = sources.find((s) => s.name === state.source.name) || sources[0];
   cellImages.clear();
   classLists.clear();
