@@ -1,4 +1,5 @@
-"""What pages show at the sides of a frame: its last column and row, leaves and places past them, and what vectors read there."""
+"""What pages show at the sides of a frame: its last column and row, leaves and places past them, and what vectors read there; and of chroma that leaves
+share."""
 from checks import drawn, pixels, place_in_window
 
 
@@ -12,10 +13,10 @@ def look_at_cursor(browser, checks, name, plan, planes, x, y):
     checks.same(f"{name}: the samples under the cursor", found, "reconstruction" + "".join(wanted))
 
 
-def source_sample(browser, leaf):
-    """The sample at the middle of a block of luma in the first figure of its source, in grey."""
-    zoom = 200 / (max(leaf[3], leaf[4]) + 8)
-    at = [int((3 + side // 2 + 0.5) * zoom) for side in leaf[3:5]]
+def source_sample(browser, sides):
+    """The sample at the middle of a block with these sides in luma, in the first figure of its source, in grey."""
+    zoom = 200 / (max(sides) + 8)
+    at = [int((3 + side // 2 + 0.5) * zoom) for side in sides]
     return browser.value(f"document.querySelector('#source canvas').getContext('2d').getImageData({at[0]}, {at[1]}, 1, 1).data[0]")
 
 
@@ -103,6 +104,55 @@ def look_at_sources(browser, checks, name, plan):
         past += not (0 <= x < plan.width and 0 <= y < plan.height)
         browser.value(f"view.moveToLeaf({leaf[0]})")
         wanted = plan.slots[0][0][min(max(y, 0), plan.height - 1) * plan.width + min(max(x, 0), plan.width - 1)]
-        checks.near(f"{name}: a sample of the source", source_sample(browser, leaf), wanted / (1 << plan.depth - 8), 1)
+        checks.near(f"{name}: a sample of the source", source_sample(browser, leaf[3:5]), wanted / (1 << plan.depth - 8), 1)
     checks.true(f"{name}: some lead past the sides", past > 0 or plan.width < 16)
     browser.value("document.getElementById('layer-source') && view.setLayer('source', false), view.setLocked(false), view.setComponent('RGB')")
+
+
+# ---- chroma that leaves share
+
+
+def shared_text(sharers):
+    """What the page says of a block of chroma: by which leaf each part is predicted, or by which the whole, and why."""
+    intra, last = [leaf[0] for leaf in sharers if not leaf[9]], sharers[-1]
+    if intra:
+        return f"whole by leaf {last[0]}" + (f", as leaf {intra[0]} is intra" if last[9] else "")
+    (x, y), down, across = sharers[0][1:3], len({leaf[2] for leaf in sharers}) > 1, len({leaf[1] for leaf in sharers}) > 1
+    names = [" ".join(down * ["upper" if leaf[2] == y else "lower"] + across * ["left" if leaf[1] == x else "right"]) for leaf in sharers]
+    return ", ".join(f"{name} by leaf {leaf[0]}" for name, leaf in zip(names, sharers))
+
+
+def look_at_shared(browser, checks, name, plan):
+    """The words on chroma that leaves share, and the words that find it; each leaf's source in U is that of the part, or of the whole, that it predicts."""
+    shared = [sharers for sharers in map(plan.sharers, plan.leaves) if len(sharers) > 1 and any(leaf[9] for leaf in sharers)]
+    for sharers in shared:
+        for leaf in sharers:
+            browser.value(f"view.moveToLeaf({leaf[0]})")
+            rows = dict(browser.json("[...document.querySelectorAll('#fields tr')].map((r) => [...r.children].map((c) => c.textContent))"))
+            checks.same(f"{name}: who predicts the chroma of leaf {leaf[0]}", rows.get("chroma predicted"), shared_text(sharers))
+            checks.same(f"{name}: who carries the chroma of leaf {leaf[0]}", rows.get("chroma"), f"carried by leaf {sharers[-1][0]}" if leaf != sharers[-1] else None)
+            look_at_shared_source(browser, checks, name, plan, leaf, sharers)
+    whole = [any(not leaf[9] for leaf in sharers) for sharers in shared]
+    for word, wanted in (("parts", False), ("whole", True)):
+        browser.value(f"view.setSearch('{word}')")
+        found = {sharers[-1][0] for sharers, is_whole in zip(shared, whole) if is_whole == wanted and sharers[-1][9]}
+        checks.same(f"{name}: blocks of chroma by a search", browser.json("view.state.found"), sorted(found))
+    browser.value("view.setSearch(''), view.setLocked(false)")
+
+
+def look_at_shared_source(browser, checks, name, plan, leaf, sharers):
+    """A sample of the source of what a leaf predicts of U; none where a later leaf predicts it all."""
+    predicts = all(other[9] for other in sharers) or leaf == sharers[-1]
+    browser.value("view.setLayer('source', true), view.setComponent('U')")
+    checks.same(f"{name}: a source of leaf {leaf[0]} in U", not browser.value("document.getElementById('source').hidden"), bool(leaf[9]) and predicts)
+    if leaf[9] and predicts:
+        x, y, w, h = leaf[1:5]
+        if any(not other[9] for other in sharers):
+            x, y = sharers[0][1:3]
+            w, h = leaf[1] + w - x, leaf[2] + h - y
+        _, row, column = leaf[9][0]
+        middle = [(8 * at + eighths) // 8 + side // 2 for at, eighths, side in ((x, column, w), (y, row, h))]
+        column, row = (min(max(at, 0), last - 1) >> halved for at, last, halved in zip(middle, (plan.width, plan.height), plan.halved))
+        wanted = plan.slots[0][1][row * plan.sides[1][0] + column] / (1 << plan.depth - 8)
+        checks.near(f"{name}: a sample of the source of leaf {leaf[0]} in U", source_sample(browser, (w, h)), wanted, 1)
+    browser.value("view.setLayer('source', false), view.setComponent('RGB')")

@@ -126,7 +126,7 @@ def look_at_slots(browser, checks, frames, planes):
         x, y = (8 * leaf[1] + column) // 8 + leaf[3] // 2, (8 * leaf[2] + row) // 8 + leaf[4] // 2
         at = min(max(y, 0), plan.height - 1) * plan.width + min(max(x, 0), plan.width - 1)
         wanted = plan.samples(planes[frame.held[slots[reference - 1]]])[0][at]
-        checks.near("a sample of the source", source_sample(browser, leaf), wanted / (1 << plan.depth - 8), 1)
+        checks.near("a sample of the source", source_sample(browser, leaf[3:5]), wanted / (1 << plan.depth - 8), 1)
     for other in range(len(frames)):
         names = " ".join(NAMES[i + 1] for i, slot in enumerate(slots) if frame.held[slot] == other)
         checks.same(f"what frame {other} is read as", browser.value(f"document.querySelector('#frame-{other} span:last-child').textContent"), names)
@@ -218,7 +218,7 @@ def look_at_tile_sources(browser, checks, tiles):
             past += outside
             browser.value(f"view.moveToLeaf({ahead + leaf[0]})")
             wanted = plan.slots[0][0][min(max(y, 0), plan.height - 1) * plan.width + min(max(x, 0), plan.width - 1)]
-            checks.near("a sample of the source in its tile", source_sample(browser, leaf), wanted / (1 << plan.depth - 8), 1)
+            checks.near("a sample of the source in its tile", source_sample(browser, leaf[3:5]), wanted / (1 << plan.depth - 8), 1)
         ahead += len(plan.leaves)
     checks.true("some lead past their tile", past > 0)
     browser.value("view.setLayer('source', false), view.setLocked(false), view.setComponent('RGB')")

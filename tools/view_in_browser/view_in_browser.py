@@ -152,6 +152,7 @@ def odd(browser, pages, checks, options):
         edges.look_at_unseen(browser, checks, name, Plan(data))
         edges.look_at_map(browser, checks, name, Plan(data))
         edges.look_at_sources(browser, checks, name, Plan(data))
+        edges.look_at_shared(browser, checks, name, Plan(data))
         checks.same(f"{name}: faults of the page", browser.faults(), [])
 
 
