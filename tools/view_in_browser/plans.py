@@ -15,6 +15,14 @@ def halves(width, height, sampling):
     return [(width, height), half, half]
 
 
+def cuts(mark, side):
+    """The parts of a node that has this partition mark: their places in it, and their sides."""
+    half, quarter = side // 2, side // 4
+    return {0: [(0, 0, side, side)], 1: [(0, 0, side, half), (0, half, side, half)], 2: [(0, 0, half, side), (half, 0, half, side)],
+            3: [(0, 0, half, half), (half, 0, half, half), (0, half, half, half), (half, half, half, half)],
+            8: [(0, i * quarter, side, quarter) for i in range(4)], 9: [(i * quarter, 0, quarter, side) for i in range(4)]}[mark]
+
+
 class Plan:
     """What a plan says: its frame, the planes of its slots, and its leaves as lists of number, column, row, sides, mode, step, chroma mode,
     weights, vectors, sides of luma transforms and triples."""
@@ -49,18 +57,12 @@ class Plan:
     def node(self, x, y, side):
         if x >= self.coded[0][0] or y >= self.coded[0][1]:
             return
-        mark, half, quarter = self.take("B"), side // 2, side // 4
-        cuts = {0: [(0, 0, side, side)], 1: [(0, 0, side, half), (0, half, side, half)], 2: [(0, 0, half, side), (half, 0, half, side)],
-                8: [(0, i * quarter, side, quarter) for i in range(4)], 9: [(i * quarter, 0, quarter, side) for i in range(4)]}
-        if mark == 3:
-            for dx, dy in ((0, 0), (half, 0), (0, half), (half, half)):
-                if side == 8:
-                    self.leaf(x + dx, y + dy, 4, 4)
-                else:
-                    self.node(x + dx, y + dy, half)
-            return
-        for dx, dy, w, h in cuts[mark]:
-            self.leaf(x + dx, y + dy, w, h)
+        mark = self.take("B")
+        for dx, dy, w, h in cuts(mark, side):
+            if mark == 3 and side > 8:
+                self.node(x + dx, y + dy, w)
+            else:
+                self.leaf(x + dx, y + dy, w, h)
 
     def triples(self):
         start = self.at
@@ -145,6 +147,14 @@ class Plan:
     def leaf_at(self, x, y):
         return next(leaf for leaf in self.leaves if leaf[1] <= x < leaf[1] + leaf[3] and leaf[2] <= y < leaf[2] + leaf[4])
 
+    def sharers(self, leaf):
+        """The leaves that have chroma in common with a leaf, in coding order: those in the same 8 columns or rows where it is halved along a side of 4."""
+        def block(other):
+            sides = [(other[1], other[3], self.halved[0]), (other[2], other[4], self.halved[1])]
+            return [at // 8 if side == 4 and halved else (at, side) for at, side, halved in sides]
+
+        return [other for other in self.leaves if block(other) == block(leaf)]
+
 
 # ---- plans to look at
 
@@ -184,21 +194,22 @@ def great(side, most=250):
 
 
 def odd(width=73, height=51, depth=8, sampling=0, seed=9, moves=True):
-    """A plan of version 3 whose sides are no multiples of 8: leaves of 4x4 and of 8x8, some of which lie past what is shown, intra and, where it
-    moves, from slot 0."""
+    """A plan of version 3 whose sides are no multiples of 8: leaves of 8x8 and with a side of 4, some of which lie past what is shown, intra and, where
+    it moves, from slot 0. Those that share chroma are all intra, all from slot 0, or both."""
     draw = random.Random(seed)
     planes = [draw.randrange(1 << depth) for side in halves(width, height, sampling) for _ in range(side[0] * side[1])]
     out = [b"RPL3" + struct.pack("<HHBBBB", width, height, depth, sampling, 0, 0) + bytes(7) + bytes([moves])]
     out.append(struct.pack(f"<{len(planes)}{'B' if depth == 8 else 'H'}", *planes) if moves else b"")
     columns, rows = width + 7 & ~7, height + 7 & ~7
 
-    def leaf(x, y, side):
-        carried = side == 8 or ((sampling == 2 or x // 4 % 2 == 1) and (sampling > 0 or y // 4 % 2 == 1))
-        if side == 8 and moves and draw.randrange(2):
-            out.append(bytes([19, 1]) + struct.pack("<hh", draw.randrange(-200, 200), draw.randrange(-200, 200)))
+    def leaf(x, y, w, h, part):
+        carried = not (sampling < 2 and w == 4 and x // 4 % 2 == 0) and not (sampling == 0 and h == 4 and y // 4 % 2 == 0)
+        if draw.random() < part:
+            vectors = [struct.pack("<Bhh", 1, draw.randrange(-200, 200), draw.randrange(-200, 200)) for _ in range(draw.choice((1, 1, 1, 2)))]
+            out.append(bytes([19 if len(vectors) == 1 else 33]) + b"".join(vectors))
         else:
             out.append(bytes([draw.choice((0, 9, 12)), 0]) + (bytes([draw.choice((0, 1, 2, 9)), 0]) if carried else b""))
-        out.append(bytes([side == 8, 0]) + (b"\0" if carried else b""))
+        out.append(bytes([SIZES.index((w, h)), 0]) + (b"\0" if carried else b""))
         count = draw.randrange(3)
         out.append(struct.pack("<H", count) + b"".join(struct.pack("<BHi", 0, i, draw.randrange(-900, 900)) for i in range(count)))
         out.append(bytes(4) if carried else b"")
@@ -206,16 +217,16 @@ def odd(width=73, height=51, depth=8, sampling=0, seed=9, moves=True):
     def node(x, y, side):
         if x >= columns or y >= rows:
             return
-        whole = side == 8 and draw.randrange(2)
-        out.append(b"\0" if whole else b"\3")
-        if whole:
-            leaf(x, y, 8)
-            return
-        for dx, dy in ((0, 0), (side // 2, 0), (0, side // 2), (side // 2, side // 2)):
-            if side == 8:
-                leaf(x + dx, y + dy, 4)
+        whole = x + side <= columns and y + side <= rows
+        marks = {8: (0, 0, 3, 3, 1, 2), 16: (3, 3, 3, 8, 9) if whole else (3,)}.get(side, (3,))
+        mark = draw.choice([mark for mark in marks if sampling != 1 or mark not in (2, 9)])
+        part = draw.choice((0, 0.5, 0.8, 1)) * moves
+        out.append(bytes([mark]))
+        for dx, dy, w, h in cuts(mark, side):
+            if mark == 3 and side > 8:
+                node(x + dx, y + dy, w)
             else:
-                node(x + dx, y + dy, side // 2)
+                leaf(x + dx, y + dy, w, h, part)
 
     for y in range(0, rows, 64):
         for x in range(0, columns, 64):

@@ -3,6 +3,7 @@ import json
 import random
 
 from checks import FRAMES, drawn, pixels, place_in_window
+from edges import look_at_cursor, source_sample
 from held import LEAVES
 from plans import Plan
 
@@ -23,23 +24,6 @@ def look_at_samples(browser, checks, name, plan, held):
     checks.same(f"{name}: samples", browser.json(script), wanted)
     found = browser.json("view.sources.map((s) => s.of.reduce((sum, v) => sum + v, 0))")
     checks.same(f"{name}: the sums of all samples", found, [sum(map(sum, planes)) for planes in samples])
-
-
-def look_at_cursor(browser, checks, name, plan, planes, x, y):
-    """What stands beside the cursor is the sample under the mouse."""
-    browser.value("view.setLocked(false), view.fitFrame()")
-    browser.mouse("mouseMoved", *place_in_window(browser, x, y))
-    samples = plan.samples(planes)
-    wanted = [str(samples[p][(y >> (p > 0 and plan.halved[1])) * plan.sides[p][0] + (x >> (p > 0 and plan.halved[0]))]) for p in range(3)]
-    found = browser.json("[...document.querySelectorAll('#samples tr')][1].textContent")
-    checks.same(f"{name}: the samples under the cursor", found, "reconstruction" + "".join(wanted))
-
-
-def source_sample(browser, leaf):
-    """The sample at the middle of a block of luma in the first figure of its source, in grey."""
-    zoom = 200 / (max(leaf[3], leaf[4]) + 8)
-    at = [int((3 + side // 2 + 0.5) * zoom) for side in leaf[3:5]]
-    return browser.value(f"document.querySelector('#source canvas').getContext('2d').getImageData({at[0]}, {at[1]}, 1, 1).data[0]")
 
 
 # ---- sequences
@@ -142,7 +126,7 @@ def look_at_slots(browser, checks, frames, planes):
         x, y = (8 * leaf[1] + column) // 8 + leaf[3] // 2, (8 * leaf[2] + row) // 8 + leaf[4] // 2
         at = min(max(y, 0), plan.height - 1) * plan.width + min(max(x, 0), plan.width - 1)
         wanted = plan.samples(planes[frame.held[slots[reference - 1]]])[0][at]
-        checks.near("a sample of the source", source_sample(browser, leaf), wanted / (1 << plan.depth - 8), 1)
+        checks.near("a sample of the source", source_sample(browser, leaf[3:5]), wanted / (1 << plan.depth - 8), 1)
     for other in range(len(frames)):
         names = " ".join(NAMES[i + 1] for i, slot in enumerate(slots) if frame.held[slot] == other)
         checks.same(f"what frame {other} is read as", browser.value(f"document.querySelector('#frame-{other} span:last-child').textContent"), names)
@@ -234,7 +218,7 @@ def look_at_tile_sources(browser, checks, tiles):
             past += outside
             browser.value(f"view.moveToLeaf({ahead + leaf[0]})")
             wanted = plan.slots[0][0][min(max(y, 0), plan.height - 1) * plan.width + min(max(x, 0), plan.width - 1)]
-            checks.near("a sample of the source in its tile", source_sample(browser, leaf), wanted / (1 << plan.depth - 8), 1)
+            checks.near("a sample of the source in its tile", source_sample(browser, leaf[3:5]), wanted / (1 << plan.depth - 8), 1)
         ahead += len(plan.leaves)
     checks.true("some lead past their tile", past > 0)
     browser.value("view.setLayer('source', false), view.setLocked(false), view.setComponent('RGB')")

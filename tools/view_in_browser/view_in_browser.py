@@ -31,6 +31,7 @@ import time
 
 HERE = os.path.dirname(os.path.abspath(__file__))
 sys.path.insert(0, HERE)
+import edges  # noqa: E402
 import files  # noqa: E402
 import hands  # noqa: E402
 import held  # noqa: E402
@@ -140,6 +141,19 @@ def stripes(browser, pages, checks, options):
     held.look_at(browser, checks, "stripes", path, Plan(data), planes, predictions)
     checks.true("stripes: weights are named", "CFL 5 -7" in browser.value("view.summaryOf(view.leaves[8])"))
     checks.same("stripes: faults of the page", browser.faults(), [])
+
+
+def odd(browser, pages, checks, options):
+    """Plans of version 3 whose sides are no multiples of 8: the picture ends at the last column and row that are shown."""
+    for name, data in (("odd", plans.odd()), ("odd 4:2:2", plans.odd(61, 27, 10, 1)), ("odd 4:4:4", plans.odd(17, 9, 12, 2)), ("one sample", plans.odd(1, 1))):
+        path, planes, predictions = pages.write(name.replace(" ", "_").replace(":", ""), data)
+        held.look_at(browser, checks, name, path, Plan(data), planes, predictions)
+        edges.look_at_sides(browser, checks, name, Plan(data), planes)
+        edges.look_at_unseen(browser, checks, name, Plan(data))
+        edges.look_at_map(browser, checks, name, Plan(data))
+        edges.look_at_sources(browser, checks, name, Plan(data))
+        edges.look_at_shared(browser, checks, name, Plan(data))
+        checks.same(f"{name}: faults of the page", browser.faults(), [])
 
 
 def departures(browser, pages, checks, options):
@@ -360,7 +374,7 @@ def coded(browser, pages, checks, options):
     checks.same("coded: faults of the page", browser.faults(), [])
 
 
-SMALL = [worked, stripes, departures, five, coded, trace, everywhere, sequence, hidden, grid]
+SMALL = [worked, stripes, odd, departures, five, coded, trace, everywhere, sequence, hidden, grid]
 LARGE = [great, greatest_trace, recorded]
 
 

@@ -27,7 +27,7 @@ PARTS = [
 ]
 
 # The files of the script: what a plan says, what is shown of it, how that is drawn, and what one does with it.
-SCRIPT = ["names", "plan", "samples", "files", "colour", "differences", "departures", "classes", "texts", "state", "marks", "layers",
+SCRIPT = ["names", "plan", "samples", "files", "colour", "differences", "departures", "classes", "texts", "state", "shared", "marks", "layers",
           "difference_marks", "source", "picture", "panel", "list", "moving", "strip", "controls", "pointer", "start"]
 
 

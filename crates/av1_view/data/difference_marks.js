@@ -25,7 +25,7 @@ const rowOf = (d) => down((d.row + 0.5) * (1 << frame.ydecs[d.plane]));
 function drawDifferences(context, seen, part, crowded) {
   const entries = entriesSeen(seen, crowded);
   if (!entries) {
-    drawOverFrame(context, heatOfLeaves(), false);
+    drawOverFrame(context, heatOfLeaves(), false, 4);
     return false;
   }
   const rings = [];

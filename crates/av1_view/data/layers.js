@@ -83,7 +83,7 @@ function drawModes(context, seen, id, modeOf, place) {
     const width = box.width * state.zoom;
     const height = box.height * state.zoom;
     const x = across(leaf.x) + width / 2;
-    const y = down(leaf.y) + height * place;
+    const y = down(leaf.y) + height * (leaf.motions ? 0.5 : place);
     const size = Math.min(13, 1.5 * width / m.text.length, height / 2);
     if (Math.min(width, height) < 8) {
       room = false;
@@ -99,7 +99,12 @@ function drawModes(context, seen, id, modeOf, place) {
 }
 
 const lumaMode = (l) => l.motions ? null : { mode: l.mode, step: l.step, text: withStep(l.mode, l.step) };
-const chromaMode = (l) => l.chromaMode < 0 ? null : { mode: l.chromaMode, step: l.chromaStep, text: chromaText(l) };
+
+// The chroma mode of a leaf, or how a block is predicted that leaves from references share.
+function chromaMode(l) {
+  const text = l.chromaMode < 0 ? sharedWord(l) : chromaText(l);
+  return text ? { mode: l.chromaMode, step: l.chromaStep, text } : null;
+}
 
 // A line through a point at an angle, with a square at the end that is continued.
 function slant(context, x, y, degrees, reach, colour, dashes) {
@@ -121,17 +126,20 @@ function slant(context, x, y, degrees, reach, colour, dashes) {
 
 // ---- Vectors.
 
-// The vectors that are shown: all, or of a slot that is seen those that lead there. Each says whether it is its leaf's second.
+// The vectors that are shown, of what predicts the plane that is shown: all, or of a slot that is seen those that lead there. `second` are a leaf's second.
 function motionsShown(leaf) {
-  if (!leaf.motions) return [];
+  if (!leaf.motions || !predictedBox(leaf)) return [];
   const motions = leaf.motions.map((m, i) => ({ ...m, second: i === 1, slot: frame.slots[m.reference - 1] }));
   return motions.filter((m) => state.source.slot < 0 || m.slot === state.source.slot);
 }
 
 // Where the source of a block begins in its reference, in luma samples.
-const sourceBox = (leaf, m) => ({ x: leaf.x + m.column / 8, y: leaf.y + m.row / 8, width: leaf.width, height: leaf.height });
+function sourceBox(leaf, m) {
+  const { x, y, width, height } = predictedBox(leaf);
+  return { x: x + m.column / 8, y: y + m.row / 8, width, height };
+}
 
-// Vectors as arrows from a leaf's middle to the middle of what it is predicted from; those to the second reference are dashed.
+// Vectors as arrows from the middle of what a leaf predicts to the middle of what that is predicted from; those to the second reference are dashed.
 function drawVectors(context, seen) {
   const colour = colourOf('vectors');
   const inter = seen.filter((leaf) => motionsShown(leaf).length > 0);
@@ -154,8 +162,9 @@ function drawVectors(context, seen) {
 }
 
 function arrow(context, leaf, motion) {
-  const x = across(leaf.x + leaf.width / 2);
-  const y = down(leaf.y + leaf.height / 2);
+  const box = predictedBox(leaf);
+  const x = across(box.x + box.width / 2);
+  const y = down(box.y + box.height / 2);
   const right = motion.column / 8 * state.zoom;
   const below = motion.row / 8 * state.zoom;
   const length = Math.hypot(right, below);
@@ -228,13 +237,13 @@ function drawMap(context) {
   const { property, found } = state;
   const wanted = found && new Set(found);
   const colour = (l) => wanted && !wanted.has(l.number) ? 0 : pixelOf(property.colourOf(property.classOf(l)), 170);
-  drawOverFrame(context, cellImage('map', property.id + ' ' + foundKey(), colour), false);
+  drawOverFrame(context, cellImage('map', property.id + ' ' + foundKey(), colour), false, 4);
   return true;
 }
 
 // A tint over leaves that depart from AV1, and a sign where there is room.
 function drawDepartures(context, seen, part, crowded) {
-  drawOverFrame(context, cellImage('departures', '', (l) => departures.has(l.number) ? pixelOf([255, 59, 92], 80) : 0), false);
+  drawOverFrame(context, cellImage('departures', '', (l) => departures.has(l.number) ? pixelOf([255, 59, 92], 80) : 0), false, 4);
   if (crowded) return true;
   for (const leaf of seen) {
     if (!departures.has(leaf.number) || Math.min(leaf.width, leaf.height) * state.zoom < 20) continue;

@@ -99,10 +99,10 @@ function barAt(context, text, x, y, colour) {
   textAt(context, text, x, y, 13, colour);
 }
 
-// An image stretched over the frame.
-function drawOverFrame(context, image, smooth) {
+// An image over the frame, as far as that is shown; each pixel of the image is as wide and as high as so many luma samples.
+function drawOverFrame(context, image, smooth, samples = 1) {
   context.imageSmoothingEnabled = smooth;
-  context.drawImage(image, 0, 0, image.width, image.height, across(0), down(0), frame.width * state.zoom, frame.height * state.zoom);
+  context.drawImage(image, 0, 0, frame.width / samples, frame.height / samples, across(0), down(0), frame.width * state.zoom, frame.height * state.zoom);
 }
 
 // An image with a pixel for each luma cell, in the colour of its leaf. One is kept for each name, while its key stays.

@@ -1,7 +1,8 @@
 // ---- Moving.
 
-// Puts the cursor on a luma sample, and shows all that is said of it.
-function point(x, y) {
+// Puts the cursor on a luma sample, and shows all that is said of it, or of a leaf past what is shown.
+function point(x, y, unseen = null) {
+  state.unseen = unseen;
   state.x = Math.min(Math.max(x, 0), frame.width - 1);
   state.y = Math.min(Math.max(y, 0), frame.height - 1);
   showPlace();
@@ -11,8 +12,8 @@ function point(x, y) {
 }
 
 // The same, and puts the sample into view.
-function moveTo(x, y) {
-  point(x, y);
+function moveTo(x, y, unseen = null) {
+  point(x, y, unseen);
   const width = state.width / state.zoom;
   const height = state.height / state.zoom;
   if (state.x < state.left || state.x >= state.left + width) state.left = state.x - width / 2;
@@ -27,8 +28,9 @@ function setLocked(locked) {
 }
 
 function moveToLeaf(number) {
+  const { x, y, width, height } = visibleBox(frame, leaves[number]);
   state.locked = true;
-  moveTo(leaves[number].x, leaves[number].y);
+  moveTo(x, y, width * height > 0 ? null : number);
 }
 
 // The next or the previous leaf that is found.

@@ -49,7 +49,8 @@ function sampleRows() {
 // All that is said of the leaf and the sample at the cursor.
 function showPlace() {
   const l = leafHere();
-  element('place').textContent = 'leaf ' + l.number + ', sample at column ' + state.x + ', row ' + state.y;
+  const past = state.unseen === null ? '' : ' past what is shown';
+  element('place').textContent = 'leaf ' + l.number + past + ', sample at column ' + state.x + ', row ' + state.y;
   element('locked').textContent = state.locked ? 'Locked: Esc lets go.' : 'A click locks it.';
   element('samples').replaceChildren(row('', ...PLANES), ...sampleRows());
   const found = (differences.ofLeaf.get(l.number) || []).map((d) =>

@@ -8,7 +8,7 @@ const SOURCE_SIDE = 200;
 // Beside the picture, the samples that the leaf at the cursor is predicted from, with the block at its fraction of a sample.
 function showSource() {
   const leaf = leafHere();
-  const shown = layers.source && leaf.motions !== null;
+  const shown = layers.source && leaf.motions !== null && predictedBox(leaf) !== null;
   element('source').hidden = !shown;
   if (!shown) return;
   element('source').replaceChildren(...leaf.motions.map((m) => sourceFigure(leaf, m)));
@@ -18,16 +18,17 @@ function sourceFigure(leaf, m) {
   const slot = frame.slots[m.reference - 1];
   const box = sourceBox(leaf, m);
   const read = {
-    x: Math.floor(box.x) - BEFORE, y: Math.floor(box.y) - BEFORE, width: leaf.width + BEFORE + BEHIND, height: leaf.height + BEFORE + BEHIND,
+    x: Math.floor(box.x) - BEFORE, y: Math.floor(box.y) - BEFORE, width: box.width + BEFORE + BEHIND, height: box.height + BEFORE + BEHIND,
   };
   const painter = painterOf(frame, sources.find((s) => s.slot === slot), state.component, state.matrix, 1);
   const samples = document.createElement('canvas');
   samples.width = read.width;
   samples.height = read.height;
-  samples.getContext('2d').putImageData(paint(painter, leaf.area, read), 0, 0);
+  const area = plan.tiles ? leaf.area : shownOf(frame);
+  samples.getContext('2d').putImageData(paint(painter, area, read), 0, 0);
   const figure = document.createElement('figure');
   const caption = document.createElement('figcaption');
-  caption.textContent = REFERENCES[m.reference] + ', ' + slotText(slot) + ': from column ' + eighths(8 * leaf.x + m.column) + ', row ' + eighths(8 * leaf.y + m.row);
+  caption.textContent = REFERENCES[m.reference] + ', ' + slotText(slot) + ': from column ' + eighths(8 * box.x) + ', row ' + eighths(8 * box.y);
   figure.append(enlarged(samples, { ...box, x: box.x - read.x, y: box.y - read.y }), caption);
   return figure;
 }

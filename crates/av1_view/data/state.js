@@ -58,11 +58,12 @@ const layers = Object.fromEntries(LAYERS.map((layer) => [layer.id, layer.on && H
 // Lengths are of CSS pixels, of which each has `scale` of the device's on a side. `left` and `top` are the luma place at the corner.
 const state = {
   frame: 0, source: sources && sources[0], component: 'RGB', matrix: MATRICES[0], gain: 'automatic', zoom: 1, left: 0, top: 0, width: 1, height: 1, scale: 1, ground: '',
-  x: 0, y: 0, locked: false, property: PROPERTIES[0], chosen: null, words: '', found: null, difference: -1,
+  x: 0, y: 0, unseen: null, locked: false, property: PROPERTIES[0], chosen: null, words: '', found: null, difference: -1,
 };
 
 const leafAt = (x, y) => leaves[cells.leaves[(y >> 2) * cells.columns + (x >> 2)]];
-const leafHere = () => leafAt(state.x, state.y);
+// The leaf at the cursor, or the one that was gone to and lies past what is shown.
+const leafHere = () => state.unseen === null ? leafAt(state.x, state.y) : leaves[state.unseen];
 const shownPlane = () => Math.max(PLANES.indexOf(state.component), 0);
 const gainHere = () => gainOf(frame, state.source, state.component, state.gain);
 const colourOf = (id) => LAYERS.find((layer) => layer.id === id).colour;

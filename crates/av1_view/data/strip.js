@@ -90,6 +90,7 @@ function setFrame(number) {
   if (number < 0 || number >= file.count || number === state.frame) return;
   takeFrame(number);
   state.frame = number;
+  state.unseen = null;
   state.source = sources.find((s) => s.name === state.source.name) || sources[0];
   cellImages.clear();
   classLists.clear();

@@ -15,7 +15,8 @@ function eighths(value) {
 // A leaf in a line.
 function summaryOf(l) {
   const intra = () => withStep(l.mode, l.step) + (l.carried ? ' chroma ' + chromaText(l) : '');
-  const mode = l.motions ? MODES[l.mode] + ' ' + l.motions.map(motionText).join(', ') : intra();
+  const shared = sharedWord(l);
+  const mode = l.motions ? MODES[l.mode] + ' ' + l.motions.map(motionText).join(', ') + (shared && ' chroma ' + shared) : intra();
   const place = l.width + 'x' + l.height + ' at ' + l.x + ' ' + l.y;
   const tile = l.area.tile === undefined ? [] : ['tile ' + l.area.tile];
   return [l.number, place, mode, TRANSFORM_TYPES[l.transformType], coefficientCount(l), ...tile].join('  ');
@@ -38,14 +39,16 @@ function modeFields(frame, l) {
 // The fields of a leaf, each with its name.
 function fieldsOf(frame, l) {
   const tile = l.area.tile === undefined ? [] : [['tile', l.area.tile + ', its leaf ' + (l.number - l.area.first)]];
+  const sharers = sharersOf(l);
   const fields = [...tile, ['size and place', l.width + 'x' + l.height + ' at column ' + l.x + ', row ' + l.y], ...modeFields(frame, l)];
   fields.push(['luma transforms', TRANSFORM_SIZES[l.transformSize].join('x') + ' ' + TRANSFORM_TYPES[l.transformType]]);
   if (l.carried) {
     const area = areaOf(frame, l, 1);
     fields.push(['chroma transforms', area.wide + 'x' + area.high + ' ' + TRANSFORM_TYPES[l.chromaType]]);
   } else {
-    fields.push(['chroma', 'carried by a later leaf']);
+    fields.push(['chroma', 'carried by leaf ' + carrierOf(sharers).number]);
   }
+  if (sharers.length > 1 && sharers.some((s) => s.motions)) fields.push(['chroma predicted', sharedText(sharers)]);
   fields.push(['coefficients', l.triples.map((t, p) => PLANES[p] + ' ' + t.count).join(', ')]);
   return fields;
 }

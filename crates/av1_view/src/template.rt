@@ -808,7 +808,8 @@ function eighths(value) {
 // A leaf in a line.
 function summaryOf(l) {
   const intra = () => withStep(l.mode, l.step) + (l.carried ? ' chroma ' + chromaText(l) : '');
-  const mode = l.motions ? MODES[l.mode] + ' ' + l.motions.map(motionText).join(', ') : intra();
+  const shared = sharedWord(l);
+  const mode = l.motions ? MODES[l.mode] + ' ' + l.motions.map(motionText).join(', ') + (shared && ' chroma ' + shared) : intra();
   const place = l.width + 'x' + l.height + ' at ' + l.x + ' ' + l.y;
   const tile = l.area.tile === undefined ? [] : ['tile ' + l.area.tile];
   return [l.number, place, mode, TRANSFORM_TYPES[l.transformType], coefficientCount(l), ...tile].join('  ');
@@ -831,14 +832,16 @@ function modeFields(frame, l) {
 // The fields of a leaf, each with its name.
 function fieldsOf(frame, l) {
   const tile = l.area.tile === undefined ? [] : [['tile', l.area.tile + ', its leaf ' + (l.number - l.area.first)]];
+  const sharers = sharersOf(l);
   const fields = [...tile, ['size and place', l.width + 'x' + l.height + ' at column ' + l.x + ', row ' + l.y], ...modeFields(frame, l)];
   fields.push(['luma transforms', TRANSFORM_SIZES[l.transformSize].join('x') + ' ' + TRANSFORM_TYPES[l.transformType]]);
   if (l.carried) {
     const area = areaOf(frame, l, 1);
     fields.push(['chroma transforms', area.wide + 'x' + area.high + ' ' + TRANSFORM_TYPES[l.chromaType]]);
   } else {
-    fields.push(['chroma', 'carried by a later leaf']);
+    fields.push(['chroma', 'carried by leaf ' + carrierOf(sharers).number]);
   }
+  if (sharers.length > 1 && sharers.some((s) => s.motions)) fields.push(['chroma predicted', sharedText(sharers)]);
   fields.push(['coefficients', l.triples.map((t, p) => PLANES[p] + ' ' + t.count).join(', ')]);
   return fields;
 }
@@ -912,14 +915,51 @@ const layers = Object.fromEntries(LAYERS.map((layer) => [layer.id, layer.on && H
 // Lengths are of CSS pixels, of which each has `scale` of the device's on a side. `left` and `top` are the luma place at the corner.
 const state = {
   frame: 0, source: sources && sources[0], component: 'RGB', matrix: MATRICES[0], gain: 'automatic', zoom: 1, left: 0, top: 0, width: 1, height: 1, scale: 1, ground: '',
-  x: 0, y: 0, locked: false, property: PROPERTIES[0], chosen: null, words: '', found: null, difference: -1,
+  x: 0, y: 0, unseen: null, locked: false, property: PROPERTIES[0], chosen: null, words: '', found: null, difference: -1,
 };
 
 const leafAt = (x, y) => leaves[cells.leaves[(y >> 2) * cells.columns + (x >> 2)]];
-const leafHere = () => leafAt(state.x, state.y);
+// The leaf at the cursor, or the one that was gone to and lies past what is shown.
+const leafHere = () => state.unseen === null ? leafAt(state.x, state.y) : leaves[state.unseen];
 const shownPlane = () => Math.max(PLANES.indexOf(state.component), 0);
 const gainHere = () => gainOf(frame, state.source, state.component, state.gain);
 const colourOf = (id) => LAYERS.find((layer) => layer.id === id).colour;
+
+// ---- Chroma that leaves share.
+
+// The leaves that share a leaf's block of chroma, row by row: where chroma is halved along a side of 4 two or four, else the leaf alone. The last carries it.
+function sharersOf(leaf) {
+  const columns = frame.xdecs[1] && leaf.width === 4 ? [leaf.x & ~7, leaf.x | 4] : [leaf.x];
+  const rows = frame.ydecs[1] && leaf.height === 4 ? [leaf.y & ~7, leaf.y | 4] : [leaf.y];
+  return rows.flatMap((y) => columns.map((x) => leafAt(x, y)));
+}
+
+const carrierOf = (sharers) => sharers[sharers.length - 1];
+
+// Where all are predicted from references each predicts the part of the block over its own luma, else the last one the whole block.
+const areParts = (sharers) => sharers.every((l) => l.motions);
+
+// How a block that is shared is predicted from references, in a word; none of other blocks.
+function sharedWord(leaf) {
+  const sharers = leaf.carried && leaf.motions ? sharersOf(leaf) : [];
+  return sharers.length < 2 ? '' : areParts(sharers) ? 'parts' : 'whole';
+}
+
+// Which leaf predicts which part of a shared block.
+function sharedText(sharers) {
+  const [first, last] = [sharers[0], carrierOf(sharers)];
+  if (!areParts(sharers)) return 'whole by leaf ' + last.number + (last.motions ? ', as leaf ' + sharers.find((l) => !l.motions).number + ' is intra' : '');
+  const part = (l) => (first.y < last.y ? [l.y < last.y ? 'upper' : 'lower'] : []).concat(first.x < last.x ? [l.x < last.x ? 'left' : 'right'] : []);
+  return sharers.map((l) => [...part(l), 'by leaf', l.number].join(' ')).join(', ');
+}
+
+// What a leaf predicts of the plane that is shown, in luma samples; null where a later leaf predicts all of a shared block.
+function predictedBox(leaf) {
+  const sharers = shownPlane() > 0 ? sharersOf(leaf) : [leaf];
+  if (sharers.length === 1 || areParts(sharers)) return leaf;
+  const { x, y } = sharers[0];
+  return leaf.carried ? { x, y, width: leaf.x + leaf.width - x, height: leaf.y + leaf.height - y } : null;
+}
 
 // ---- Strokes, marks and small texts.
 
@@ -1022,10 +1062,10 @@ function barAt(context, text, x, y, colour) {
   textAt(context, text, x, y, 13, colour);
 }
 
-// An image stretched over the frame.
-function drawOverFrame(context, image, smooth) {
+// An image over the frame, as far as that is shown; each pixel of the image is as wide and as high as so many luma samples.
+function drawOverFrame(context, image, smooth, samples = 1) {
   context.imageSmoothingEnabled = smooth;
-  context.drawImage(image, 0, 0, image.width, image.height, across(0), down(0), frame.width * state.zoom, frame.height * state.zoom);
+  context.drawImage(image, 0, 0, frame.width / samples, frame.height / samples, across(0), down(0), frame.width * state.zoom, frame.height * state.zoom);
 }
 
 // An image with a pixel for each luma cell, in the colour of its leaf. One is kept for each name, while its key stays.
@@ -1131,7 +1171,7 @@ function drawModes(context, seen, id, modeOf, place) {
     const width = box.width * state.zoom;
     const height = box.height * state.zoom;
     const x = across(leaf.x) + width / 2;
-    const y = down(leaf.y) + height * place;
+    const y = down(leaf.y) + height * (leaf.motions ? 0.5 : place);
     const size = Math.min(13, 1.5 * width / m.text.length, height / 2);
     if (Math.min(width, height) < 8) {
       room = false;
@@ -1147,7 +1187,12 @@ function drawModes(context, seen, id, modeOf, place) {
 }
 
 const lumaMode = (l) => l.motions ? null : { mode: l.mode, step: l.step, text: withStep(l.mode, l.step) };
-const chromaMode = (l) => l.chromaMode < 0 ? null : { mode: l.chromaMode, step: l.chromaStep, text: chromaText(l) };
+
+// The chroma mode of a leaf, or how a block is predicted that leaves from references share.
+function chromaMode(l) {
+  const text = l.chromaMode < 0 ? sharedWord(l) : chromaText(l);
+  return text ? { mode: l.chromaMode, step: l.chromaStep, text } : null;
+}
 
 // A line through a point at an angle, with a square at the end that is continued.
 function slant(context, x, y, degrees, reach, colour, dashes) {
@@ -1169,17 +1214,20 @@ function slant(context, x, y, degrees, reach, colour, dashes) {
 
 // ---- Vectors.
 
-// The vectors that are shown: all, or of a slot that is seen those that lead there. Each says whether it is its leaf's second.
+// The vectors that are shown, of what predicts the plane that is shown: all, or of a slot that is seen those that lead there. `second` are a leaf's second.
 function motionsShown(leaf) {
-  if (!leaf.motions) return [];
+  if (!leaf.motions || !predictedBox(leaf)) return [];
   const motions = leaf.motions.map((m, i) => ({ ...m, second: i === 1, slot: frame.slots[m.reference - 1] }));
   return motions.filter((m) => state.source.slot < 0 || m.slot === state.source.slot);
 }
 
 // Where the source of a block begins in its reference, in luma samples.
-const sourceBox = (leaf, m) => ({ x: leaf.x + m.column / 8, y: leaf.y + m.row / 8, width: leaf.width, height: leaf.height });
+function sourceBox(leaf, m) {
+  const { x, y, width, height } = predictedBox(leaf);
+  return { x: x + m.column / 8, y: y + m.row / 8, width, height };
+}
 
-// Vectors as arrows from a leaf's middle to the middle of what it is predicted from; those to the second reference are dashed.
+// Vectors as arrows from the middle of what a leaf predicts to the middle of what that is predicted from; those to the second reference are dashed.
 function drawVectors(context, seen) {
   const colour = colourOf('vectors');
   const inter = seen.filter((leaf) => motionsShown(leaf).length > 0);
@@ -1202,8 +1250,9 @@ function drawVectors(context, seen) {
 }
 
 function arrow(context, leaf, motion) {
-  const x = across(leaf.x + leaf.width / 2);
-  const y = down(leaf.y + leaf.height / 2);
+  const box = predictedBox(leaf);
+  const x = across(box.x + box.width / 2);
+  const y = down(box.y + box.height / 2);
   const right = motion.column / 8 * state.zoom;
   const below = motion.row / 8 * state.zoom;
   const length = Math.hypot(right, below);
@@ -1276,13 +1325,13 @@ function drawMap(context) {
   const { property, found } = state;
   const wanted = found && new Set(found);
   const colour = (l) => wanted && !wanted.has(l.number) ? 0 : pixelOf(property.colourOf(property.classOf(l)), 170);
-  drawOverFrame(context, cellImage('map', property.id + ' ' + foundKey(), colour), false);
+  drawOverFrame(context, cellImage('map', property.id + ' ' + foundKey(), colour), false, 4);
   return true;
 }
 
 // A tint over leaves that depart from AV1, and a sign where there is room.
 function drawDepartures(context, seen, part, crowded) {
-  drawOverFrame(context, cellImage('departures', '', (l) => departures.has(l.number) ? pixelOf([255, 59, 92], 80) : 0), false);
+  drawOverFrame(context, cellImage('departures', '', (l) => departures.has(l.number) ? pixelOf([255, 59, 92], 80) : 0), false, 4);
   if (crowded) return true;
   for (const leaf of seen) {
     if (!departures.has(leaf.number) || Math.min(leaf.width, leaf.height) * state.zoom < 20) continue;
@@ -1318,7 +1367,7 @@ const rowOf = (d) => down((d.row + 0.5) * (1 << frame.ydecs[d.plane]));
 function drawDifferences(context, seen, part, crowded) {
   const entries = entriesSeen(seen, crowded);
   if (!entries) {
-    drawOverFrame(context, heatOfLeaves(), false);
+    drawOverFrame(context, heatOfLeaves(), false, 4);
     return false;
   }
   const rings = [];
@@ -1384,7 +1433,7 @@ const SOURCE_SIDE = 200;
 // Beside the picture, the samples that the leaf at the cursor is predicted from, with the block at its fraction of a sample.
 function showSource() {
   const leaf = leafHere();
-  const shown = layers.source && leaf.motions !== null;
+  const shown = layers.source && leaf.motions !== null && predictedBox(leaf) !== null;
   element('source').hidden = !shown;
   if (!shown) return;
   element('source').replaceChildren(...leaf.motions.map((m) => sourceFigure(leaf, m)));
@@ -1394,16 +1443,17 @@ function sourceFigure(leaf, m) {
   const slot = frame.slots[m.reference - 1];
   const box = sourceBox(leaf, m);
   const read = {
-    x: Math.floor(box.x) - BEFORE, y: Math.floor(box.y) - BEFORE, width: leaf.width + BEFORE + BEHIND, height: leaf.height + BEFORE + BEHIND,
+    x: Math.floor(box.x) - BEFORE, y: Math.floor(box.y) - BEFORE, width: box.width + BEFORE + BEHIND, height: box.height + BEFORE + BEHIND,
   };
   const painter = painterOf(frame, sources.find((s) => s.slot === slot), state.component, state.matrix, 1);
   const samples = document.createElement('canvas');
   samples.width = read.width;
   samples.height = read.height;
-  samples.getContext('2d').putImageData(paint(painter, leaf.area, read), 0, 0);
+  const area = plan.tiles ? leaf.area : shownOf(frame);
+  samples.getContext('2d').putImageData(paint(painter, area, read), 0, 0);
   const figure = document.createElement('figure');
   const caption = document.createElement('figcaption');
-  caption.textContent = REFERENCES[m.reference] + ', ' + slotText(slot) + ': from column ' + eighths(8 * leaf.x + m.column) + ', row ' + eighths(8 * leaf.y + m.row);
+  caption.textContent = REFERENCES[m.reference] + ', ' + slotText(slot) + ': from column ' + eighths(8 * box.x) + ', row ' + eighths(8 * box.y);
   figure.append(enlarged(samples, { ...box, x: box.x - read.x, y: box.y - read.y }), caption);
   return figure;
 }
@@ -1590,7 +1640,8 @@ function sampleRows() {
 // All that is said of the leaf and the sample at the cursor.
 function showPlace() {
   const l = leafHere();
-  element('place').textContent = 'leaf ' + l.number + ', sample at column ' + state.x + ', row ' + state.y;
+  const past = state.unseen === null ? '' : ' past what is shown';
+  element('place').textContent = 'leaf ' + l.number + past + ', sample at column ' + state.x + ', row ' + state.y;
   element('locked').textContent = state.locked ? 'Locked: Esc lets go.' : 'A click locks it.';
   element('samples').replaceChildren(row('', ...PLANES), ...sampleRows());
   const found = (differences.ofLeaf.get(l.number) || []).map((d) =>
@@ -1731,8 +1782,9 @@ function showList() {
 
 // ---- Moving.
 
-// Puts the cursor on a luma sample, and shows all that is said of it.
-function point(x, y) {
+// Puts the cursor on a luma sample, and shows all that is said of it, or of a leaf past what is shown.
+function point(x, y, unseen = null) {
+  state.unseen = unseen;
   state.x = Math.min(Math.max(x, 0), frame.width - 1);
   state.y = Math.min(Math.max(y, 0), frame.height - 1);
   showPlace();
@@ -1742,8 +1794,8 @@ function point(x, y) {
 }
 
 // The same, and puts the sample into view.
-function moveTo(x, y) {
-  point(x, y);
+function moveTo(x, y, unseen = null) {
+  point(x, y, unseen);
   const width = state.width / state.zoom;
   const height = state.height / state.zoom;
   if (state.x < state.left || state.x >= state.left + width) state.left = state.x - width / 2;
@@ -1758,8 +1810,9 @@ function setLocked(locked) {
 }
 
 function moveToLeaf(number) {
+  const { x, y, width, height } = visibleBox(frame, leaves[number]);
   state.locked = true;
-  moveTo(leaves[number].x, leaves[number].y);
+  moveTo(x, y, width * height > 0 ? null : number);
 }
 
 // The next or the previous leaf that is found.
@@ -1902,6 +1955,7 @@ function setFrame(number) {
   if (number < 0 || number >= file.count || number === state.frame) return;
   takeFrame(number);
   state.frame = number;
+  state.unseen = null;
   state.source = sources.find((s) => s.name === state.source.name) || sources[0];
   cellImages.clear();
   classLists.clear();
