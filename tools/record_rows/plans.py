@@ -80,14 +80,14 @@ HIDDEN, SHOWN, AGAIN = range(3)
 FRONT_OF_SEQUENCE = 12
 
 
-def with_entries(file, seed):
+def with_entries(file, seed, sharp=False):
     """A sequence of the second version like this one of the first: of sides that are coded alike, with frames that aren't shown and slots that are
-    shown again, mostly some that are filled, and with the regular filter in place of the sharp one."""
+    shown again, mostly some that are filled, and without `sharp` with the regular filter in place of the sharp one."""
     width, height, depth, sampling, count = struct.unpack_from("<HHBBH", file, 4)
     them, held, at = [], set(), 12
     for frame in range(count):
         length, = struct.unpack_from("<I", file, at + 10)
-        filter = 0 if file[at] == 2 else file[at]
+        filter = 0 if file[at] == 2 and not sharp else file[at]
         them.append(bytes([SHOWN if (seed + frame) % 3 else HIDDEN, filter]) + file[at + 1:at + 14 + length])
         held |= {slot for slot in range(8) if file[at + 9] >> slot & 1}
         if (seed + frame) % 2 and held:
@@ -139,6 +139,28 @@ NINE_FRONT = header(9, 8, mask=1, magic=b"RPL3") + 8 * bytes(range(0, 90, 10)) +
 def moved(row, col, mode=19):
     """The frame of 9x8 in one leaf, moved by this vector."""
     return NINE_FRONT + b"\0" + leaf(mode=mode, vectors=[(1, row, col)], tx_size=4)
+
+
+# A frame of 8x8 in four leaves of 4x4, whose chroma in slot 0 rises by 16 along rows and by 1 down columns; and vectors that lead far apart.
+APART = ((0, 16), (16, 0), (0, -16), (-16, 0))
+
+
+def sloping(depth=8, filter=0, **more):
+    """The front of that frame in 4:2:0."""
+    samples = [0] * 64 + 2 * [16 * column + row for row in range(4) for column in range(4)]
+    front = header(depth=depth, sampling=0, filter=filter, mask=1, **{"magic": b"RPL3", **more})
+    return front + b"".join(it.to_bytes(1 if depth == 8 else 2, "little") for it in samples)
+
+
+def parts(vectors, mark=3, sides=(4, 4)):
+    """Leaves with a side of 4 in a node of 8: each from a reference, by its vector (two vectors are of two references), or intra where it has none. Of
+    leaves that share chroma the last one carries it."""
+    node = b"\3\3\3" + bytes([mark])
+    for at, vector in enumerate(vectors):
+        them = None if vector is None else [(1, *vector)] if len(vector) == 2 else [(1, *vector[:2]), (1, *vector[2:])]
+        mode = 0 if vector is None else 19 if len(them) == 1 else 33
+        node += leaf(mode=mode, vectors=them, carried=at + 1 == len(vectors), tx_size={(4, 4): 0, (4, 8): 5, (8, 4): 6}[sides])
+    return node
 
 
 # Ten leaves of 16x16 in 4:2:0 with all directions but two beside smooth neighbours; and chroma from luma in 4:2:0 and 4:2:2.

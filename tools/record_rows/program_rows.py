@@ -1,8 +1,8 @@
 """Runs of the program on worked plans, whole, broken, cut and in pieces."""
-from plans import (DIRECTIONAL, DOWN_TO_4, FLAT, FROM_LUMA_420, FROM_LUMA_422, HALVED, HALVED_QUARTERS, LIFTED, MOVED, NINE_BY_NINE, ONE_HALF,
-                   ONE_ROW, ONE_SAMPLE, PLAIN, PLAN, QUARTERS, REFERRING, SINGLE, SMALL_QUARTERS, WIDE, changed, header, leaf, moved, of_two,
-                   planes)
-from runs import NEVER
+from plans import (APART, DIRECTIONAL, DOWN_TO_4, FLAT, FROM_LUMA_420, FROM_LUMA_422, HALVED, HALVED_QUARTERS, LIFTED, MOVED, NINE_BY_NINE, ONE_HALF,
+                   ONE_ROW, ONE_SAMPLE, PLAIN, PLAN, QUARTERS, REFERRING, SINGLE, SMALL_QUARTERS, WIDE, changed, header, leaf, moved, of_two, parts,
+                   planes, sloping)
+from runs import ANSWERS, NEVER
 
 # Where fields stand: of the header, of a plan of one leaf, and of the first leaf of the plan of four.
 WIDTH, HEIGHT, DEPTH, SAMPLING, EDGE_FILTER, MASK = 4, 6, 8, 9, 11, 19
@@ -227,21 +227,48 @@ def sides(add):
 
 
 def plans_of_any_sides(runs):
-    """Random plans of the third version, of every sampling and depth, good and broken. Leaves that are refused for their mode, as those from references with a
-    side of 4 are, stay out."""
+    """Random plans of the third version, of every sampling and depth, good and broken, where rav1e's code has an answer (`ANSWERS`)."""
     kinds = [(sampling, depth) for sampling in range(3) for depth in (8, 10, 12)]
     for seed in range(198):
         sampling, depth = kinds[seed % len(kinds)]
         options = [f"samp={sampling}", f"depth={depth}", "magic=3", f"maxside={24 if seed < 189 else 136}", f"filter={seed % 7 % 4}"]
         for kind in ("random", "randombad"):
             plan = runs.oracle.made(kind, str(seed), *options, f"mask={MASKS[seed % len(MASKS)]}")
-            if len(plan) < 40_000 and not runs.oracle.run((), plan)[2].endswith(b"mode\n"):
+            if len(plan) < 40_000 and runs.oracle.run((), plan)[0] in ANSWERS:
                 runs.add(kind + " of any sides", plan, piece=4096, out=(2**20, 65536, NEVER))
 
 
+def shared_chroma(add):
+    """Chroma that leaves with a side of 4 share: in parts, whole beside an intra leaf at each place, from two references; and in earlier versions, which
+    have no such leaves."""
+    second, fourth = APART[1], APART[3]
+    quarters = [list(APART), [second, fourth, second, fourth], [(0, 4), (4, 0), (3, -5), (-7, 9)], [(0, 0, 8, 8), (16, 0), (0, 5, 3, 0), (-16, 0)],
+                [(0, 16383), (-16383, 0), (999, -5), (0, 0)]]
+    quarters += [[None if at == place else vector for at, vector in enumerate(APART)] for place in range(4)]
+    halves = [[second, fourth], [(3, -5), (-7, 9)], [(0, 16383), (-16383, 8)], [None, fourth], [second, None], [(1, 2, 3, 4), (5, 6)], [(5, 6), (1, 2, 3, 4)]]
+    leaves = [parts(it) for it in quarters] + [parts(it, mark, sides) for it in halves for mark, sides in ((1, (8, 4)), (2, (4, 8)))]
+    for depth in (8, 10, 12):
+        for filter in range(4):
+            for it in leaves:
+                add("shared chroma", sloping(depth, filter) + it, out=(500, 100, NEVER))
+    for magic in (b"RPL1", b"RPL2"):
+        for it in leaves:
+            add("shared chroma, an earlier version", sloping(magic=magic) + it)
+
+
+def small_leaves(runs):
+    """Random plans of the third version of every depth and filter, whose leaves with a side of 4 are mostly from references."""
+    for seed in range(432):
+        options = (f"samp={(0, 0, 1, 2)[seed % 4]}", f"depth={(8, 10, 12)[seed // 4 % 3]}", f"filter={seed // 12 % 4}", f"mask={(1, 5, 64)[seed % 3]}")
+        plan = runs.oracle.made("random", str(seed), *options, "magic=3", "small=85", "maxside=24", f"split={(75, 90)[seed % 5 % 2]}", "coef=20")
+        if len(plan) < 8_000:
+            runs.add("random of small leaves", plan, piece=4096, out=(2**20, 4096, NEVER))
+
+
 def record(runs):
-    for rows in (one_leaf, four_leaves, frames, references, refusals, faults, lines, made, sides):
+    for rows in (one_leaf, four_leaves, frames, references, refusals, faults, lines, made, sides, shared_chroma):
         rows(runs.add)
     runs.add("too long", piece=2**26 + 1, zeros=2**26 + 1)
     random_plans(runs)
     plans_of_any_sides(runs)
+    small_leaves(runs)

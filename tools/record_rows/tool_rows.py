@@ -193,6 +193,20 @@ def random_sides(runs, count):
                 runs.add(kind + " of any sides", file, (word,), kind=TOOLS, piece=4096, out=(2**20, 4096, NEVER))
 
 
+def small_leaves(runs, count):
+    """Random files of the third version whose leaves with a side of 4 are mostly from references: traces, plans without their coefficients, and sequences
+    whose frames are shown or not."""
+    for seed in range(count):
+        options = ("small=85", f"maxside={[16, 24][seed % 2]}", f"samp={(0, 0, 1, 2)[seed % 4]}", "split=90", "coef=20")
+        for word, kind in (("trace", "randomtrace"), ("bare", "random"), ("sequence", "randomsequence")):
+            version = ("maxcoef=100000",) if word == "sequence" else ("magic=3", "mask=1", f"filter={seed // 4 % 4}")
+            file = runs.oracle.made(kind, str(seed), *options, *version)
+            if word == "sequence":
+                file = with_entries(file, seed, sharp=True)
+            if len(file) < 8_000:
+                runs.add(kind + " of small leaves", file, (word,), kind=TOOLS, piece=4096, out=(2**20, 4096, NEVER))
+
+
 def random_entries(runs, count):
     """Random sequences whose frames are shown or not."""
     for seed in range(count):
@@ -211,3 +225,4 @@ def record(runs):
     random_files(runs, 64)
     random_sides(runs, 24)
     random_entries(runs, 64)
+    small_leaves(runs, 96)

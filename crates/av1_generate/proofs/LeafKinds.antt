@@ -20,7 +20,7 @@ use Rattle.av1_plan.specs.Format.{one, two, any, Format, done, ◌>>=◌, field}
 use Rattle.av1_plan.specs.Geometry.{has_slot}
 use Rattle.av1_plan.specs.Grammar.{byte_from}
 use Rattle.av1_plan.specs.Grammar as grammar
-use Rattle.av1_plan.specs.Validity.{is_step, is_chroma_from_luma, is_chroma_mode, admits_references, is_inter_size, has_modes, has_vectors, has_reference}
+use Rattle.av1_plan.specs.Validity.{is_step, is_chroma_from_luma, is_chroma_mode, admits_references, has_modes, has_vectors, has_reference}
 use Rattle.av1_plan.specs.Validity.{has_references}
 use Rattle.av1_generate.specs.Draft.{writes, draws, ◌>>◌, only_if}
 use Rattle.av1_generate.specs.Generator.{less, frame, step, weight, chroma_step, chroma_modes, chroma_mode, intra, component, motion, single, compound, kind_of}
@@ -165,24 +165,25 @@ record IsMotion (h : Header) (reference : RefType) (v : MotionVector) : Type 0 w
   pub present : has_reference h reference ≡ true
   pub short : is_valid_vector v ≡ true
 
-reference_is : (number v : ℕ) → v < 7 → has_reference (frame number) (reference_of_number (1 + v)) ≡ true
+reference_is : (version number v : ℕ) → v < 7 → has_reference (frame version number) (reference_of_number (1 + v)) ≡ true
 unfolding frame has_reference has_slot
-reference_is number v lt = below 7 (λ v. has_reference (frame number) (reference_of_number (1 + v))) refl v lt
+reference_is version number v lt = below 7 (λ v. has_reference (frame version number) (reference_of_number (1 + v))) refl v lt
 
-reference_fills : (number : ℕ) →
-    Fills (draws 7 (λ v. writes one (1 + v))) (field (byte_from 1 7)) 1 (λ v. has_reference (frame number) (reference_of_number v) ≡ true)
-reference_fills number = drawing 7 (λ v. writes one (1 + v)) (lit< tt) (λ v lt.
+reference_fills : (version number : ℕ) →
+    Fills (draws 7 (λ v. writes one (1 + v))) (field (byte_from 1 7)) 1 (λ v. has_reference (frame version number) (reference_of_number v) ≡ true)
+reference_fills version number = drawing 7 (λ v. writes one (1 + v)) (lit< tt) (λ v lt.
     asked_last (byte_from 1 7) (λ v. done v) (1 + v) (byte_is 1 7 (1 + v) (lit< tt) (omega arith) (omega arith))
-    (fills_done (1 + v) (reference_is number v lt)))
+    (fills_done (1 + v) (reference_is version number v lt)))
 
 -- a reference and its vector
 abbrev moving : Format (RefType × MotionVector)
 moving = field (byte_from 1 7) >>= λ n. field (any two) >>= λ row. field (any two) >>= λ col. done (reference_of_number n, vector_of row col)
 
-motion_fills : (number : ℕ) → Fills motion moving 5 (λ p. IsMotion (frame number) p.0 p.1)
+motion_fills : (version number : ℕ) → Fills motion moving 5 (λ p. IsMotion (frame version number) p.0 p.1)
 unfolding motion is_valid_vector
-motion_fills number =
-    follows (λ n. field (any two) >>= λ row. field (any two) >>= λ col. done (reference_of_number n, vector_of row col)) (reference_fills number) (λ n pn.
+motion_fills version number =
+    follows (λ n. field (any two) >>= λ row. field (any two) >>= λ col. done (reference_of_number n, vector_of row col)) (reference_fills version number)
+    (λ n pn.
     follows (λ row. field (any two) >>= λ col. done (reference_of_number n, vector_of row col)) component_fills (λ row pr.
     ends (λ col. done (reference_of_number n, vector_of row col)) component_fills (λ col pc.
     fills_done (reference_of_number n, vector_of row col) (record { present = pn; short = rw (pr, pc) refl }))))
@@ -194,51 +195,53 @@ mode_fills k first last some le small = drawing k (λ v. writes one (first + v))
     asked_last (byte_from 0 33) (λ v. done v) (first + v) (byte_is 0 33 (first + v) (lit< tt) (omega arith) (omega arith))
     (fills_done (first + v) (omega arith, omega arith)))
 
-single_rest : (number : ℕ) (size : BlockSize) (mode : PredictionMode) → is_inter_size size ≡ true →
-    Fills motion (grammar.single mode) 5 (IsFitting (frame number) size)
-unfolding grammar.single grammar.reference_frame grammar.vector frame has_modes admits_references is_inter_size has_vectors has_references
-single_rest number size mode inter =
-    ends (λ p. done (Single mode p.0 p.1)) (motion_fills number) (λ p m.
+single_rest : (version number : ℕ) (size : BlockSize) (mode : PredictionMode) → admits_references (frame version number) size ≡ true →
+    Fills motion (grammar.single mode) 5 (IsFitting (frame version number) size)
+unfolding grammar.single grammar.reference_frame grammar.vector frame has_modes has_vectors has_references
+single_rest version number size mode inter =
+    ends (λ p. done (Single mode p.0 p.1)) (motion_fills version number) (λ p m.
     fills_done (Single mode p.0 p.1) (record { modes = inter; vectors = m.short; references = m.present }))
 
-single_fills : (number : ℕ) (size : BlockSize) (carried : Bool) → is_inter_size size ≡ true →
-    Fills single (grammar.leaf_kind carried) 6 (IsFitting (frame number) size)
+single_fills : (version number : ℕ) (size : BlockSize) (carried : Bool) → admits_references (frame version number) size ≡ true →
+    Fills single (grammar.leaf_kind carried) 6 (IsFitting (frame version number) size)
 unfolding single grammar.leaf_kind
-single_fills number size carried inter =
+single_fills version number size carried inter =
     follows {n = 5} (behind carried) (mode_fills 6 14 19 (lit< tt) (lit≤ tt) (lit≤ tt)) (λ n p.
-    rw (le-ltb n 14 p.0, lt-ltb n 20 (omega arith)) (single_rest number size (mode_of n) inter))
+    rw (le-ltb n 14 p.0, lt-ltb n 20 (omega arith)) (single_rest version number size (mode_of n) inter))
 
-compound_rest : (number : ℕ) (size : BlockSize) (mode : PredictionMode) → is_inter_size size ≡ true →
-    Fills (motion >> motion) (grammar.compound mode) 10 (IsFitting (frame number) size)
-unfolding grammar.compound grammar.reference_frame grammar.vector frame has_modes admits_references is_inter_size has_vectors has_references
-compound_rest number size mode inter =
-    follows (λ p. moving >>= λ q. done (Compound mode (p.0 ∷ q.0 ∷ []) (p.1 ∷ q.1 ∷ []))) (motion_fills number) (λ p m.
-    ends (λ q. done (Compound mode (p.0 ∷ q.0 ∷ []) (p.1 ∷ q.1 ∷ []))) (motion_fills number) (λ q l.
+compound_rest : (version number : ℕ) (size : BlockSize) (mode : PredictionMode) → admits_references (frame version number) size ≡ true →
+    Fills (motion >> motion) (grammar.compound mode) 10 (IsFitting (frame version number) size)
+unfolding grammar.compound grammar.reference_frame grammar.vector frame has_modes has_vectors has_references
+compound_rest version number size mode inter =
+    follows (λ p. moving >>= λ q. done (Compound mode (p.0 ∷ q.0 ∷ []) (p.1 ∷ q.1 ∷ []))) (motion_fills version number) (λ p m.
+    ends (λ q. done (Compound mode (p.0 ∷ q.0 ∷ []) (p.1 ∷ q.1 ∷ []))) (motion_fills version number) (λ q l.
     fills_done (Compound mode (p.0 ∷ q.0 ∷ []) (p.1 ∷ q.1 ∷ []))
     (record { modes = inter; vectors = rw (m.short, l.short) refl; references = rw (m.present, l.present) refl })))
 
-compound_fills : (number : ℕ) (size : BlockSize) (carried : Bool) → is_inter_size size ≡ true →
-    Fills compound (grammar.leaf_kind carried) 11 (IsFitting (frame number) size)
+compound_fills : (version number : ℕ) (size : BlockSize) (carried : Bool) → admits_references (frame version number) size ≡ true →
+    Fills compound (grammar.leaf_kind carried) 11 (IsFitting (frame version number) size)
 unfolding compound grammar.leaf_kind
-compound_fills number size carried inter =
+compound_fills version number size carried inter =
     follows {n = 10} (behind carried) (mode_fills 14 20 33 (lit< tt) (lit≤ tt) (lit≤ tt)) (λ n p.
-    rw (le-ltb n 14 (omega arith), le-ltb n 20 p.0) (compound_rest number size (mode_of n) inter))
+    rw (le-ltb n 14 (omega arith), le-ltb n 20 p.0) (compound_rest version number size (mode_of n) inter))
 
 -- ---- every kind
 
-kind_of_fills : (number : ℕ) (size : BlockSize) (carried : Bool) (choice : ℕ) → is_inter_size size ≡ true
-    → Fills (kind_of size carried choice) (grammar.leaf_kind carried) 11 (IsFitting (frame number) size)
+kind_of_fills : (version number : ℕ) (size : BlockSize) (carried : Bool) (choice : ℕ) → admits_references (frame version number) size ≡ true
+    → Fills (kind_of size carried choice) (grammar.leaf_kind carried) 11 (IsFitting (frame version number) size)
 unfolding kind_of
-kind_of_fills number size carried zero inter = weaker (lit≤ tt) (λ k p. p) (intra_fills (frame number) size carried)
-kind_of_fills number size carried (suc zero) inter = weaker (lit≤ tt) (λ k p. p) (intra_fills (frame number) size carried)
-kind_of_fills number size carried (suc (suc zero)) inter = weaker (lit≤ tt) (λ k p. p) (single_fills number size carried inter)
-kind_of_fills number size carried (suc (suc (suc n))) inter = compound_fills number size carried inter
+kind_of_fills version number size carried zero inter = weaker (lit≤ tt) (λ k p. p) (intra_fills (frame version number) size carried)
+kind_of_fills version number size carried (suc zero) inter = weaker (lit≤ tt) (λ k p. p) (intra_fills (frame version number) size carried)
+kind_of_fills version number size carried (suc (suc zero)) inter = weaker (lit≤ tt) (λ k p. p) (single_fills version number size carried inter)
+kind_of_fills version number size carried (suc (suc (suc n))) inter = compound_fills version number size carried inter
 
-kind_by : (b : Bool) (number : ℕ) (size : BlockSize) (carried : Bool) → is_inter_size size ≡ b
-    → Fills (if b then draws 4 (kind_of size carried) else intra size carried) (grammar.leaf_kind carried) 11 (IsFitting (frame number) size)
-kind_by true number size carried inter = drawing 4 (kind_of size carried) (lit< tt) (λ choice lt. kind_of_fills number size carried choice inter)
-kind_by false number size carried inter = weaker (lit≤ tt) (λ k p. p) (intra_fills (frame number) size carried)
+kind_by : (b : Bool) (version number : ℕ) (size : BlockSize) (carried : Bool) → admits_references (frame version number) size ≡ b
+    → Fills (if b then draws 4 (kind_of size carried) else intra size carried) (grammar.leaf_kind carried) 11 (IsFitting (frame version number) size)
+kind_by true version number size carried inter =
+    drawing 4 (kind_of size carried) (lit< tt) (λ choice lt. kind_of_fills version number size carried choice inter)
+kind_by false version number size carried inter = weaker (lit≤ tt) (λ k p. p) (intra_fills (frame version number) size carried)
 
-pub kind_fills : (number : ℕ) (size : BlockSize) (carried : Bool) → Fills (kind size carried) (grammar.leaf_kind carried) 11 (IsFitting (frame number) size)
+pub kind_fills : (version number : ℕ) (size : BlockSize) (carried : Bool) →
+    Fills (kind (frame version number) size carried) (grammar.leaf_kind carried) 11 (IsFitting (frame version number) size)
 unfolding kind
-kind_fills number size carried = kind_by (is_inter_size size) number size carried refl
+kind_fills version number size carried = kind_by (admits_references (frame version number) size) version number size carried refl

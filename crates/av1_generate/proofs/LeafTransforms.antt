@@ -129,8 +129,8 @@ unfolding grammar.uv_type
 chroma_type_fills size true = ends (λ t. done (Some t)) (type_fills (largest_chroma_tx_size size 1 1)) (λ t is. fills_done (Some t) is)
 chroma_type_fills size false = weaker (lit≤ tt) (λ t p. p) (fills_done None tt)
 
-pub transforms_are : (number : ℕ) (size : BlockSize) (p : TxSize × TxType) (uv : Option TxType) → AreFitting size p → IsChromaType size uv
-    → has_transforms (frame number) size p.0 p.1 uv ≡ true
+pub transforms_are : (version number : ℕ) (size : BlockSize) (p : TxSize × TxType) (uv : Option TxType) → AreFitting size p → IsChromaType size uv
+    → has_transforms (frame version number) size p.0 p.1 uv ≡ true
 unfolding has_transforms plane_tx_size xdec ydec frame
-transforms_are number size p None l c = rw (l.within, l.type) refl
-transforms_are number size p (Some t) l c = rw (l.within, l.type, c) refl
+transforms_are version number size p None l c = rw (l.within, l.type) refl
+transforms_are version number size p (Some t) l c = rw (l.within, l.type, c) refl

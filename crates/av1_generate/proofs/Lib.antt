@@ -3,6 +3,7 @@ pub mod Turns
 pub mod Blocks
 pub mod Fills
 pub mod FieldKinds
+pub mod Sides
 pub mod LeafKinds
 pub mod LeafTransforms
 pub mod LeafTriples

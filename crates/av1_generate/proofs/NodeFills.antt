@@ -39,11 +39,11 @@ no_first_fault h n (l ∷ leaves) p = rw p.0 (no_first_fault h (n + 1) leaves p.
 
 -- ---- parts
 
-part_fills : (number x y : ℕ) (size : BlockSize) → x < 512 → y < 512
-    → Fills (leaf_part (frame number) size x y) (grammar.leaf_part (frame number) size x y) 83 (AreValid (frame number))
+part_fills : (version number x y : ℕ) (size : BlockSize) → x < 512 → y < 512
+    → Fills (leaf_part (frame version number) size x y) (grammar.leaf_part (frame version number) size x y) 83 (AreValid (frame version number))
 unfolding grammar.leaf_part is_inside frame
-part_fills number x y size lt_x lt_y =
-    rw (lt-ltb x 512 lt_x, lt-ltb y 512 lt_y) (fills_lone (leaf_fills number x y size lt_x lt_y) (λ l p. (p, tt)))
+part_fills version number x y size lt_x lt_y =
+    rw (lt-ltb x 512 lt_x, lt-ltb y 512 lt_y) (fills_lone (leaf_fills version number x y size lt_x lt_y) (λ l p. (p, tt)))
 
 -- the most bytes that a part of a level has
 abbrev room : ℕ → ℕ
@@ -55,9 +55,9 @@ room_is zero = lit≤ tt
 room_is (suc level) = omega (arith, room_is level)
 
 -- the parts of half the side
-abbrev AreFilled : ℕ → ℕ → Type 0
-AreFilled number level = (x y : ℕ) → x + 4 * 2 ^ level ≤ 512 → y + 4 * 2 ^ level ≤ 512
-    → Fills (block (frame number) level x y) (grammar.block (frame number) level x y) (room level) (AreValid (frame number))
+abbrev AreFilled : ℕ → ℕ → ℕ → Type 0
+AreFilled version number level = (x y : ℕ) → x + 4 * 2 ^ level ≤ 512 → y + 4 * 2 ^ level ≤ 512
+    → Fills (block (frame version number) level x y) (grammar.block (frame version number) level x y) (room level) (AreValid (frame version number))
 
 -- a node of this level at this place lies in the frame, in quarters of this side
 record IsNode (level side x y : ℕ) : Type 0 where
@@ -79,61 +79,63 @@ node_is level x y le_x le_y =
       below = let h : y + 4 * (2 * 2 ^ level) ≤ 512 = rw double at le_y in omega arith;
     }
 
-parts_fill : (number level side x y mark : ℕ) → mark < 4 → IsNode level side x y → AreFilled number level
-    → Fills (parts (frame number) (suc level) (block (frame number) level) x y mark)
-    (grammar.parts (frame number) (suc level) (grammar.block (frame number) level) x y (grammar.cut_by mark)) (4 * room level) (AreValid (frame number))
+parts_fill : (version number level side x y mark : ℕ) → mark < 4 → IsNode level side x y → AreFilled version number level
+    → Fills (parts (frame version number) (suc level) (block (frame version number) level) x y mark)
+    (grammar.parts (frame version number) (suc level) (grammar.block (frame version number) level) x y (grammar.cut_by mark)) (4 * room level)
+    (AreValid (frame version number))
 unfolding parts grammar.parts grammar.cut_by
-parts_fill number level side x y zero lt node quarter =
+parts_fill version number level side x y zero lt node quarter =
     weaker (omega (arith, room_is level)) (λ ls p. p)
-    (part_fills number x y (whole_size (suc level)) (omega (arith, node.right, node.some)) (omega (arith, node.below, node.some)))
-parts_fill number level side x y (suc zero) lt node quarter =
+    (part_fills version number x y (whole_size (suc level)) (omega (arith, node.right, node.some)) (omega (arith, node.below, node.some)))
+parts_fill version number level side x y (suc zero) lt node quarter =
     weaker (omega (arith, room_is level)) (λ ls p. p)
-    (fills_both (valid_grows (frame number))
-    (part_fills number x y (part_size (suc level) PARTITION_HORZ) (omega (arith, node.right, node.some)) (omega (arith, node.below, node.some)))
-    (part_fills number x (y + half_side (suc level)) (part_size (suc level) PARTITION_HORZ) (omega (arith, node.right, node.some))
+    (fills_both (valid_grows (frame version number))
+    (part_fills version number x y (part_size (suc level) PARTITION_HORZ) (omega (arith, node.right, node.some)) (omega (arith, node.below, node.some)))
+    (part_fills version number x (y + half_side (suc level)) (part_size (suc level) PARTITION_HORZ) (omega (arith, node.right, node.some))
     (omega (arith, node.below, node.some, node.half))))
-parts_fill number level side x y (suc (suc zero)) lt node quarter =
+parts_fill version number level side x y (suc (suc zero)) lt node quarter =
     weaker (omega (arith, room_is level)) (λ ls p. p)
-    (fills_both (valid_grows (frame number))
-    (part_fills number x y (part_size (suc level) PARTITION_VERT) (omega (arith, node.right, node.some)) (omega (arith, node.below, node.some)))
-    (part_fills number (x + half_side (suc level)) y (part_size (suc level) PARTITION_VERT) (omega (arith, node.right, node.some, node.half))
+    (fills_both (valid_grows (frame version number))
+    (part_fills version number x y (part_size (suc level) PARTITION_VERT) (omega (arith, node.right, node.some)) (omega (arith, node.below, node.some)))
+    (part_fills version number (x + half_side (suc level)) y (part_size (suc level) PARTITION_VERT) (omega (arith, node.right, node.some, node.half))
     (omega (arith, node.below, node.some))))
-parts_fill number level side x y (suc (suc (suc (suc mark)))) lt node quarter = absurd (omega (arith, lt))
-parts_fill number level side x y (suc (suc (suc zero))) lt node quarter =
+parts_fill version number level side x y (suc (suc (suc (suc mark)))) lt node quarter = absurd (omega (arith, lt))
+parts_fill version number level side x y (suc (suc (suc zero))) lt node quarter =
     let right = x + half_side (suc level) in
     let below = y + half_side (suc level) in
     let in_x : x + 4 * 2 ^ level ≤ 512 = omega (arith, node.right, node.quarter) in
     let in_y : y + 4 * 2 ^ level ≤ 512 = omega (arith, node.below, node.quarter) in
     let in_right : right + 4 * 2 ^ level ≤ 512 = omega (arith, node.right, node.quarter, node.half) in
     let in_below : below + 4 * 2 ^ level ≤ 512 = omega (arith, node.below, node.quarter, node.half) in
-    let grows = valid_grows (frame number) in
+    let grows = valid_grows (frame version number) in
     weaker (omega arith) (λ ls p. p)
     (four_fill grows (quarter x y in_x in_y) (quarter right y in_right in_y) (quarter x below in_x in_below) (quarter right below in_right in_below))
 
-pub block_fills : (number level : ℕ) → AreFilled number level
+pub block_fills : (version number level : ℕ) → AreFilled version number level
 unfolding block grammar.block grammar.mark is_inside frame
-block_fills number zero x y in_x in_y = part_fills number x y BLOCK_4X4 (omega arith) (omega arith)
-block_fills number (suc level) x y in_x in_y =
+block_fills version number zero x y in_x in_y = part_fills version number x y BLOCK_4X4 (omega arith) (omega arith)
+block_fills version number (suc level) x y in_x in_y =
     let node = node_is level x y in_x in_y in
     rw (lt-ltb x 512 (omega (arith, node.right, node.some)), lt-ltb y 512 (omega (arith, node.below, node.some)))
-    (drawing 4 (λ mark. writes one mark >> parts (frame number) (suc level) (block (frame number) level) x y mark) (lit< tt) (λ mark lt.
-    asked {n = 4 * room level} (where_ one (grammar.is_mark (frame number) (suc level) x y))
-    (λ v. grammar.parts (frame number) (suc level) (grammar.block (frame number) level) x y (grammar.cut_by v)) mark
-    (mark_is (frame number) (suc level) x y mark lt)
-    (parts_fill number level (4 * 2 ^ level) x y mark lt node (block_fills number level))))
+    (drawing 4 (λ mark. writes one mark >> parts (frame version number) (suc level) (block (frame version number) level) x y mark) (lit< tt) (λ mark lt.
+    asked {n = 4 * room level} (where_ one (grammar.is_mark (frame version number) (suc level) x y))
+    (λ v. grammar.parts (frame version number) (suc level) (grammar.block (frame version number) level) x y (grammar.cut_by v)) mark
+    (mark_is (frame version number) (suc level) x y mark lt)
+    (parts_fill version number level (4 * 2 ^ level) x y mark lt node (block_fills version number level))))
 
 -- ---- superblocks
 
-row_fills : (number row : ℕ) → row < 8 →
-    Fills (superblock_row (frame number) row) (grammar.superblock_row (frame number) row) (8 * room 4) (AreValid (frame number))
+row_fills : (version number row : ℕ) → row < 8 →
+    Fills (superblock_row (frame version number) row) (grammar.superblock_row (frame version number) row) (8 * room 4) (AreValid (frame version number))
 unfolding superblock_row grammar.superblock_row frame
-row_fills number row lt =
-    fills_each (λ col. block (frame number) 4 (64 * col) (64 * row)) (λ col. grammar.block (frame number) 4 (64 * col) (64 * row))
-    (room 4) 0 8 (valid_grows (frame number))
-    (λ col le lt_8. block_fills number 4 (64 * col) (64 * row) (omega arith) (omega arith))
+row_fills version number row lt =
+    fills_each (λ col. block (frame version number) 4 (64 * col) (64 * row)) (λ col. grammar.block (frame version number) 4 (64 * col) (64 * row))
+    (room 4) 0 8 (valid_grows (frame version number))
+    (λ col le lt_8. block_fills version number 4 (64 * col) (64 * row) (omega arith) (omega arith))
 
-pub superblocks_fill : (number : ℕ) → Fills (superblocks (frame number)) (grammar.superblocks (frame number)) (8 * (8 * room 4)) (AreValid (frame number))
+pub superblocks_fill : (version number : ℕ) → Fills (superblocks (frame version number)) (grammar.superblocks (frame version number)) (8 * (8 * room 4))
+    (AreValid (frame version number))
 unfolding superblocks grammar.superblocks frame
-superblocks_fill number =
-    fills_each (superblock_row (frame number)) (grammar.superblock_row (frame number)) (8 * room 4) 0 8 (valid_grows (frame number))
-    (λ row le lt. row_fills number row (omega arith))
+superblocks_fill version number =
+    fills_each (superblock_row (frame version number)) (grammar.superblock_row (frame version number)) (8 * room 4) 0 8 (valid_grows (frame version number))
+    (λ row le lt. row_fills version number row (omega arith))

@@ -1,7 +1,7 @@
 -- Drafts that are written by states and by the numbers of draws.
 use Rattle.std.proofs.Common.{◌≡◌, ℕ, suc, List, [], refl, ◌∙◌, ap}
 use Rattle.av1_generate.specs.Draft.{Draft, nothing, writes, draws, ◌>>◌, written}
-use Rattle.av1_generate.specs.Generator.{plan, plan_bytes}
+use Rattle.av1_generate.specs.Generator.{plan, plan_bytes_in}
 use Rattle.av1_generate.specs.Making.{run}
 use Rattle.av1_generate.specs.Numbers.{state_after, number_of, state, drawn}
 
@@ -18,6 +18,6 @@ by_state seed (d >> e) bytes i =
     ∙ by_state seed e (written suc (drawn seed) d (bytes, i)).0 (written suc (drawn seed) d (bytes, i)).1
 
 -- what is made state by state is the plan of the number
-pub by_draws : (number : ℕ) → (run (plan number) ([], number)).0 ≡ plan_bytes number
-unfolding plan_bytes state
-by_draws number = ap (λ (p : List ℕ × ℕ). p.0) (by_state number (plan number) [] 0)
+pub by_draws : (version number : ℕ) → (run (plan version number) ([], number)).0 ≡ plan_bytes_in version number
+unfolding plan_bytes_in state
+by_draws version number = ap (λ (p : List ℕ × ℕ). p.0) (by_state number (plan version number) [] 0)

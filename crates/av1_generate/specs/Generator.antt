@@ -1,6 +1,6 @@
--- The plan of a number: what is drawn and what is written, field by field.
-use Rattle.std.specs.Prelude.{ℕ, zero, suc, codes, ◌+◌, ◌-◌, ◌*◌, ◌/◌, ◌%◌, ◌==◌, Bool, if◌then◌else◌, List, [], ◌∷◌}
-use Rattle.std.specs.Prelude.{slice_index_or}
+-- The plan of a number in a version of the grammar: what is drawn and what is written, field by field.
+use Rattle.std.specs.Prelude.{ℕ, zero, suc, codes, ◌+◌, ◌-◌, ◌*◌, ◌/◌, ◌%◌, ◌^◌, ◌==◌, Bool, if◌then◌else◌, List}
+use Rattle.std.specs.Prelude.{[], ◌∷◌, slice_index_or}
 use Rattle.std.specs.Int.{w32, from_le_bytes, is_in_range}
 use Rattle.av1_blocks.specs.declared.mc.FilterMode.TheVariants.{REGULAR}
 use Rattle.av1_blocks.specs.declared.mc.TheConstants.FilterMode as filter_modes
@@ -16,7 +16,7 @@ use Rattle.av1_plan.specs.declared.header.Header.{Header}
 use Rattle.av1_plan.specs.Format.{Length, one, two, four, limit}
 use Rattle.av1_plan.specs.Geometry.{carries_chroma, shown_columns, shown_rows}
 use Rattle.av1_plan.specs.Grammar.{half_side, whole_size, part_size}
-use Rattle.av1_plan.specs.Validity.{is_inter_size}
+use Rattle.av1_plan.specs.Validity.{admits_references}
 use Rattle.av1_generate.specs.Draft.{Draft, writes, draws, ◌>>◌, only_if, each, written}
 use Rattle.av1_generate.specs.Numbers.{drawn}
 
@@ -28,14 +28,18 @@ less size v by = (v + (limit size - by)) % limit size
 
 -- ---- what stands before the leaves
 
--- the frame: 512 by 512, depth 10, 4:2:0; every reference names slot 0, which alone carries planes
-unfoldable pub frame : ℕ → Header
-frame number = record {
-  version = 1;
+-- a side of the frame that is shown: all that is coded, in the third version up to 7 fewer
+unfoldable pub shown_side : (version v : ℕ) → ℕ
+shown_side version v = if version == 3 then 512 - v % 8 else 512
+
+-- the frame: 512 by 512 are coded, depth 10, 4:2:0; every reference names slot 0, which alone carries planes
+unfoldable pub frame : (version number : ℕ) → Header
+frame version number = record {
+  version = version;
   width = 512;
   height = 512;
-  shown_width = 512;
-  shown_height = 512;
+  shown_width = shown_side version number;
+  shown_height = shown_side version (number / 8);
   depth = 10;
   sampling = 0;
   filter = slice_index_or filter_modes.ALL (number % 4) REGULAR;
@@ -48,10 +52,15 @@ frame number = record {
 unfoldable pub slots : Draft
 slots = each (λ _. writes one 0) 0 7
 
+-- the four letters at the front: the last is the digit of the version
+unfoldable pub letters : (version : ℕ) → ℕ
+letters version = from_le_bytes w32 (codes "RPL0") + 2 ^ 24 * version
+
 -- the header's fields
-unfoldable pub header : ℕ → Draft
-header number =
-    writes four (from_le_bytes w32 (codes "RPL1")) >> writes two 512 >> writes two 512 >> writes one 10 >> writes one 0
+unfoldable pub header : (version number : ℕ) → Draft
+header version number =
+    writes four (letters version) >> writes two (shown_side version number)
+    >> writes two (shown_side version (number / 8)) >> writes one 10 >> writes one 0
     >> writes one (number % 4) >> writes one (number / 4 % 2) >> slots >> writes one 1
 
 -- the sample of plane p of slot 0 at column x and row y
@@ -118,9 +127,10 @@ kind_of size carried (suc zero) = intra size carried
 kind_of size carried (suc (suc zero)) = single
 kind_of size carried (suc (suc (suc n))) = compound
 
--- half of the leaves without a side of 4 are intra, a quarter has one reference and a quarter two; all others are intra
-unfoldable pub kind : BlockSize → Bool → Draft
-kind size carried = if is_inter_size size then draws 4 (kind_of size carried) else intra size carried
+-- of the leaves whose size admits references half are intra, a quarter has one reference and a quarter two; all others
+-- are intra
+unfoldable pub kind : Header → BlockSize → Bool → Draft
+kind h size carried = if admits_references h size then draws 4 (kind_of size carried) else intra size carried
 
 -- ---- how it is transformed
 
@@ -160,14 +170,14 @@ chroma_triples carried = only_if carried (triples >> triples)
 -- ---- leaves and nodes
 
 -- a leaf of this size that carries chroma or not
-unfoldable pub leaf : BlockSize → Bool → Draft
-leaf size carried =
-    kind size carried >> luma_transforms size >> only_if carried (tx_type (largest_chroma_tx_size size 1 1))
+unfoldable pub leaf : Header → BlockSize → Bool → Draft
+leaf h size carried =
+    kind h size carried >> luma_transforms size >> only_if carried (tx_type (largest_chroma_tx_size size 1 1))
     >> triples >> chroma_triples carried
 
 -- a leaf of this size at this place
 unfoldable pub leaf_part : Header → BlockSize → ℕ → ℕ → Draft
-leaf_part h size x y = leaf size (carries_chroma h x y size)
+leaf_part h size x y = leaf h size (carries_chroma h x y size)
 
 -- the parts of a node of this level by its mark (none, horizontal, vertical, split), where quarter gives the part of
 -- half the side at a place
@@ -198,9 +208,14 @@ superblocks h = each (superblock_row h) 0 8
 
 -- ---- the whole
 
-unfoldable pub plan : ℕ → Draft
-plan number = header number >> reference (frame number) number >> superblocks (frame number)
+unfoldable pub plan : (version number : ℕ) → Draft
+plan version number =
+    header version number >> reference (frame version number) number >> superblocks (frame version number)
 
--- the bytes of the plan of a number: the number is also the seed of what is drawn
+-- the bytes of the plan of a number in a version: the number is also the seed of what is drawn
+unfoldable pub plan_bytes_in : (version number : ℕ) → List ℕ
+plan_bytes_in version number = (written suc (drawn number) (plan version number) ([], 0)).0
+
+-- the bytes of the plan of a number: in the first version
 unfoldable pub plan_bytes : ℕ → List ℕ
-plan_bytes number = (written suc (drawn number) (plan number) ([], 0)).0
+plan_bytes number = plan_bytes_in 1 number

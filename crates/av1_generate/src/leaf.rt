@@ -5,7 +5,7 @@ ghost use Rattle.av1_generate.specs.Generator.{chroma_modes};
 
 use crate::maker::Maker;
 use av1_blocks::{BlockSize, OutOfMemory};
-use av1_plan::is_inter_size;
+use av1_plan::{Header, admits_references};
 
 /// How many chroma modes a leaf of this size may have: chroma from luma, the last, is for sides up to 32.
 #[tactic(auto, unfolding(crate::specs::Generator::chroma_modes, av1_blocks::specs::Blocks::cfl_allowed))]
@@ -123,10 +123,15 @@ impl Maker {
 
     /// Writes the kind of a leaf. Of those that may have references half are intra.
     #[tactic(auto, unfolding(crate::specs::Generator::kind, crate::specs::Generator::kind_of))]
-    pub fn kind(&mut self, size: BlockSize, carried: bool) -> Result<(), OutOfMemory>
-        ensures { OnOk result (work self.new ≡ run (kind size carried) (work self.old)) }
+    pub fn kind(
+        &mut self,
+        frame: &Header,
+        size: BlockSize,
+        carried: bool,
+    ) -> Result<(), OutOfMemory>
+        ensures { OnOk result (work self.new ≡ run (kind frame.now size carried) (work self.old)) }
     {
-        if !is_inter_size(size) {
+        if !admits_references(frame, size) {
             return self.intra(size, carried);
         }
         match self.draw(4) {

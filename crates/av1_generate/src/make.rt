@@ -1,7 +1,7 @@
 //! The plan of a number: what stands before the leaves, and then these.
 
 ghost use Rattle.std.specs.Prelude.{◌≡◌, ◌≤◌, ◌^◌, IfOk, vec_len};
-ghost use Rattle.av1_generate.specs.Generator.{frame, sample, plan_bytes};
+ghost use Rattle.av1_generate.specs.Generator.{shown_side, frame, sample, plan_bytes_in, plan_bytes};
 ghost use Rattle.av1_generate.specs.Text.{ArePlan, AreFaultless};
 
 use crate::maker::Maker;
@@ -9,18 +9,33 @@ use av1_blocks::{FilterMode, OutOfMemory};
 use av1_plan::Header;
 use std::alloc::Global;
 
-/// The frame of the plan of a number: 512 by 512, depth 10, 4:2:0. Every reference names slot 0, which alone carries
-/// planes.
+/// A side of the frame that is shown: all that is coded, in the third version up to 7 fewer.
+#[tactic(auto, unfolding(crate::specs::Generator::shown_side))]
+fn shown_side(version: u8, v: u32) -> u16
+    ensures value { result ≡ shown_side version v }
+    ensures most { result ≤ 512 }
+{
+    if version == 3 {
+        512 - (v % 8) as u16
+    } else {
+        512
+    }
+}
+
+/// The frame of the plan of a number in a version: 512 by 512 are coded, depth 10, 4:2:0. Every reference names slot 0,
+/// which alone carries planes.
 #[tactic(auto, unfolding(crate::specs::Generator::frame))]
-fn frame(number: u32) -> Header
-    ensures { result ≡ frame number }
+fn frame(version: u8, number: u32) -> Header
+    ensures value { result ≡ frame version number }
+    ensures width { result.shown_width ≤ 512 }
+    ensures height { result.shown_height ≤ 512 }
 {
     Header {
-        version: 1,
+        version,
         width: 512,
         height: 512,
-        shown_width: 512,
-        shown_height: 512,
+        shown_width: shown_side(version, number),
+        shown_height: shown_side(version, number / 8),
         depth: 10,
         sampling: 0,
         filter: FilterMode::ALL[(number % 4) as usize],
@@ -43,8 +58,10 @@ fn sample(number: u32, p: u32, x: u32, y: u32) -> u16
 
 impl Maker {
     ghost use Rattle.std.specs.Prelude.{◌≡◌, ◌+◌, ◌*◌, ◌<◌, ◌≤◌, OnOk};
-    ghost use Rattle.av1_generate.specs.Generator.{header, slots, row, plane, reference};
+    ghost use Rattle.av1_generate.specs.Generator.{letters, header, slots, row, plane, reference};
     ghost use Rattle.av1_generate.specs.Making.{work, run};
+    ghost use Rattle.av1_generate.specs.Draft.{writes};
+    ghost use Rattle.av1_plan.specs.Format.{four};
 
     /// Writes that every reference names slot 0.
     #[tactic(auto, using(crate::proofs::Turns::turns), unfolding(crate::specs::Generator::slots))]
@@ -57,14 +74,24 @@ impl Maker {
         Ok(())
     }
 
-    /// Writes the header of the plan of a number.
-    #[tactic(auto, unfolding(crate::specs::Generator::header))]
-    fn header(&mut self, number: u32) -> Result<(), OutOfMemory>
-        ensures { OnOk result (work self.new ≡ run (header number) (work self.old)) }
+    /// Writes the four letters at the front.
+    #[tactic(auto, unfolding(crate::specs::Generator::letters))]
+    fn letters(&mut self, version: u8) -> Result<(), OutOfMemory>
+        requires { version ≤ 3 }
+        ensures { OnOk result (work self.new ≡ run (writes four (letters version)) (work self.old)) }
     {
-        self.u32_field(u32::from_le_bytes(*b"RPL1"))?;
-        self.u16_field(512)?;
-        self.u16_field(512)?;
+        self.u32_field(u32::from_le_bytes(*b"RPL0") + 0x100_0000 * u32::from(version))
+    }
+
+    /// Writes the header of the plan of a number in a version.
+    #[tactic(auto, unfolding(crate::specs::Generator::header))]
+    fn header(&mut self, version: u8, number: u32) -> Result<(), OutOfMemory>
+        requires { version ≤ 3 }
+        ensures { OnOk result (work self.new ≡ run (header version number) (work self.old)) }
+    {
+        self.letters(version)?;
+        self.u16_field(shown_side(version, number))?;
+        self.u16_field(shown_side(version, number / 8))?;
         self.byte(10)?;
         self.byte(0)?;
         self.byte((number % 4) as u8)?;
@@ -114,23 +141,46 @@ impl Maker {
     }
 }
 
-/// The bytes that are drawn and written for a number.
-#[tactic(auto, using(crate::proofs::Written::by_draws), unfolding(crate::specs::Generator::plan, crate::specs::Generator::frame))]
-fn draw_plan(alloc: Global, number: u32) -> Result<Vec<u8>, OutOfMemory>
-    ensures { IfOk result (λ bytes. bytes.items ≡ plan_bytes number) }
+/// The bytes that are drawn and written for a number in a version.
+#[tactic(auto, using(crate::proofs::Written::by_draws), unfolding(crate::specs::Generator::plan))]
+fn draw_plan(alloc: Global, version: u8, number: u32) -> Result<Vec<u8>, OutOfMemory>
+    requires { version ≤ 3 }
+    ensures { IfOk result (λ bytes. bytes.items ≡ plan_bytes_in version number) }
 {
-    let frame = frame(number);
+    let frame = frame(version, number);
     let mut maker = Maker::new(alloc, number);
-    maker.header(number)?;
+    maker.header(version, number)?;
     maker.reference(&frame, number)?;
     maker.superblocks(&frame)?;
     let Maker { state: _, bytes } = maker;
     Ok(bytes)
 }
 
-/// The plan of a number, as bytes.
+/// The plan of a number in a version of the plan grammar, 1, 2 or 3, as bytes.
 ///
-/// The number chooses the filter and the samples of the reference, and is the seed of everything else.
+/// The number chooses the filter and the samples of the reference, and is the seed of everything else. In the third
+/// version it chooses the sides of the frame as well, 505 to 512, and leaves of any size may be from references.
+///
+/// # Errors
+///
+/// `OutOfMemory`.
+pub fn make_plan_in(alloc: Global, version: u8, number: u32) -> Result<Vec<u8>, OutOfMemory>
+    requires version { (1 ≤ version) × (version ≤ 3) }
+    // The bytes are those of the definition.
+    ensures bytes { IfOk result (λ bytes. bytes.items ≡ plan_bytes_in version number) }
+    // They are the text of a plan.
+    ensures plan { IfOk result (λ bytes. ArePlan bytes.items) }
+    // No leaf of it is faulty.
+    ensures faultless { IfOk result (λ bytes. AreFaultless bytes.items) }
+    // They are no more than a reader of plans takes.
+    ensures few { IfOk result (λ bytes. vec_len bytes ≤ 2 ^ 26) }
+{
+    let bytes = draw_plan(alloc, version, number)?;
+    Ok(bytes)
+}
+
+/// The plan of a number, as bytes: in the first version.
+#[tactic(auto, unfolding(crate::specs::Generator::plan_bytes))]
 pub fn make_plan(alloc: Global, number: u32) -> Result<Vec<u8>, OutOfMemory>
     // The bytes are those of the definition.
     ensures bytes { IfOk result (λ bytes. bytes.items ≡ plan_bytes number) }
@@ -141,6 +191,6 @@ pub fn make_plan(alloc: Global, number: u32) -> Result<Vec<u8>, OutOfMemory>
     // They are no more than a reader of plans takes.
     ensures few { IfOk result (λ bytes. vec_len bytes ≤ 2 ^ 26) }
 {
-    let bytes = draw_plan(alloc, number)?;
+    let bytes = make_plan_in(alloc, 1, number)?;
     Ok(bytes)
 }

@@ -21,7 +21,7 @@ impl Maker {
         ensures { OnOk result (work self.new ≡ run (leaf_part frame.now size x y) (work self.old)) }
     {
         let carried = carries_chroma(frame, x, y, size);
-        self.leaf(size, carried)
+        self.leaf(frame, size, carried)
     }
 
     /// Writes the part of side `4 << level` at this place: a leaf at level 0, else a node.

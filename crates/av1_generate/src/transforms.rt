@@ -2,6 +2,7 @@
 
 use crate::maker::Maker;
 use av1_blocks::{BlockSize, OutOfMemory, TxSize};
+use av1_plan::Header;
 
 impl Maker {
     ghost use Rattle.std.specs.Prelude.{◌≡◌, ◌<◌, OnOk};
@@ -94,10 +95,15 @@ impl Maker {
 
     /// Writes a leaf.
     #[tactic(auto, unfolding(crate::specs::Generator::leaf))]
-    pub fn leaf(&mut self, size: BlockSize, carried: bool) -> Result<(), OutOfMemory>
-        ensures { OnOk result (work self.new ≡ run (leaf size carried) (work self.old)) }
+    pub fn leaf(
+        &mut self,
+        frame: &Header,
+        size: BlockSize,
+        carried: bool,
+    ) -> Result<(), OutOfMemory>
+        ensures { OnOk result (work self.new ≡ run (leaf frame.now size carried) (work self.old)) }
     {
-        self.kind(size, carried)?;
+        self.kind(frame, size, carried)?;
         self.luma_transforms(size)?;
         self.chroma_transforms(size, carried)?;
         self.triples()?;
