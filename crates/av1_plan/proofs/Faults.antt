@@ -1,6 +1,6 @@
 -- Triples and leaves that are looked at one after the other.
 use Rattle.std.proofs.Common.{◌≡◌, ℕ, ◌+◌, ◌≤◌, ◌<◌, Bool, true, false, ◌&&◌, List, [], ◌∷◌, length, drop, get_or, Option, Some, None, refl, ◌∙◌, arith, ap}
-use Rattle.std.proofs.Common.{sym, IfSome, ◌^◌, ℤ, pos, neg_ℤ, ◌×◌}
+use Rattle.std.proofs.Common.{sym, IfSome, ◌^◌, ℤ, pos, neg_ℤ}
 use Rattle.std.proofs.Common.{add-one, drop-cons}
 use Rattle.std.specs.Prelude.{slice_get}
 use Rattle.std.specs.List.{list_all}

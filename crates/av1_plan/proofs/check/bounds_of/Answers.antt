@@ -1,4 +1,3 @@
-use Rattle.std.proofs.Common.{◌∙◌}
 use Rattle.av1_plan.proofs.Signed.{limit_is}
 use Rattle.av1_plan.proofs.check.bounds_of.Goals as goal
 
