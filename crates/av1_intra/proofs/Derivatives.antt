@@ -114,11 +114,10 @@ past_inside u w s i j dy h l q e =
     let b = upsampled_le u (w + 1 + i) (w + s) (omega arith) in
     omega arith
 
-pub past_180_inside : (u i j dy : ℕ) → u ≤ 1 → i < 64 → j < 64 → dy ≤ 40 → ((j + 1) * dy + 64) / 2 ^ (6 - u) + i * 2 ^ u + 1 ≤ 256
-past_180_inside u i j dy h l q e =
-    let a = past_inside u 64 64 i j dy h l q e in
-    let b = upsampled_few u 128 h (omega arith) in
-    omega arith
+-- where the line of a column meets the left side, at an angle past 180
+pub line_few : (j w dy : ℕ) → j < w → w ≤ 64 → dy ≤ 40 → (j + 1) * dy ≤ 2560
+line_few j w dy l few small =
+    let z : (j + 1) * dy ≤ w * 40 = mul-le-mul (omega arith) small in omega arith
 
 -- no angle is straight
 pub past_90 : (p : ℕ) → is_interpolated p ≡ true → 90 ≤ p → 90 < p

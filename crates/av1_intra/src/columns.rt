@@ -1,4 +1,5 @@
-//! Rectangles at an angle between 90 and 180: the part of the left side by columns, that of the side above by rows.
+//! Rectangles at an angle between 90 and 180, the part of the left side by columns, that of the side above by rows; and
+//! at an angle past 180, by columns.
 
 ghost use Rattle.std.specs.Prelude.{◌≡◌, ◌+◌, ◌-◌, ◌*◌, ◌^◌, ◌<◌, ◌≤◌, ℕ, length, nat_le, slice_index, if◌then◌else◌};
 ghost use Rattle.av1_frame.specs.Areas.{AreRows};
@@ -134,7 +135,7 @@ fn column_by<T: Pixel, const UPSAMPLING: usize>(
     requires column { area.width ≡ 1 }
     requires short { area.height ≤ 64 }
     requires upsampling { UPSAMPLING ≤ 1 }
-    requires inside { n + 64 * area.height ≤ 4160 }
+    requires inside { n + 64 * area.height ≤ 8000 }
     requires depth { bit_depth ≤ T.BITS }
     ensures { samples.new ≡ paint stride area (λ i _ _. T.pixel (at bit_depth (entries left.now.numbers) UPSAMPLING n i)) samples.old }
 {
@@ -245,4 +246,55 @@ pub(crate) fn rows_between<T: Pixel>(
 {
     columns_from_left(samples, stride, area, left, slopes, bit_depth);
     rows_from_above(samples, stride, area, above, slopes.dx, bit_depth);
+}
+
+/// The samples of a rectangle, by an angle past 180 of derivative `dy`, column by column. `UPSAMPLING` is that of the
+/// side, known to the compiler.
+fn columns_past_180_by<T: Pixel, const UPSAMPLING: usize>(
+    samples: &mut [T],
+    stride: usize,
+    area: StoredArea,
+    left: &PreparedSide,
+    dy: usize,
+    bit_depth: usize,
+)
+    requires rows { AreRows stride area (length samples.old) }
+    requires width { area.width ≤ 64 }
+    requires height { area.height ≤ 64 }
+    requires upsampling { UPSAMPLING ≤ 1 }
+    requires dy { dy ≤ 40 }
+    requires depth { bit_depth ≤ T.BITS }
+    ensures { samples.new ≡ paint stride area (λ i j _. T.pixel (at bit_depth (entries left.now.numbers) UPSAMPLING ((j + 1) * dy + 64) i)) samples.old }
+{
+    let mut held = [0; 64];
+    for j in 0..area.width {
+        let column = column_of(area, j, 0);
+        let n = (j + 1) * dy + 64;
+        column_by::<T, UPSAMPLING>(samples, stride, column, &mut held, left, n, bit_depth);
+    }
+}
+
+/// The samples of a rectangle, by an angle past 180 of derivative `dy`.
+pub(crate) fn columns_past_180<T: Pixel>(
+    samples: &mut [T],
+    stride: usize,
+    area: StoredArea,
+    left: &PreparedSide,
+    dy: usize,
+    bit_depth: usize,
+)
+    requires rows { AreRows stride area (length samples.old) }
+    requires width { area.width ≤ 64 }
+    requires height { area.height ≤ 64 }
+    requires upsampling { left.now.upsampling ≤ 1 }
+    requires dy { dy ≤ 40 }
+    requires depth { bit_depth ≤ T.BITS }
+    ensures { samples.new ≡ paint stride area (λ i j _. T.pixel (at bit_depth (entries left.now.numbers) left.now.upsampling ((j + 1) * dy + 64) i))
+        samples.old }
+{
+    if left.upsampling == 0 {
+        columns_past_180_by::<T, 0>(samples, stride, area, left, dy, bit_depth);
+    } else {
+        columns_past_180_by::<T, 1>(samples, stride, area, left, dy, bit_depth);
+    }
 }

@@ -14,8 +14,8 @@ ghost use Rattle.av1_intra.specs.Directional.{block_at, directional};
 ghost use Rattle.av1_intra.specs.Blocks.{IsRectangle};
 
 use crate::angle::dr_intra_derivative;
-use crate::columns::{Slopes, rows_between};
-use crate::interpolation::{rows_below_90, rows_past_180};
+use crate::columns::{Slopes, columns_past_180, rows_between};
+use crate::interpolation::rows_below_90;
 use crate::neighbours::IntraEdgeFilterParameters;
 use crate::prepared_side::{PreparedSide, prepare_above, prepare_left};
 use av1_frame::{Pixel, PlaneRegionMut, StoredArea};
@@ -150,7 +150,7 @@ fn directional_past_180<T: Pixel>(
     let smoothed = block.height.min(block.visible_rows) + block.width;
     let mut side = PreparedSide::empty();
     prepare_left(&mut side, left, corner, block, smoothed, places);
-    rows_past_180(samples, stride, area, &side, dy, block.bit_depth);
+    columns_past_180(samples, stride, area, &side, dy, block.bit_depth);
 }
 
 /// Predicts the samples of a rectangle along the angle of `block`, whose width and height are the rectangle's: as

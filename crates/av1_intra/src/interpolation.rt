@@ -80,30 +80,6 @@ fn row_below_90<T: Pixel>(
     fill_row(&mut row[count..width], end, width - count);
 }
 
-/// The first `width` samples of row `i` at an angle past 180.
-#[tactic(auto, using(av1_frame::proofs::Paint::row_painting, crate::proofs::Derivatives::past_180_inside))]
-fn row_past_180<T: Pixel>(
-    row: &mut [T],
-    left: &PreparedSide,
-    dy: usize,
-    i: usize,
-    width: usize,
-    bit_depth: usize,
-)
-    requires row_long { width ≤ length row.old }
-    requires width { width ≤ 64 }
-    requires i { i < 64 }
-    requires upsampling { left.now.upsampling ≤ 1 }
-    requires dy { dy ≤ 40 }
-    requires depth { bit_depth ≤ T.BITS }
-    ensures { row.new ≡ paint_row width (λ j _. T.pixel (at bit_depth (entries left.now.numbers) left.now.upsampling ((j + 1) * dy + 64) i)) row.old }
-{
-    for j in 0..width {
-        let n = (j + 1) * dy + 64;
-        row[j] = left.interpolated(n, i, bit_depth);
-    }
-}
-
 /// The samples of a rectangle, by an angle below 90 of derivative `dx`; past the last of its `sides` places the side
 /// above repeats.
 #[tactic(auto, using(av1_frame::proofs::Paint::rectangle_painting))]
@@ -130,30 +106,5 @@ pub(crate) fn rows_below_90<T: Pixel>(
         let n = (i + 1) * dx + 64;
         let (_, row) = samples.split_at_mut((area.y + i) * stride + area.x);
         row_below_90(row, above, sides, n, area.width, bit_depth);
-    }
-}
-
-/// The samples of a rectangle, by an angle past 180 of derivative `dy`.
-#[tactic(auto, using(av1_frame::proofs::Paint::rectangle_painting))]
-pub(crate) fn rows_past_180<T: Pixel>(
-    samples: &mut [T],
-    stride: usize,
-    area: StoredArea,
-    left: &PreparedSide,
-    dy: usize,
-    bit_depth: usize,
-)
-    requires rows { AreRows stride area (length samples.old) }
-    requires width { area.width ≤ 64 }
-    requires height { area.height ≤ 64 }
-    requires upsampling { left.now.upsampling ≤ 1 }
-    requires dy { dy ≤ 40 }
-    requires depth { bit_depth ≤ T.BITS }
-    ensures { samples.new ≡ paint stride area (λ i j _. T.pixel (at bit_depth (entries left.now.numbers) left.now.upsampling ((j + 1) * dy + 64) i))
-        samples.old }
-{
-    for i in 0..area.height {
-        let (_, row) = samples.split_at_mut((area.y + i) * stride + area.x);
-        row_past_180(row, left, dy, i, area.width, bit_depth);
     }
 }

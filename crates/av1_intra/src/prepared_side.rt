@@ -185,22 +185,4 @@ impl PreparedSide {
         let far = u32::from(self.numbers[e + 1]);
         clip(((near * (32 - z) + far * z + 16) / 32) as i32, bit_depth)
     }
-
-    /// The sample at `n / 64` of a place past the corner, `k` places further.
-    #[tactic(auto, unfolding(crate::specs::Directional::at))]
-    pub(crate) fn interpolated<T: Pixel>(&self, n: usize, k: usize, bit_depth: usize) -> T
-        requires upsampling { self.now.upsampling ≤ 1 }
-        requires n { n < 2 ^ 20 }
-        requires k { k < 2 ^ 20 }
-        requires inside { n / 2 ^ (6 - self.now.upsampling) + k * 2 ^ self.now.upsampling + 1 ≤ 256 }
-        requires depth { bit_depth ≤ T.BITS }
-        ensures { result ≡ T.pixel (at bit_depth (entries self.now.numbers) self.now.upsampling n k) }
-    {
-        let u = self.upsampling;
-        self.blended(
-            (n >> (6 - u)) + (k << u),
-            ((n << u) / 2 % 32) as u32,
-            bit_depth,
-        )
-    }
 }

@@ -1,6 +1,7 @@
 //! Which plans are valid.
 
-ghost use Rattle.std.specs.Prelude.{◌≡◌, ◌+◌, ◌<◌, ◌≤◌, OnOk, IfErr, IfSome, true, Some, None, slice_get, ◌&&◌, not, pos, neg_ℤ, int_lt, ◌≤ℤ◌};
+ghost use Rattle.std.specs.Prelude.{◌≡◌, ◌+◌, ◌^◌, ◌<◌, ◌≤◌, OnOk, IfErr, IfSome, true, Some, None, slice_get, ◌&&◌, not, pos, neg_ℤ, int_lt, nat_lt, ◌≤ℤ◌};
+ghost use Rattle.av1_blocks.specs.Transforms.{coded_area};
 ghost use Rattle.av1_plan.specs.Values.{leaf_list, leaves_value, plan_value, triple_list};
 ghost use Rattle.av1_plan.specs.Geometry.{has_block};
 ghost use Rattle.av1_plan.specs.Plan.{leaf_value};
@@ -17,7 +18,6 @@ ghost use Rattle.av1_plan.specs.Validity.{
   has_vectors,
   has_reference,
   has_references,
-  fits_signed,
   is_coefficient,
   is_of_block,
   is_before,
@@ -193,12 +193,34 @@ fn is_within(value: i32, limit: i32) -> bool
     -limit <= value && value < limit
 }
 
-/// Whether a number fits `depth + 8` signed bits.
-fn fits_depth(depth: u8, value: i32) -> bool
+/// What the places and the numbers of an area's coefficients stay below.
+#[derive(Clone, Copy)]
+struct Bounds {
+    /// How many coded coefficients a transform block has.
+    places: usize,
+    /// What numbers lie below; the least one is its negative.
+    limit: i32,
+}
+
+/// The bounds of the coefficients of an area, at this depth.
+fn bounds_of(area: &PlaneArea, depth: u8) -> Bounds
     requires { depth ≤ 12 }
-    ensures { result ≡ fits_signed (depth + 8) value }
+    ensures places { result.places ≡ coded_area area.now.tx_size }
+    ensures limit { result.limit ≡ pos (2 ^ (depth + 7)) }
 {
-    is_within(value, 1 << (depth + 7))
+    Bounds {
+        places: area.tx_size.coded_area(),
+        limit: 1 << (depth + 7),
+    }
+}
+
+/// Whether a triple's place and number lie within the bounds.
+fn is_bounded(bounds: Bounds, triple: &Triple) -> bool
+    requires { pos 0 ≤ℤ bounds.limit }
+    ensures { result ≡ (nat_lt triple.now.place bounds.places
+        && (not (int_lt triple.now.value (neg_ℤ bounds.limit)) && int_lt triple.now.value bounds.limit)) }
+{
+    usize::from(triple.place) < bounds.places && is_within(triple.value, bounds.limit)
 }
 
 /// Whether a triple is of the block of the last one.
@@ -232,25 +254,6 @@ fn has_block(
         .is_some()
 }
 
-/// Whether a triple names a block of the area that begins in the coded plane `p`, a place of it and a number in
-/// range. The block of the last triple, where there is one, is such a block.
-#[tactic(auto, unfolding(crate::specs::Validity::is_coefficient))]
-fn is_coefficient(
-    header: &Header,
-    p: usize,
-    area: &PlaneArea,
-    last: Option<Triple>,
-    triple: &Triple,
-) -> bool
-    requires depth { header.now.depth ≤ 12 }
-    requires last { IfSome last (λ s. has_block header.now p area.now s.block ≡ true) }
-    ensures { result ≡ is_coefficient header.now p area.now triple.now }
-{
-    has_block(header, p, area, last, triple)
-        && usize::from(triple.place) < area.tx_size.coded_area()
-        && fits_depth(header.depth, triple.value)
-}
-
 /// Whether a triple stands before another.
 #[tactic(auto, unfolding(crate::specs::Validity::is_before))]
 fn is_before(first: &Triple, second: &Triple) -> bool
@@ -270,18 +273,41 @@ fn follows(last: Option<Triple>, triple: &Triple) -> bool
     }
 }
 
+/// Whether a triple may come behind the last one, and names a block of the area that begins in the coded plane `p`, a
+/// place of it and a number in range. The block of the last triple, where there is one, is such a block.
+fn is_next(
+    header: &Header,
+    p: usize,
+    area: &PlaneArea,
+    bounds: Bounds,
+    last: Option<Triple>,
+    triple: &Triple,
+) -> bool
+    requires depth { header.now.depth ≤ 12 }
+    requires places { bounds.places ≡ coded_area area.now.tx_size }
+    requires limit { bounds.limit ≡ pos (2 ^ (header.now.depth + 7)) }
+    requires last { IfSome last (λ s. has_block header.now p area.now s.block ≡ true) }
+    ensures { result ≡ (is_coefficient header.now p area.now triple.now && follows last triple.now) }
+{
+    if !follows(last, triple) {
+        return false;
+    }
+    if !is_bounded(bounds, triple) {
+        return false;
+    }
+    has_block(header, p, area, last, triple)
+}
+
 /// Whether these triples of plane `p` are coefficients of the area's blocks, and rise strictly by block and place.
 #[tactic(auto, using(crate::proofs::Faults::triples_end))]
 fn are_coefficients(header: &Header, p: usize, area: &PlaneArea, triples: &[Triple]) -> bool
     requires { header.now.depth ≤ 12 }
     ensures { result ≡ are_coefficients header.now p area.now triples.now }
 {
+    let bounds = bounds_of(area, header.depth);
     let mut last = None;
     for triple in triples {
-        if !is_coefficient(header, p, area, last, triple) {
-            return false;
-        }
-        if !follows(last, triple) {
+        if !is_next(header, p, area, bounds, last, triple) {
             return false;
         }
         last = Some(*triple);

@@ -22,6 +22,7 @@ pub mod BlockSteps
 pub mod Keeping
 pub mod NotedCells
 pub mod Lifts
+pub mod LeafBlocks
 pub mod LeafLuma
 pub mod LumaRegions
 pub mod ValidTriples

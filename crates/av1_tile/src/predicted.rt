@@ -13,6 +13,7 @@ use std::alloc::Global;
 use std::marker::Model;
 
 /// Copies the rectangle `area` of a plane to the same places of `samples`, whose rows are `width` long.
+#[inline(never)]
 #[tactic(auto, using(av1_frame::proofs::Paint::rectangle_painting))]
 fn copy_area<T: Pixel>(samples: &mut [T], width: usize, plane: &Plane<T>, area: StoredArea)
     requires rows { AreRows width area (length samples.old) }
@@ -89,6 +90,7 @@ impl<T: Pixel> PredictedPlane<T> {
     }
 
     /// Keeps what a plane holds in the rectangle `area`, as far as it is shown.
+    #[inline(always)]
     pub(crate) fn keep(&mut self, plane: &Plane<T>, area: StoredArea)
         requires { InPlane (visible_in area) plane.now }
         ensures { self.new ≡ copied T.num T.pixel plane.now area self.old }
@@ -146,6 +148,7 @@ impl<T: Pixel> PredictedPlanes<T> {
     }
 
     /// Keeps what plane `p` holds in the rectangle `area`, as far as it is shown.
+    #[inline(always)]
     pub(crate) fn keep(&mut self, p: usize, plane: &Plane<T>, area: StoredArea)
         requires { InPlane (visible_in area) plane.now }
         ensures { self.new ≡ with_rows (component p) self.old

@@ -2,8 +2,10 @@
 //!
 //! AV1 specification: compute prediction syntax, which predicts such a block by the leaf that covers each part's luma.
 
-ghost use Rattle.std.specs.Prelude.{◌≡◌, ◌/◌, ◌<◌, Some, []};
+ghost use Rattle.std.specs.Prelude.{◌≡◌, ◌/◌, ◌<◌, ◌||◌, Some, []};
+ghost use Rattle.av1_blocks.specs.Chroma.{is_low, is_narrow};
 ghost use Rattle.av1_order.specs.Neighbours.{leaf_holds};
+ghost use Rattle.av1_plan.specs.Geometry.{xdec, ydec};
 ghost use Rattle.av1_tile.specs.Shared.{moved, parts_at};
 ghost use Rattle.av1_tile.specs.Walk.{leaf_with, movers_of, parts_by, with_mover};
 
@@ -83,6 +85,15 @@ fn parts_at(earlier: &[Leaf], leaf: &Leaf, narrow: bool, low: bool) -> Option<Pa
         side,
         own,
     })
+}
+
+/// Whether a leaf's block in plane `p` is one that leaves with a side of 4 share: that side is halved there.
+#[inline(always)]
+pub fn is_shared(header: &Header, leaf: &Leaf, p: usize) -> bool
+    ensures { result ≡ (is_narrow leaf.now.size (xdec header.now p) || is_low leaf.now.size (ydec header.now p)) }
+{
+    (header.xdec(p) != 0 && leaf.size.width() == 4)
+        || (header.ydec(p) != 0 && leaf.size.height() == 4)
 }
 
 /// The parts of a leaf's block in plane `p` behind the leaves before it, where leaves from references share it.

@@ -1,17 +1,18 @@
 //! The walk: over the transform blocks of a leaf's block in a plane, and over the planes that a leaf covers.
 
-ghost use Rattle.std.specs.Prelude.{◌≡◌, ◌≢◌, ℕ, ◌+◌, ◌*◌, ◌<◌, ◌≤◌, length, slice_index_or, [], IfSome, IfNone, Some, None, true};
+ghost use Rattle.std.specs.Prelude.{◌≡◌, ◌≢◌, ℕ, ◌+◌, ◌*◌, ◌<◌, ◌≤◌, ◌||◌, length, slice_index_or, [], IfSome, IfNone, Some, None, true, false};
 ghost use Rattle.std.specs.List.{fold};
+ghost use Rattle.av1_blocks.specs.Chroma.{is_low, is_narrow};
 ghost use Rattle.av1_blocks.specs.Transforms.{tx_width};
 ghost use Rattle.av1_frame.specs.Planes.{InPlane};
 ghost use Rattle.av1_intra.specs.ChromaFromLuma.{ac_at};
 ghost use Rattle.av1_order.specs.Plans.{is_inter};
 ghost use Rattle.av1_plan.specs.Plan.{PlanValue};
 ghost use Rattle.av1_references.specs.References.{ServesPlan, leaf_area};
-ghost use Rattle.av1_plan.specs.Geometry.{blocks_across, block_count, transform_block};
+ghost use Rattle.av1_plan.specs.Geometry.{blocks_across, block_count, transform_block, xdec, ydec};
 ghost use Rattle.av1_plan.specs.ReadPlans.{IsReadFrame};
 ghost use Rattle.av1_plan.specs.declared.leaf.Triple.{Triple};
-ghost use Rattle.av1_tile.specs.PlaneBlocks.{block_told, component, is_whole};
+ghost use Rattle.av1_tile.specs.PlaneBlocks.{component, is_whole};
 ghost use Rattle.av1_tile.specs.Predicted.{WalksKeeping, keeping_in, kept_in, stored_in};
 ghost use Rattle.av1_tile.specs.Reference.{no_luma};
 ghost use Rattle.av1_tile.specs.Steps.{own_prediction, whole_steps, plane_steps, steps_at, joined};
@@ -24,7 +25,7 @@ use crate::frame::WalkedFrame;
 use crate::parts::{predict_kind, predict_parts};
 use crate::plane_block::{Nearby, PlaneBlock, Prediction};
 use crate::predicted::PredictedPlanes;
-use crate::shared::parts_in;
+use crate::shared::{is_shared, parts_in};
 use av1_blocks::{IntraParam, PredictionMode};
 use av1_frame::{FrameInvariants, Pixel, Plane, StoredArea};
 use av1_inter::InterCompoundBuffers;
@@ -228,6 +229,7 @@ fn next_place(column: usize, row: usize, across: usize) -> (usize, usize)
 
 /// The transform blocks of a leaf's block, in raster order. Triples rise by their blocks, so that those of a block
 /// follow one another.
+#[inline(never)]
 #[tactic(auto, using(crate::proofs::Loops::fold_joined_none, crate::proofs::Loops::fold_joined_more))]
 fn reconstruct_blocks<T: Pixel>(
     plane: &mut Plane<T>,
@@ -273,6 +275,7 @@ fn is_only_predicted(prediction: Prediction, triples: &[Triple]) -> bool
 
 /// Predicts a leaf's whole area in a plane, where it is predicted from references. The frame settings hold the
 /// references of a plan in which that can be done.
+#[inline(always)]
 fn predict_whole<T: Pixel>(
     plane: &mut Plane<T>,
     compound: &mut InterCompoundBuffers,
@@ -288,7 +291,6 @@ fn predict_whole<T: Pixel>(
         → plane.new ≡ fold (fast_in T.num T.pixel value block.now.plane (λ _. no_luma)) plane.old (whole_steps block.now) }
 {
     let p = block.plane;
-    let area = whole_area(block.area);
     match block.prediction {
         Prediction::Single {
             mode,
@@ -300,7 +302,7 @@ fn predict_whole<T: Pixel>(
                 reference,
                 mv,
             };
-            predict_kind(plane, compound, fi, p, kind, area);
+            predict_kind(plane, compound, fi, p, kind, whole_area(block.area));
         }
         Prediction::Compound {
             mode,
@@ -312,15 +314,18 @@ fn predict_whole<T: Pixel>(
                 references,
                 mvs,
             };
-            predict_kind(plane, compound, fi, p, kind, area);
+            predict_kind(plane, compound, fi, p, kind, whole_area(block.area));
         }
-        Prediction::Parts(parts) => predict_parts(plane, compound, fi, p, parts, area),
+        Prediction::Parts(parts) => {
+            predict_parts(plane, compound, fi, p, parts, whole_area(block.area));
+        }
         Prediction::Intra { .. } | Prediction::FromLuma { .. } => {}
     }
 }
 
 /// A leaf's block in a plane: its whole area is predicted where it is predicted from references, then its transform
 /// blocks follow.
+#[inline(always)]
 fn reconstruct_plane_block<T: Pixel>(
     plane: &mut Plane<T>,
     buffers: &mut WalkBuffers<T>,
@@ -363,27 +368,52 @@ fn is_from_references(kind: LeafKind) -> bool
     }
 }
 
-/// What the leaves before a leaf say of its block in plane `p`. One that is predicted from references has no edge, one
-/// that isn't shares no block.
-fn near_leaf<T>(frame: &WalkedFrame<'_, T>, leaf: &Leaf, p: usize) -> Nearby
+/// The block in plane `p` of a leaf from references, where the leaves before it may share it.
+#[inline(never)]
+fn shared_block<T>(frame: &WalkedFrame<'_, T>, leaf: &Leaf, p: usize) -> PlaneBlock
+    requires plane { p < 3 }
+    requires kind { is_inter leaf.now.kind ≡ true }
+    ensures { result ≡ block_in frame.now p leaf.now }
+{
+    let near = Nearby {
+        filter: None,
+        parts: parts_in(frame.header, frame.earlier, leaf, p),
+    };
+    PlaneBlock::of_leaf(frame.header, leaf, p, near)
+}
+
+/// The block in plane `p` of a leaf from references that shares it with none. It has no edge.
+#[inline(always)]
+fn moved_block<T>(frame: &WalkedFrame<'_, T>, leaf: &Leaf, p: usize) -> PlaneBlock
+    requires plane { p < 3 }
+    requires kind { is_inter leaf.now.kind ≡ true }
+    requires alone { (is_narrow leaf.now.size (xdec frame.now.header.now p) || is_low leaf.now.size (ydec frame.now.header.now p)) ≡ false }
+    ensures { result ≡ block_in frame.now p leaf.now }
+{
+    let near = Nearby {
+        filter: None,
+        parts: None,
+    };
+    PlaneBlock::of_leaf(frame.header, leaf, p, near)
+}
+
+/// The block in plane `p` of an intra leaf, which has no parts.
+#[inline(always)]
+fn intra_block<T>(frame: &WalkedFrame<'_, T>, leaf: &Leaf, p: usize) -> PlaneBlock
     requires frame { IsReadFrame frame.now.header.now }
     requires plane { p < 3 }
     requires cells { HasCells frame.now.header.now frame.now.cells.now }
     requires begins { Begins frame.now.header.now (component p) (leaf_with leaf.now [] [] []) }
-    ensures { block_told frame.now.header.now result (component p) (leaf_with leaf.now [] [] []) ≡ block_in frame.now p leaf.now }
+    requires kind { is_inter leaf.now.kind ≡ false }
+    ensures { result ≡ block_in frame.now p leaf.now }
 {
     let header = frame.header;
-    if is_from_references(leaf.kind) {
-        return Nearby {
-            filter: None,
-            parts: parts_in(header, frame.earlier, leaf, p),
-        };
-    }
     let area = leaf.plane_area(header, p);
-    Nearby {
+    let near = Nearby {
         filter: frame.cells.filter_parameters(header, p, area),
         parts: None,
-    }
+    };
+    PlaneBlock::of_leaf(header, leaf, p, near)
 }
 
 /// The block of a leaf in plane `p`.
@@ -413,8 +443,16 @@ pub fn reconstruct_leaf_in<T: Pixel>(
         fold (keeping_in T.num T.pixel (with_header h value) p (λ _. ac_at (tx_width block.area.tx_size) buffers.old.luma.items))
         (plane.old, buffers.old.kept) (plane_steps h block triples.now) }
 {
-    let header = frame.header;
-    let near = near_leaf(frame, leaf, p);
-    let block = PlaneBlock::of_leaf(header, leaf, p, near);
+    if !is_from_references(leaf.kind) {
+        let block = intra_block(frame, leaf, p);
+        reconstruct_plane_block(plane, buffers, frame, &block, triples);
+        return;
+    }
+    if is_shared(frame.header, leaf, p) {
+        let block = shared_block(frame, leaf, p);
+        reconstruct_plane_block(plane, buffers, frame, &block, triples);
+        return;
+    }
+    let block = moved_block(frame, leaf, p);
     reconstruct_plane_block(plane, buffers, frame, &block, triples);
 }

@@ -16,7 +16,7 @@ returns g c = λ above.
     let E : entries c.prepare_left.new.ready.numbers ≡ P (min b.height b.visible_rows) = c.prepare_left.ensures.numbers ∙ ap P c.min.ensures in
     let F = λ (B : Side) (u dy i j : ℕ). at b.bit_depth B u ((j + 1) * dy + 64) i in
     let G = λ (f : ℕ → ℕ → ℕ). paint c.args.stride c.args.area (λ i j _. g.T.Pixel.pixel (f i j)) c.args.samples.now in
-    c.rows_past_180.ensures
+    c.columns_past_180.ensures
     ∙ ap (λ (B : Side). G (F B c.prepare_left.new.ready.upsampling c.derivative_past_180-dy.result)) E
     ∙ ap (λ (u : ℕ). G (F (P (min b.height b.visible_rows)) u c.derivative_past_180-dy.result)) c.prepare_left.ensures.upsampling
     ∙ ap (λ (dy : ℕ). G (F (P (min b.height b.visible_rows)) (upsampling b (distance b.p_angle 180)) dy)) c.derivative_past_180-dy.ensures.value

@@ -36,7 +36,7 @@ pub predict_kind-requires-clause-references : goal.predict_kind-requires-clause-
 predict_kind-requires-clause-references g c =
     let block = c.args.block.now in
     let own = c.requires.references in
-    (own.0, (own.1.0, as_single own.0.header block.plane block.area block.prediction own.1.1 _ (ap visible_in c.whole_area-area.ensures) _ _ _ c.in-Single.is))
+    (own.0, (own.1.0, as_single own.0.header block.plane block.area block.prediction own.1.1 _ (ap visible_in c.whole_area.ensures) _ _ _ c.in-Single.is))
 
 pub predict_kind-requires-in-Compound-clause-references : goal.predict_kind-requires-in-Compound-clause-references
 predict_kind-requires-in-Compound-clause-references g c =
@@ -45,7 +45,7 @@ predict_kind-requires-in-Compound-clause-references g c =
       own.0,
       (
         own.1.0,
-        as_compound own.0.header block.plane block.area block.prediction own.1.1 _ (ap visible_in c.whole_area-area.ensures) _ _ _ c.in-Compound.is,
+        as_compound own.0.header block.plane block.area block.prediction own.1.1 _ (ap visible_in c.whole_area-in-Compound.ensures) _ _ _ c.in-Compound.is,
       ),
     )
 
@@ -53,7 +53,7 @@ pub predict_parts-requires-clause-references : goal.predict_parts-requires-claus
 predict_parts-requires-clause-references g c =
     let block = c.args.block.now in
     let own = c.requires.references in
-    (own.0, (own.1.0, as_parts own.0.header block.plane block.area block.prediction own.1.1 _ (ap visible_in c.whole_area-area.ensures) _ c.in-Parts.is))
+    (own.0, (own.1.0, as_parts own.0.header block.plane block.area block.prediction own.1.1 _ (ap visible_in c.whole_area-in-Parts.ensures) _ c.in-Parts.is))
 
 -- what was painted in the area that is the block's
 moved_to : {T : Type 0} (plane after : Plane T) (area : PlaneArea) (a : VisibleArea) (f : VisibleArea → ℕ → ℕ → T) → a ≡ leaf_area area →
@@ -66,7 +66,7 @@ returns-in-Single g c = λ value holds fits.
     let block = c.args.block.now in
     let w = c.in-Single in
     let kind = kinds.Single w.mode w.reference w.mv in
-    let same = ap visible_in c.whole_area-area.ensures in
+    let same = ap visible_in c.whole_area.ensures in
     walked_whole g.T.Pixel.num g.T.Pixel.pixel value (λ _. no_luma) block c.args.plane.now c.predict_kind.new.plane
     (predictions.Single w.mode w.reference w.mv) w.is refl
     (moved_to c.args.plane.now c.predict_kind.new.plane block.area _ (λ b i j. g.T.Pixel.pixel (kind_motion value block.plane kind b i j)) same
@@ -78,7 +78,7 @@ returns-in-Compound g c = λ value holds fits.
     let block = c.args.block.now in
     let w = c.in-Compound in
     let kind = kinds.Compound w.mode w.references w.mvs in
-    let same = ap visible_in c.whole_area-area.ensures in
+    let same = ap visible_in c.whole_area-in-Compound.ensures in
     let done = c.predict_kind-in-Compound in
     walked_whole g.T.Pixel.num g.T.Pixel.pixel value (λ _. no_luma) block c.args.plane.now done.new.plane
     (predictions.Compound w.mode w.references w.mvs) w.is refl
@@ -90,7 +90,7 @@ unfolding by_prediction
 returns-in-Parts g c = λ value holds fits.
     let block = c.args.block.now in
     let w = c.in-Parts in
-    let same = ap visible_in c.whole_area-area.ensures in
+    let same = ap visible_in c.whole_area-in-Parts.ensures in
     walked_whole g.T.Pixel.num g.T.Pixel.pixel value (λ _. no_luma) block c.args.plane.now c.predict_parts.new.plane (predictions.Parts w.parts) w.is refl
     (moved_to c.args.plane.now c.predict_parts.new.plane block.area _ (λ b i j. g.T.Pixel.pixel (parts_motion value block.plane w.parts b i j)) same
     (c.predict_parts.ensures value holds (as_parts value.header block.plane block.area block.prediction fits _ same _ w.is)))

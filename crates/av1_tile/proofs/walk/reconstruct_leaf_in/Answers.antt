@@ -1,74 +1,155 @@
-use Rattle.std.proofs.Common.{ℕ, [], arith, sym, subst, ap, ◌∙◌}
-use Rattle.std.specs.List.{fold}
-use Rattle.av1_blocks.specs.Transforms.{tx_width}
-use Rattle.av1_frame.specs.declared.plane.Plane.{Plane}
-use Rattle.av1_intra.specs.ChromaFromLuma.{ac_at}
-use Rattle.av1_tile.specs.declared.plane_block.PlaneBlock.{PlaneBlock}
-use Rattle.av1_tile.specs.PlaneBlocks.{component}
-use Rattle.av1_tile.specs.Predicted.{Keeping, keeping_in}
-use Rattle.av1_tile.specs.Steps.{plane_steps}
-use Rattle.av1_tile.specs.Walk.{BlockFits, KeepsPlane, Stores, block_by, edges_in, fast_in, known_in, leaf_with, with_header}
-use Rattle.av1_tile.proofs.Lifts.{number_component}
+use Rattle.std.proofs.Common.{[], arith}
+use Rattle.av1_tile.specs.Walk.{known_in, leaf_with, with_header}
+use Rattle.av1_tile.proofs.LeafBlocks.{counted_there, fits_there, in_plane, kept_there, predicted_there, stores_there, walked_there}
 use Rattle.av1_tile.proofs.walk.reconstruct_leaf_in.Goals as goal
 
 pub reconstruct_plane_block-requires-clause-plane : goal.reconstruct_plane_block-requires-clause-plane
 reconstruct_plane_block-requires-clause-plane g c =
-    omega (arith, ap (λ (b : PlaneBlock). b.plane) c.of_leaf-block.ensures, number_component c.args.p c.requires.plane, c.requires.plane)
+    omega (
+      arith,
+      in_plane g.T.Pixel.num g.T.Pixel.pixel c.args.frame.now.header.now (known_in c.args.frame.now) c.args.p (leaf_with c.args.leaf.now [] [] [])
+          c.requires.plane c.args.triples.now
+          c.intra_block-block.result c.intra_block-block.ensures,
+      c.requires.plane,
+    )
 
 pub reconstruct_plane_block-requires-clause-stores : goal.reconstruct_plane_block-requires-clause-stores
 reconstruct_plane_block-requires-clause-stores g c =
-    let a = c.args in
-    let e = ap (λ (b : PlaneBlock). b.plane) c.of_leaf-block.ensures ∙ number_component a.p c.requires.plane in
-    subst (λ (n : ℕ). Stores g.T.Pixel.num a.frame.now.header.now n a.plane.now) (sym e) c.requires.stores
+    stores_there g.T.Pixel.num g.T.Pixel.pixel c.args.frame.now.header.now (known_in c.args.frame.now) c.args.p (leaf_with c.args.leaf.now [] [] [])
+    c.requires.plane c.args.triples.now
+    c.intra_block-block.result c.intra_block-block.ensures c.args.plane.now c.requires.stores
 
 pub reconstruct_plane_block-requires-clause-fits : goal.reconstruct_plane_block-requires-clause-fits
 reconstruct_plane_block-requires-clause-fits g c =
-    let a = c.args in
-    let h = a.frame.now.header.now in
-    let is = c.of_leaf-block.ensures ∙ c.near_leaf-near.ensures in
-    subst (λ (b : PlaneBlock). BlockFits a.plane.now.plane_cfg h b a.triples.now) (sym is) c.requires.fits
+    fits_there g.T.Pixel.num g.T.Pixel.pixel c.args.frame.now.header.now (known_in c.args.frame.now) c.args.p (leaf_with c.args.leaf.now [] [] [])
+    c.requires.plane c.args.triples.now
+    c.intra_block-block.result c.intra_block-block.ensures c.args.plane.now.plane_cfg c.requires.fits
+
+pub returns-then-not-is_from_references-clause-counted : goal.returns-then-not-is_from_references-clause-counted
+returns-then-not-is_from_references-clause-counted g c =
+    counted_there g.T.Pixel.num g.T.Pixel.pixel c.args.frame.now.header.now (known_in c.args.frame.now) c.args.p (leaf_with c.args.leaf.now [] [] [])
+    c.requires.plane c.args.triples.now
+    c.intra_block-block.result c.intra_block-block.ensures c.args.buffers.now.edges.prepared _
+    c.reconstruct_plane_block.ensures.counted
+
+pub returns-then-not-is_from_references-clause-walked : goal.returns-then-not-is_from_references-clause-walked
+returns-then-not-is_from_references-clause-walked g c = λ value serves.
+    walked_there g.T.Pixel.num g.T.Pixel.pixel c.args.frame.now.header.now (known_in c.args.frame.now) c.args.p (leaf_with c.args.leaf.now [] [] [])
+    c.requires.plane c.args.triples.now
+    c.intra_block-block.result c.intra_block-block.ensures c.args.buffers.now.luma.items
+    (with_header c.args.frame.now.header.now value) c.args.plane.now _ (c.reconstruct_plane_block.ensures.walked value serves)
+
+pub returns-then-not-is_from_references-clause-kept : goal.returns-then-not-is_from_references-clause-kept
+returns-then-not-is_from_references-clause-kept g c =
+    kept_there g.T.Pixel.num g.T.Pixel.pixel c.args.frame.now.header.now (known_in c.args.frame.now) c.args.p (leaf_with c.args.leaf.now [] [] [])
+    c.requires.plane c.args.triples.now
+    c.intra_block-block.result c.intra_block-block.ensures c.args.plane.now c.reconstruct_plane_block.new.plane c.reconstruct_plane_block.ensures.kept
+
+pub returns-then-not-is_from_references-clause-predictions : goal.returns-then-not-is_from_references-clause-predictions
+returns-then-not-is_from_references-clause-predictions g c = λ value serves.
+    predicted_there g.T.Pixel.num g.T.Pixel.pixel c.args.frame.now.header.now (known_in c.args.frame.now) c.args.p (leaf_with c.args.leaf.now [] [] [])
+    c.requires.plane c.args.triples.now
+    c.intra_block-block.result c.intra_block-block.ensures c.args.buffers.now.luma.items
+    (with_header c.args.frame.now.header.now value) (c.args.plane.now, c.args.buffers.now.kept) _
+    (c.reconstruct_plane_block.ensures.predictions value serves)
+
+pub reconstruct_plane_block-requires-then-is_shared-clause-plane : goal.reconstruct_plane_block-requires-then-is_shared-clause-plane
+reconstruct_plane_block-requires-then-is_shared-clause-plane g c =
+    omega (
+      arith,
+      in_plane g.T.Pixel.num g.T.Pixel.pixel c.args.frame.now.header.now (known_in c.args.frame.now) c.args.p (leaf_with c.args.leaf.now [] [] [])
+          c.requires.plane c.args.triples.now
+          c.shared_block-block.result c.shared_block-block.ensures,
+      c.requires.plane,
+    )
+
+pub reconstruct_plane_block-requires-then-is_shared-clause-stores : goal.reconstruct_plane_block-requires-then-is_shared-clause-stores
+reconstruct_plane_block-requires-then-is_shared-clause-stores g c =
+    stores_there g.T.Pixel.num g.T.Pixel.pixel c.args.frame.now.header.now (known_in c.args.frame.now) c.args.p (leaf_with c.args.leaf.now [] [] [])
+    c.requires.plane c.args.triples.now
+    c.shared_block-block.result c.shared_block-block.ensures c.args.plane.now c.requires.stores
+
+pub reconstruct_plane_block-requires-then-is_shared-clause-fits : goal.reconstruct_plane_block-requires-then-is_shared-clause-fits
+reconstruct_plane_block-requires-then-is_shared-clause-fits g c =
+    fits_there g.T.Pixel.num g.T.Pixel.pixel c.args.frame.now.header.now (known_in c.args.frame.now) c.args.p (leaf_with c.args.leaf.now [] [] [])
+    c.requires.plane c.args.triples.now
+    c.shared_block-block.result c.shared_block-block.ensures c.args.plane.now.plane_cfg c.requires.fits
+
+pub returns-then-is_shared-clause-counted : goal.returns-then-is_shared-clause-counted
+returns-then-is_shared-clause-counted g c =
+    counted_there g.T.Pixel.num g.T.Pixel.pixel c.args.frame.now.header.now (known_in c.args.frame.now) c.args.p (leaf_with c.args.leaf.now [] [] [])
+    c.requires.plane c.args.triples.now
+    c.shared_block-block.result c.shared_block-block.ensures c.args.buffers.now.edges.prepared _
+    c.reconstruct_plane_block-then-is_shared.ensures.counted
+
+pub returns-then-is_shared-clause-walked : goal.returns-then-is_shared-clause-walked
+returns-then-is_shared-clause-walked g c = λ value serves.
+    walked_there g.T.Pixel.num g.T.Pixel.pixel c.args.frame.now.header.now (known_in c.args.frame.now) c.args.p (leaf_with c.args.leaf.now [] [] [])
+    c.requires.plane c.args.triples.now
+    c.shared_block-block.result c.shared_block-block.ensures c.args.buffers.now.luma.items
+    (with_header c.args.frame.now.header.now value) c.args.plane.now _ (c.reconstruct_plane_block-then-is_shared.ensures.walked value serves)
+
+pub returns-then-is_shared-clause-kept : goal.returns-then-is_shared-clause-kept
+returns-then-is_shared-clause-kept g c =
+    kept_there g.T.Pixel.num g.T.Pixel.pixel c.args.frame.now.header.now (known_in c.args.frame.now) c.args.p (leaf_with c.args.leaf.now [] [] [])
+    c.requires.plane c.args.triples.now
+    c.shared_block-block.result c.shared_block-block.ensures c.args.plane.now c.reconstruct_plane_block-then-is_shared.new.plane
+    c.reconstruct_plane_block-then-is_shared.ensures.kept
+
+pub returns-then-is_shared-clause-predictions : goal.returns-then-is_shared-clause-predictions
+returns-then-is_shared-clause-predictions g c = λ value serves.
+    predicted_there g.T.Pixel.num g.T.Pixel.pixel c.args.frame.now.header.now (known_in c.args.frame.now) c.args.p (leaf_with c.args.leaf.now [] [] [])
+    c.requires.plane c.args.triples.now
+    c.shared_block-block.result c.shared_block-block.ensures c.args.buffers.now.luma.items
+    (with_header c.args.frame.now.header.now value) (c.args.plane.now, c.args.buffers.now.kept) _
+    (c.reconstruct_plane_block-then-is_shared.ensures.predictions value serves)
+
+pub reconstruct_plane_block-requires-2-clause-plane : goal.reconstruct_plane_block-requires-2-clause-plane
+reconstruct_plane_block-requires-2-clause-plane g c =
+    omega (
+      arith,
+      in_plane g.T.Pixel.num g.T.Pixel.pixel c.args.frame.now.header.now (known_in c.args.frame.now) c.args.p (leaf_with c.args.leaf.now [] [] [])
+          c.requires.plane c.args.triples.now
+          c.moved_block-block.result c.moved_block-block.ensures,
+      c.requires.plane,
+    )
+
+pub reconstruct_plane_block-requires-2-clause-stores : goal.reconstruct_plane_block-requires-2-clause-stores
+reconstruct_plane_block-requires-2-clause-stores g c =
+    stores_there g.T.Pixel.num g.T.Pixel.pixel c.args.frame.now.header.now (known_in c.args.frame.now) c.args.p (leaf_with c.args.leaf.now [] [] [])
+    c.requires.plane c.args.triples.now
+    c.moved_block-block.result c.moved_block-block.ensures c.args.plane.now c.requires.stores
+
+pub reconstruct_plane_block-requires-2-clause-fits : goal.reconstruct_plane_block-requires-2-clause-fits
+reconstruct_plane_block-requires-2-clause-fits g c =
+    fits_there g.T.Pixel.num g.T.Pixel.pixel c.args.frame.now.header.now (known_in c.args.frame.now) c.args.p (leaf_with c.args.leaf.now [] [] [])
+    c.requires.plane c.args.triples.now
+    c.moved_block-block.result c.moved_block-block.ensures c.args.plane.now.plane_cfg c.requires.fits
 
 pub returns-clause-counted : goal.returns-clause-counted
 returns-clause-counted g c =
-    let a = c.args in
-    let h = a.frame.now.header.now in
-    let is = c.of_leaf-block.ensures ∙ c.near_leaf-near.ensures in
-    c.reconstruct_plane_block.ensures.counted ∙ ap (λ (b : PlaneBlock). fold edges_in a.buffers.now.edges.prepared (plane_steps h b a.triples.now)) is
+    counted_there g.T.Pixel.num g.T.Pixel.pixel c.args.frame.now.header.now (known_in c.args.frame.now) c.args.p (leaf_with c.args.leaf.now [] [] [])
+    c.requires.plane c.args.triples.now
+    c.moved_block-block.result c.moved_block-block.ensures c.args.buffers.now.edges.prepared _
+    c.reconstruct_plane_block-2.ensures.counted
 
 pub returns-clause-walked : goal.returns-clause-walked
 returns-clause-walked g c = λ value serves.
-    let a = c.args in
-    let h = a.frame.now.header.now in
-    let plan = with_header h value in
-    let num = g.T.Pixel.num in
-    let pixel = g.T.Pixel.pixel in
-    let block = block_by h (known_in a.frame.now) (component a.p) (leaf_with a.leaf.now [] [] []) in
-    let is = c.of_leaf-block.ensures ∙ c.near_leaf-near.ensures in
-    c.reconstruct_plane_block.ensures.walked value serves
-    ∙ ap (λ (b : PlaneBlock). fold (fast_in num pixel plan b.plane (λ _. ac_at (tx_width b.area.tx_size) a.buffers.now.luma.items)) a.plane.now
-    (plane_steps h b a.triples.now)) is
-    ∙ ap (λ (n : ℕ). fold (fast_in num pixel plan n (λ _. ac_at (tx_width block.area.tx_size) a.buffers.now.luma.items)) a.plane.now
-    (plane_steps h block a.triples.now)) (number_component a.p c.requires.plane)
+    walked_there g.T.Pixel.num g.T.Pixel.pixel c.args.frame.now.header.now (known_in c.args.frame.now) c.args.p (leaf_with c.args.leaf.now [] [] [])
+    c.requires.plane c.args.triples.now
+    c.moved_block-block.result c.moved_block-block.ensures c.args.buffers.now.luma.items
+    (with_header c.args.frame.now.header.now value) c.args.plane.now _ (c.reconstruct_plane_block-2.ensures.walked value serves)
 
 pub returns-clause-kept : goal.returns-clause-kept
 returns-clause-kept g c =
-    let a = c.args in
-    let walk = c.reconstruct_plane_block in
-    let e = ap (λ (b : PlaneBlock). b.plane) c.of_leaf-block.ensures ∙ number_component a.p c.requires.plane in
-    subst (λ (n : ℕ). KeepsPlane g.T.Pixel.num a.frame.now.header.now n a.plane.now walk.new.plane) e walk.ensures.kept
+    kept_there g.T.Pixel.num g.T.Pixel.pixel c.args.frame.now.header.now (known_in c.args.frame.now) c.args.p (leaf_with c.args.leaf.now [] [] [])
+    c.requires.plane c.args.triples.now
+    c.moved_block-block.result c.moved_block-block.ensures c.args.plane.now c.reconstruct_plane_block-2.new.plane c.reconstruct_plane_block-2.ensures.kept
 
 pub returns-clause-predictions : goal.returns-clause-predictions
 returns-clause-predictions g c = λ value serves.
-    let a = c.args in
-    let h = a.frame.now.header.now in
-    let plan = with_header h value in
-    let num = g.T.Pixel.num in
-    let pixel = g.T.Pixel.pixel in
-    let block = block_by h (known_in a.frame.now) (component a.p) (leaf_with a.leaf.now [] [] []) in
-    let is = c.of_leaf-block.ensures ∙ c.near_leaf-near.ensures in
-    let start : Keeping (Plane _) _ = (a.plane.now, a.buffers.now.kept) in
-    c.reconstruct_plane_block.ensures.predictions value serves
-    ∙ ap (λ (b : PlaneBlock). fold (keeping_in num pixel plan b.plane (λ _. ac_at (tx_width b.area.tx_size) a.buffers.now.luma.items)) start
-    (plane_steps h b a.triples.now)) is
-    ∙ ap (λ (n : ℕ). fold (keeping_in num pixel plan n (λ _. ac_at (tx_width block.area.tx_size) a.buffers.now.luma.items)) start
-    (plane_steps h block a.triples.now)) (number_component a.p c.requires.plane)
+    predicted_there g.T.Pixel.num g.T.Pixel.pixel c.args.frame.now.header.now (known_in c.args.frame.now) c.args.p (leaf_with c.args.leaf.now [] [] [])
+    c.requires.plane c.args.triples.now
+    c.moved_block-block.result c.moved_block-block.ensures c.args.buffers.now.luma.items
+    (with_header c.args.frame.now.header.now value) (c.args.plane.now, c.args.buffers.now.kept) _
+    (c.reconstruct_plane_block-2.ensures.predictions value serves)
