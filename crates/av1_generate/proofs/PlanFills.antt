@@ -8,7 +8,7 @@ use Rattle.av1_plan.specs.Plan.{PlanValue}
 use Rattle.av1_plan.specs.Validity.{first_fault}
 use Rattle.av1_plan.proofs.Spelled.{one_text}
 use Rattle.av1_generate.specs.Draft.{writes, ◌>>◌, each}
-use Rattle.av1_generate.specs.Generator.{shown_side, frame, slots, letters, header, reference, superblocks, plan, plan_bytes_in}
+use Rattle.av1_generate.specs.Generator.{shown_side, frame, slots, letters, header, reference, superblocks, plan, plan_bytes_in, plan_bytes}
 use Rattle.av1_generate.specs.Numbers.{drawn}
 use Rattle.av1_generate.specs.Text.{ArePlan, AreFaultless}
 use Rattle.av1_generate.proofs.FieldKinds.{byte_is}
@@ -84,16 +84,33 @@ filled : (version number : ℕ) → IsVersion version →
 unfolding plan_bytes_in
 filled version number is = (plan_fills version number is).fills suc (drawn number) ([], 0)
 
-pub plan_is : (version number : ℕ) → IsVersion version → ArePlan (plan_bytes_in version number)
-plan_is version number is =
+pub plan_in : (version number : ℕ) → IsVersion version → ArePlan (plan_bytes_in version number)
+plan_in version number is =
     let r = filled version number is in
     (r.value, (r.values, r.spells, r.bytes))
 
-pub faultless_is : (version number : ℕ) → IsVersion version → AreFaultless (plan_bytes_in version number)
-faultless_is version number is p t =
+pub faultless_in : (version number : ℕ) → IsVersion version → AreFaultless (plan_bytes_in version number)
+faultless_in version number is p t =
     let r = filled version number is in
     subst (λ (q : PlanValue). first_fault q ≡ None) (one_text grammar.plan (plan_bytes_in version number) r.value p (r.values, r.spells, r.bytes) t)
     r.holds
 
-pub few_bytes : (version number : ℕ) → IsVersion version → length (plan_bytes_in version number) ≤ 2 ^ 26
-few_bytes version number is = let r = filled version number is in rw r.bytes (omega (arith, r.few))
+pub few_bytes_in : (version number : ℕ) → IsVersion version → length (plan_bytes_in version number) ≤ 2 ^ 26
+few_bytes_in version number is = let r = filled version number is in rw r.bytes (omega (arith, r.few))
+
+-- ---- in the first version
+
+first : IsVersion 1
+first = (lit≤ tt, lit≤ tt)
+
+pub plan_is : (number : ℕ) → ArePlan (plan_bytes number)
+unfolding plan_bytes
+plan_is number = plan_in 1 number first
+
+pub faultless_is : (number : ℕ) → AreFaultless (plan_bytes number)
+unfolding plan_bytes
+faultless_is number = faultless_in 1 number first
+
+pub few_bytes : (number : ℕ) → length (plan_bytes number) ≤ 2 ^ 26
+unfolding plan_bytes
+few_bytes number = few_bytes_in 1 number first
