@@ -1,4 +1,4 @@
--- Sums of eight products that are formed two at a time, from eight places on.
+-- Sums of eight products that are formed two at a time, from eight or sixteen places on.
 use Rattle.std.proofs.Common.{ℕ, suc, ◌+◌, ◌*◌, ◌^◌, ◌<◌, ◌≤◌, ◌≡◌, ◌∙◌, ap, refl, arith, subst, sym, ℤ, pos, ◌+ℤ◌, ◌*ℤ◌, List, replicate, slice_index, w32}
 use Rattle.std.proofs.Common.{to_z, of_z, FitsSigned}
 use Rattle.std.proofs.lemmas.Int.{ints, to_z-of_z}
@@ -15,21 +15,21 @@ pair_within v w x y z bv bw bx by e =
     let q = small_product w y bw by in
     record { low = omega (arith, ints, e, p.low, q.low); high = omega (arith, ints, e, p.high, q.high) }
 
-none_at : (c : ℕ) → c < 8 → entry (replicate 8 (pos 0)) c ≡ pos 0
-none_at c h = get_or-replicate 8 c (pos 0) (pos 0) h
+none_at : (lanes c : ℕ) → c < lanes → entry (replicate lanes (pos 0)) c ≡ pos 0
+none_at lanes c h = get_or-replicate lanes c (pos 0) (pos 0) h
 
 -- the sums of the first pairs of products, from the first weight that isn't 0 on: those of the first n are known, and all are small
-pub record ArePairs (n zeros pairs : ℕ) (halves : List ℤ) (value : ℕ → ℕ → ℤ) (sums : List ℤ) : Type 0 where
-  pub known : (c : ℕ) → c < 8 → c < n → entry sums c ≡ sum_to (zeros + 2 * pairs) (λ t. entry halves t *ℤ value c t)
-  pub within : (c : ℕ) → c < 8 → IsWithin (pairs * 2 ^ 23) (entry sums c)
+pub record ArePairs (lanes n zeros pairs : ℕ) (halves : List ℤ) (value : ℕ → ℕ → ℤ) (sums : List ℤ) : Type 0 where
+  pub known : (c : ℕ) → c < lanes → c < n → entry sums c ≡ sum_to (zeros + 2 * pairs) (λ t. entry halves t *ℤ value c t)
+  pub within : (c : ℕ) → c < lanes → IsWithin (pairs * 2 ^ 23) (entry sums c)
 
-pub no_pairs : (n zeros : ℕ) (halves : List ℤ) (value : ℕ → ℕ → ℤ) → zeros ≤ 2 → AreZero zeros halves →
-    ArePairs n zeros 0 halves value (replicate 8 (pos 0))
-no_pairs n zeros halves value few none = record {
+pub no_pairs : (lanes n zeros : ℕ) (halves : List ℤ) (value : ℕ → ℕ → ℤ) → zeros ≤ 2 → AreZero zeros halves →
+    ArePairs lanes n zeros 0 halves value (replicate lanes (pos 0))
+no_pairs lanes n zeros halves value few none = record {
   known = λ c h b.
       let e : zeros ≡ zeros + 2 * 0 = omega arith in
-      none_at c h ∙ sum_begins zeros halves (value c) few none ∙ ap (λ (i : ℕ). sum_to i (λ t. entry halves t *ℤ value c t)) e;
-  within = λ c h. let e = none_at c h in record { low = omega (arith, ints, e); high = omega (arith, ints, e) };
+      none_at lanes c h ∙ sum_begins zeros halves (value c) few none ∙ ap (λ (i : ℕ). sum_to i (λ t. entry halves t *ℤ value c t)) e;
+  within = λ c h. let e = none_at lanes c h in record { low = omega (arith, ints, e); high = omega (arith, ints, e) };
 }
 
 pub pair_next : (term : ℕ → ℤ) (k m : ℕ) (s p z : ℤ) → s ≡ sum_to k term → p ≡ term k +ℤ term (k + 1) → m ≡ k + 2 → z ≡ s +ℤ p → z ≡ sum_to m term

@@ -54,53 +54,52 @@ sum_word_is w v x y bw bv bx by =
     ∙ ap (λ z. int_wrap w32 (w *ℤ x +ℤ z)) (product_word v y bv by)
     ∙ int_wrap_fits w32 _ (fits_of _ (omega (arith, ints, p.low, q.low)) (omega (arith, ints, p.high, q.high)))
 
--- a word that was read twice
-abbrev reread : ℕ → ℤ
-reread n = to_z w16 (of_z w16 (to_z w16 n))
-
-reread_is : (n : ℕ) (x : ℤ) → n ≡ of_z w16 x → Between 0 32767 x → reread n ≡ x
-reread_is n x e b = let r = short_read 32767 x (omega arith) b in ap reread e ∙ ap (λ z. to_z w16 (of_z w16 z)) r ∙ r
+-- a word that holds a number
+read_is : (n : ℕ) (x : ℤ) → n ≡ of_z w16 x → Between 0 32767 x → to_z w16 n ≡ x
+read_is n x e b = ap (to_z w16) e ∙ short_read 32767 x (omega arith) b
 
 -- word i of two lists of numbers side by side
 abbrev word_of : List ℤ → List ℤ → ℕ → ℕ
 word_of xs ys i = get_or (map (of_z w16) xs ++ map (of_z w16) ys) i 0
 
 -- what is read of it fits 32 bits
-pub word_fits : (xs ys : List ℤ) (i : ℕ) → FitsSigned w32 (reread (word_of xs ys i))
-word_fits xs ys i = fits_of (reread (word_of xs ys i)) (omega (arith, ints)) (omega (arith, ints))
+pub word_fits : (xs ys : List ℤ) (i : ℕ) → FitsSigned w32 (to_z w16 (word_of xs ys i))
+word_fits xs ys i = fits_of (to_z w16 (word_of xs ys i)) (omega (arith, ints)) (omega (arith, ints))
 
-first_word : (xs ys : List ℤ) (i : ℕ) → length xs ≡ 8 → i < 8 → word_of xs ys i ≡ of_z w16 (entry xs i)
-first_word xs ys i n h =
+first_word : (lanes : ℕ) (xs ys : List ℤ) (i : ℕ) → length xs ≡ lanes → i < lanes → word_of xs ys i ≡ of_z w16 (entry xs i)
+first_word lanes xs ys i n h =
     get_or_append_left (map (of_z w16) xs) (map (of_z w16) ys) 0 i (omega (arith, n, length-map xs (of_z w16))) ∙ get_or-map (of_z w16) xs i (pos 0)
 
-second_word : (xs ys : List ℤ) (i : ℕ) → length xs ≡ 8 → word_of xs ys (8 + i) ≡ of_z w16 (entry ys i)
-second_word xs ys i n =
-    let m : length (map (of_z w16) xs) ≡ 8 = omega (arith, n, length-map xs (of_z w16)) in
+second_word : (lanes : ℕ) (xs ys : List ℤ) (i : ℕ) → length xs ≡ lanes → word_of xs ys (lanes + i) ≡ of_z w16 (entry ys i)
+second_word lanes xs ys i n =
+    let m : length (map (of_z w16) xs) ≡ lanes = omega (arith, n, length-map xs (of_z w16)) in
     ap (λ k. word_of xs ys (k + i)) (sym m) ∙ get_or-append-add (map (of_z w16) xs) (map (of_z w16) ys) i 0 ∙ get_or-map (of_z w16) ys i (pos 0)
 
--- lane i of the sums
-abbrev pair_lane : (w v : ℤ) → List ℤ → List ℤ → ℕ → ℤ
-pair_lane w v xs ys i = sum_word (reread (word_of xs ys i)) (to_z w16 (of_z w16 w)) (reread (word_of xs ys (8 + i))) (to_z w16 (of_z w16 v))
+-- lane i of the sums of two lists of so many lanes
+abbrev pair_lane : (lanes : ℕ) (w v : ℤ) → List ℤ → List ℤ → ℕ → ℤ
+pair_lane lanes w v xs ys i =
+    sum_word (to_z w16 (word_of xs ys i)) (to_z w16 (of_z w16 w)) (to_z w16 (word_of xs ys (lanes + i))) (to_z w16 (of_z w16 v))
 
-pair_lane_is : (w v : ℤ) (xs ys : List ℤ) (i : ℕ) → length xs ≡ 8 → i < 8 → Between 28 92 w → Between 28 92 v → Between 0 32767 (entry xs i) →
-    Between 0 32767 (entry ys i)
-    → pair_lane w v xs ys i ≡ w *ℤ entry xs i +ℤ v *ℤ entry ys i
-pair_lane_is w v xs ys i n h bw bv bx by =
+pair_lane_is : (lanes : ℕ) (w v : ℤ) (xs ys : List ℤ) (i : ℕ) → length xs ≡ lanes → i < lanes → Between 28 92 w → Between 28 92 v →
+    Between 0 32767 (entry xs i) → Between 0 32767 (entry ys i)
+    → pair_lane lanes w v xs ys i ≡ w *ℤ entry xs i +ℤ v *ℤ entry ys i
+pair_lane_is lanes w v xs ys i n h bw bv bx by =
     let x = entry xs i in
     let y = entry ys i in
-    let q = reread (word_of xs ys (8 + i)) in
+    let q = to_z w16 (word_of xs ys (lanes + i)) in
     let t = to_z w16 (of_z w16 v) in
-    ap (λ z. sum_word z (to_z w16 (of_z w16 w)) q t) (reread_is _ x (first_word xs ys i n h) bx)
+    ap (λ z. sum_word z (to_z w16 (of_z w16 w)) q t) (read_is _ x (first_word lanes xs ys i n h) bx)
     ∙ ap (λ z. sum_word x z q t) (to_z-of_z w16 w (weight_fits w bw))
-    ∙ ap (λ z. sum_word x w z t) (reread_is _ y (second_word xs ys i n) by)
+    ∙ ap (λ z. sum_word x w z t) (read_is _ y (second_word lanes xs ys i n) by)
     ∙ ap (λ z. sum_word x w y z) (to_z-of_z w16 v (weight_fits v bv))
     ∙ sum_word_is w v x y bw bv bx by
 
--- eight sums
-pub pairs_are : (w v : ℤ) (xs ys : List ℤ) → length xs ≡ 8 → Between 28 92 w → Between 28 92 v → ((i : ℕ) → i < 8 → Between 0 32767 (entry xs i)) →
-    ((i : ℕ) → i < 8 → Between 0 32767 (entry ys i))
-    → (i : ℕ) → i < 8 → entry (by_index 8 (pair_lane w v xs ys)) i ≡ w *ℤ entry xs i +ℤ v *ℤ entry ys i
-pairs_are w v xs ys n bw bv bx by i h = get_or-by_index 8 (pair_lane w v xs ys) i (pos 0) h ∙ pair_lane_is w v xs ys i n h bw bv (bx i h) (by i h)
+-- as many sums
+pub pairs_are : (lanes : ℕ) (w v : ℤ) (xs ys : List ℤ) → length xs ≡ lanes → Between 28 92 w → Between 28 92 v →
+    ((i : ℕ) → i < lanes → Between 0 32767 (entry xs i)) → ((i : ℕ) → i < lanes → Between 0 32767 (entry ys i))
+    → (i : ℕ) → i < lanes → entry (by_index lanes (pair_lane lanes w v xs ys)) i ≡ w *ℤ entry xs i +ℤ v *ℤ entry ys i
+pairs_are lanes w v xs ys n bw bv bx by i h =
+    get_or-by_index lanes (pair_lane lanes w v xs ys) i (pos 0) h ∙ pair_lane_is lanes w v xs ys i n h bw bv (bx i h) (by i h)
 
 -- a sample as a number
 pub sample_fits : (n : ℕ) → n < 32768 → FitsSigned w16 (pos n)
@@ -111,10 +110,10 @@ wider_fits : (z : ℤ) → FitsSigned w16 z → FitsSigned w32 z
 wider_fits (pos n) f = record { sfits = omega (arith, f.sfits) }
 wider_fits (negsuc n) f = record { sfits = omega (arith, f.sfits) }
 
--- eight numbers of 16 bits in lanes of 32
-module _ (xs : List ℤ) (value : ℕ → ℤ) (count : length xs ≡ 8) (are : (i : ℕ) → i < 8 → entry xs i ≡ value i)
-    (small : (i : ℕ) → i < 8 → FitsSigned w16 (value i)) where
-  wide_lane : (i : ℕ) → i < 8 → to_z w32 (get_or (map (of_z w32) xs) i 0) ≡ value i
+-- numbers of 16 bits in lanes of 32
+module _ (lanes : ℕ) (xs : List ℤ) (value : ℕ → ℤ) (count : length xs ≡ lanes) (are : (i : ℕ) → i < lanes → entry xs i ≡ value i)
+    (small : (i : ℕ) → i < lanes → FitsSigned w16 (value i)) where
+  wide_lane : (i : ℕ) → i < lanes → to_z w32 (get_or (map (of_z w32) xs) i 0) ≡ value i
   wide_lane i h =
       ap (to_z w32) (get_or-map (of_z w32) xs i (pos 0)) ∙ ap (λ z. to_z w32 (of_z w32 z)) (are i h)
       ∙ to_z-of_z w32 (value i) (wider_fits (value i) (small i h))
@@ -124,11 +123,11 @@ module _ (xs : List ℤ) (value : ℕ → ℤ) (count : length xs ≡ 8) (are : 
   lanes_fit =
       let P : ℕ → Type 0 = λ n. FitsSigned w16 (to_z w32 n) in
       let Q : ℤ → Type 0 = λ z. FitsSigned w16 z in
-      Each1-from_get_or P (map (of_z w32) xs) 0 (λ i l. let h : i < 8 = omega (arith, count, length-map xs (of_z w32))
+      Each1-from_get_or P (map (of_z w32) xs) 0 (λ i l. let h : i < lanes = omega (arith, count, length-map xs (of_z w32))
       in subst Q (sym (wide_lane i h)) (small i h))
 
   -- and is the same number there
-  pub lanes_are : (i : ℕ) → i < 8 → entry (map (to_z w16) (map (λ n. of_z w16 (to_z w32 n)) (map (of_z w32) xs))) i ≡ value i
+  pub lanes_are : (i : ℕ) → i < lanes → entry (map (to_z w16) (map (λ n. of_z w16 (to_z w32 n)) (map (of_z w32) xs))) i ≡ value i
   lanes_are i h =
       get_or-map (to_z w16) (map (λ n. of_z w16 (to_z w32 n)) (map (of_z w32) xs)) i 0
       ∙ ap (to_z w16) (get_or-map (λ n. of_z w16 (to_z w32 n)) (map (of_z w32) xs) i 0)
@@ -142,7 +141,7 @@ pub turned_is : (k : ℕ) (xs : List ℤ) (i : ℕ) → length xs ≡ 8 → i < 
     entry (turned k xs) i ≡ entry xs ((i + k) % 8)
 turned_is k xs i n h b =
     let m : (i + k) % 8 < 8 = omega arith in
-    get_or-by_index 8 (λ j. to_z w16 (word_of xs xs ((j + k) % 8))) i (pos 0) h ∙ ap (to_z w16) (first_word xs xs ((i + k) % 8) n m)
+    get_or-by_index 8 (λ j. to_z w16 (word_of xs xs ((j + k) % 8))) i (pos 0) h ∙ ap (to_z w16) (first_word 8 xs xs ((i + k) % 8) n m)
     ∙ short_read 32767 (entry xs ((i + k) % 8)) (omega arith) (b ((i + k) % 8) m)
 
 pub turned_between : (k : ℕ) (xs : List ℤ) → length xs ≡ 8 → ((j : ℕ) → j < 8 → Between 0 32767 (entry xs j)) →

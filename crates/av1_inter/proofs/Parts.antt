@@ -26,7 +26,7 @@ abbrev pub across_of : List ℤ → Rounding → Taps
 across_of halves rounding = record { start = 0; step = 1; halves = halves; rounding = rounding }
 
 abbrev pub down_of : List ℤ → Rounding → Taps
-down_of halves rounding = record { start = 0; step = 8; halves = halves; rounding = rounding }
+down_of halves rounding = record { start = 0; step = 16; halves = halves; rounding = rounding }
 
 module _ {T : Type 0} (num : T → ℕ) (part : Strip T) (n : ℕ) (halves : List ℤ) (rounding : Rounding) where
   sample_there : (r c t : ℕ) → slice_index (map num part.source.now) (0 + r * part.source_stride + c + t * 1) ≡ sample_of num part (c + t) r
@@ -49,37 +49,37 @@ module _ {T : Type 0} (num : T → ℕ) (part : Strip T) (n : ℕ) (halves : Lis
       ∙ ap (settled (between_filters part.bit_depth)) (weighted_same halves _ _ (λ t l. ap pos (sample_there r c t)))
 
 module _ (num : ℕ → ℕ) (same : (v : ℕ) → num v ≡ v) (now : List ℕ) (n h : ℕ) (old : List ℕ) (f : ℕ → ℕ → ℤ)
-    (kept : now ≡ paint 8 (record { x = 0; y = 0; width = n; height = h + 7 }) (λ r c _. clip 15 (f r c)) old)
-    (long : length old ≡ 312) (narrow : n ≤ 8) (low : h ≤ 32) where
-  now_long : length now ≡ 312
-  now_long = ap length kept ∙ length_paint 8 _ _ old ∙ long
+    (kept : now ≡ paint 16 (record { x = 0; y = 0; width = n; height = h + 7 }) (λ r c _. clip 15 (f r c)) old)
+    (long : length old ≡ 624) (narrow : n ≤ 16) (low : h ≤ 32) where
+  now_long : length now ≡ 624
+  now_long = ap length kept ∙ length_paint 16 _ _ old ∙ long
 
-  kept_at : (r c : ℕ) → r < h + 7 → c < n → slice_index (map num now) ((0 + r) * 8 + (0 + c)) ≡ clip 15 (f r c)
+  kept_at : (r c : ℕ) → r < h + 7 → c < n → slice_index (map num now) ((0 + r) * 16 + (0 + c)) ≡ clip 15 (f r c)
   kept_at r c k l =
-      get_or-map num now ((0 + r) * 8 + (0 + c)) 0 0 (omega (arith, now_long, k, l, low, narrow)) ∙ same _ ∙ ap (λ s. get_or s ((0 + r) * 8 + (0 + c)) 0) kept
-      ∙ paint_inside 8 _ _ old r c 0 k l (omega (arith, narrow)) (omega (arith, long, k, l, low, narrow))
+      get_or-map num now ((0 + r) * 16 + (0 + c)) 0 0 (omega (arith, now_long, k, l, low, narrow)) ∙ same _ ∙ ap (λ s. get_or s ((0 + r) * 16 + (0 + c)) 0) kept
+      ∙ paint_inside 16 _ _ old r c 0 k l (omega (arith, narrow)) (omega (arith, long, k, l, low, narrow))
 
-  kept_there : (r c t : ℕ) → r < h → c < n → t < 8 → slice_index (map num now) (0 + r * 8 + c + t * 8) ≡ clip 15 (f (r + t) c)
-  kept_there r c t k l b = ap (λ i. slice_index (map num now) i) (let i : 0 + r * 8 + c + t * 8 ≡ (0 + (r + t)) * 8 + (0 + c) = omega arith in i)
+  kept_there : (r c t : ℕ) → r < h → c < n → t < 8 → slice_index (map num now) (0 + r * 16 + c + t * 16) ≡ clip 15 (f (r + t) c)
+  kept_there r c t k l b = ap (λ i. slice_index (map num now) i) (let i : 0 + r * 16 + c + t * 16 ≡ (0 + (r + t)) * 16 + (0 + c) = omega arith in i)
       ∙ kept_at (r + t) c (omega (arith, k, b)) l
 
-  pub columns_laid : (columns : Strip ℕ) → columns.source.now ≡ now → columns.source_stride ≡ 8 → columns.area.width ≡ n → columns.area.height ≡ h →
+  pub columns_laid : (columns : Strip ℕ) → columns.source.now ≡ now → columns.source_stride ≡ 16 → columns.area.width ≡ n → columns.area.height ≡ h →
       (halves : List ℤ) (rounding : Rounding) → IsFilter (doubled halves) → IsRounding rounding
       → IsLaid num columns (down_of halves rounding)
   columns_laid columns is stride width height halves rounding filter s = record {
     filter = filter;
     rounding = s;
-    reach = λ r k. (let e : r * columns.source_stride ≡ r * 8 = ap (λ s. r * s) stride
+    reach = λ r k. (let e : r * columns.source_stride ≡ r * 16 = ap (λ s. r * s) stride
         in omega (arith, e, ap length is, now_long, k, low, narrow, width, height));
     small = λ r c t k l b. subst (λ (v : ℕ). v < 32768)
-        (sym (ap (λ s. slice_index (map num s) (0 + r * columns.source_stride + c + t * 8)) is
-        ∙ ap (λ s. slice_index (map num now) (0 + r * s + c + t * 8)) stride
+        (sym (ap (λ s. slice_index (map num s) (0 + r * columns.source_stride + c + t * 16)) is
+        ∙ ap (λ s. slice_index (map num now) (0 + r * s + c + t * 16)) stride
         ∙ kept_there r c t (omega (arith, k, height)) (omega (arith, l, width)) b))
         (clip_within 15 (f (r + t) c));
   }
 
   pub columns_filtered : (halves : List ℤ) (rounding : Rounding) (r c : ℕ) → r < h → c < n
-      → settled rounding (weighted halves (λ t. pos (slice_index (map num now) (0 + r * 8 + c + t * 8)))) ≡
+      → settled rounding (weighted halves (λ t. pos (slice_index (map num now) (0 + r * 16 + c + t * 16)))) ≡
       settled rounding (weighted halves (λ t. pos (clip 15 (f (r + t) c))))
   columns_filtered halves rounding r c k l = ap (settled rounding) (weighted_same halves _ _ (λ t b. ap pos (kept_there r c t k l b)))
 

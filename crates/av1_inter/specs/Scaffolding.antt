@@ -188,12 +188,9 @@ abbrev pub twice_filtered : {T : Type 0} → (T → ℕ) → Roundings → Strip
 twice_filtered num roundings block halves r c =
     both_ways roundings.both block.bit_depth halves.across halves.down (sample_of num block) r c
 
--- how many columns a strip may have, and a part that is filtered twice
+-- how many columns a strip may have
 abbrev pub IsStripWidth : ℕ → Type 0
 IsStripWidth n = (n ≡ 16) ⊎ ((n ≡ 8) ⊎ ((n ≡ 4) ⊎ (n ≡ 1)))
-
-abbrev pub IsPartWidth : ℕ → Type 0
-IsPartWidth n = (n ≡ 8) ⊎ ((n ≡ 4) ⊎ (n ≡ 1))
 
 -- a part of a rectangle
 abbrev pub part_of : StoredArea → (x y width height : ℕ) → StoredArea

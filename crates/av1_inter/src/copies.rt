@@ -198,7 +198,7 @@ pub(crate) fn prepare_copy<T: Pixel>(tmp: &mut [i16], stride: usize, block: &Str
 {
     let mut start = 0;
     while start < block.area.width {
-        let columns = strip_width(block.area.width - start, true);
+        let columns = strip_width(block.area.width - start);
         let strip = part_at(block, start, 0, columns, block.area.height);
         widen_columns(tmp, stride, &strip);
         start += columns;

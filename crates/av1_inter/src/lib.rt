@@ -41,7 +41,7 @@
 //! | across alone | any other: strips of 16 or 8 columns | `filter_once`: `filter_bytes` | `filter_once`: `filter_words` |
 //! | across alone | the rest: strips of 4 columns or 1 | `filter_once`: `filter_four` or `filter_words` | `filter_once`: `filter_words` |
 //! | down alone | the same strips | the same, in steps of a row | the same, in steps of a row |
-//! | both | any: parts of 8 columns and up to 32 rows | `filter_twice`: `filter_bytes`, then `filter_words` | `filter_twice`: `filter_words`, twice |
+//! | both | any: parts of 16 or 8 columns and up to 32 rows | `filter_twice`: `filter_bytes`, then `filter_words` | `filter_twice`: `filter_words`, twice |
 //! | both | the rest: parts of 4 columns or 1 | `filter_twice`: `filter_four` or `filter_words`, then `filter_words` | `filter_twice`: `filter_words`, twice |
 //!
 //! Within a sum the outer weights that are 0 are left out, up to two on either side: `outer_zeros` counts them.

@@ -224,7 +224,7 @@ pub(crate) fn filter_once<T: Pixel, E: Copy, W: Writer<E>>(
     }
     let mut start = 0;
     while start < block.area.width {
-        let columns = strip_width(block.area.width - start, true);
+        let columns = strip_width(block.area.width - start);
         let strip = part_at(block, start, 0, columns, block.area.height);
         filter_columns::<T, E, W>(target, stride, &strip, taps);
         start += columns;

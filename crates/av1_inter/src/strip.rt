@@ -1,9 +1,9 @@
 //! Rectangles that are filtered, and filters that are laid on them.
 
-ghost use Rattle.std.specs.Prelude.{◌≡◌, false, ℕ, ◌+◌, ◌*◌, ◌^◌, ◌≤◌, ◌<◌, drop};
+ghost use Rattle.std.specs.Prelude.{◌≡◌, ℕ, ◌+◌, ◌*◌, ◌^◌, ◌≤◌, ◌<◌, drop};
 ghost use Rattle.av1_inter.specs.Places.{AreWithinDepth, IsStoredFrom, samples_from};
 ghost use Rattle.av1_blocks.specs.Depths.{IsDepth};
-ghost use Rattle.av1_inter.specs.Scaffolding.{IsBlock, IsPartWidth, IsStripWidth, part_of, sample_of};
+ghost use Rattle.av1_inter.specs.Scaffolding.{IsBlock, IsStripWidth, part_of, sample_of};
 
 use crate::rounding::Rounding;
 use av1_blocks::SUBPEL_FILTER_SIZE;
@@ -93,16 +93,15 @@ pub(crate) fn part_at<'a, T: Pixel>(
     }
 }
 
-/// How many columns the next strip has, where so many are left: 16 at most, and 8 where `wide` is false.
+/// How many columns the next strip has, where so many are left: 16 at most.
 #[inline(always)]
-pub(crate) fn strip_width(left: usize, wide: bool) -> usize
+pub(crate) fn strip_width(left: usize) -> usize
     requires { 0 < left }
     ensures some { 0 < result }
     ensures room { result ≤ left }
     ensures kind { IsStripWidth result }
-    ensures part { wide ≡ false → IsPartWidth result }
 {
-    if wide && left >= 16 {
+    if left >= 16 {
         16
     } else if left >= 8 {
         8

@@ -1,15 +1,15 @@
 //! Blocks that are filtered along their rows, and then down their columns.
 //!
 //! Both steps are those of one filter. What the first one gives is kept as samples of 15 bits, from which the second
-//! one reads. A block is cut into parts of up to 8 columns and 32 rows, so that what is kept of a part is small; a part
-//! keeps 7 rows more than it has.
+//! one reads. A block is cut into parts of up to 16 columns and 32 rows, so that what is kept of a part is small; a
+//! part keeps 7 rows more than it has.
 //!
 //! AV1 specification: block inter prediction process.
 
 ghost use Rattle.std.specs.Prelude.{◌≡◌, ◌+◌, ◌≤◌, ◌<◌, length};
 ghost use Rattle.av1_frame.specs.Areas.{AreRows};
 ghost use Rattle.av1_frame.specs.Samples.{paint};
-ghost use Rattle.av1_inter.specs.Scaffolding.{AreFilters, IsBlock, IsPartWidth, twice_filtered};
+ghost use Rattle.av1_inter.specs.Scaffolding.{AreFilters, IsBlock, IsStripWidth, twice_filtered};
 
 use crate::one_filter::filter_strip;
 use crate::rounding::between_filters;
@@ -19,7 +19,7 @@ use av1_blocks::SUBPEL_FILTER_SIZE;
 use av1_frame::{Pixel, StoredArea};
 
 /// How many columns a part has at most.
-const COLUMNS: usize = 8;
+const COLUMNS: usize = 16;
 
 /// How many rows a part has at most.
 const ROWS: usize = 32;
@@ -43,7 +43,7 @@ fn filter_part<T: Pixel, E: Copy, W: Writer<E>, const N: usize>(
 )
     requires rows { AreRows stride part.now.area (length target.old) }
     requires width { part.now.area.width ≡ N }
-    requires narrow { N ≤ 8 }
+    requires narrow { N ≤ 16 }
     requires low { part.now.area.height ≤ 32 }
     requires part { IsBlock T.num part.now }
     requires filters { AreFilters halves.now }
@@ -85,7 +85,7 @@ fn filter_part<T: Pixel, E: Copy, W: Writer<E>, const N: usize>(
     filter_strip::<u16, E, W, N, false>(target, stride, &columns, &down);
 }
 
-/// The same of a part of 8, 4 or 1 columns.
+/// The same of a part of 16, 8, 4 or 1 columns.
 fn filter_part_of<T: Pixel, E: Copy, W: Writer<E>>(
     target: &mut [E],
     stride: usize,
@@ -93,7 +93,7 @@ fn filter_part_of<T: Pixel, E: Copy, W: Writer<E>>(
     halves: &Halves,
 )
     requires rows { AreRows stride part.now.area (length target.old) }
-    requires kind { IsPartWidth part.now.area.width }
+    requires kind { IsStripWidth part.now.area.width }
     requires low { part.now.area.height ≤ 32 }
     requires part { IsBlock T.num part.now }
     requires filters { AreFilters halves.now }
@@ -101,7 +101,9 @@ fn filter_part_of<T: Pixel, E: Copy, W: Writer<E>>(
     ensures { let b = part.now
         in target.new ≡ paint stride b.area (λ r c _. W.written b.bit_depth (twice_filtered T.num (W.roundings b.bit_depth) b halves.now r c)) target.old }
 {
-    if part.area.width == 8 {
+    if part.area.width == 16 {
+        filter_part::<T, E, W, 16>(target, stride, part, halves);
+    } else if part.area.width == 8 {
         filter_part::<T, E, W, 8>(target, stride, part, halves);
     } else if part.area.width == 4 {
         filter_part::<T, E, W, 4>(target, stride, part, halves);
@@ -110,7 +112,7 @@ fn filter_part_of<T: Pixel, E: Copy, W: Writer<E>>(
     }
 }
 
-/// The same of a strip of 8, 4 or 1 columns, part by part.
+/// The same of a strip of 16, 8, 4 or 1 columns, part by part.
 fn filter_parts<T: Pixel, E: Copy, W: Writer<E>>(
     target: &mut [E],
     stride: usize,
@@ -118,7 +120,7 @@ fn filter_parts<T: Pixel, E: Copy, W: Writer<E>>(
     halves: &Halves,
 )
     requires rows { AreRows stride strip.now.area (length target.old) }
-    requires kind { IsPartWidth strip.now.area.width }
+    requires kind { IsStripWidth strip.now.area.width }
     requires strip { IsBlock T.num strip.now }
     requires filters { AreFilters halves.now }
     requires serves { W.serves strip.now.bit_depth }
@@ -150,7 +152,7 @@ pub(crate) fn filter_twice<T: Pixel, E: Copy, W: Writer<E>>(
 {
     let mut start = 0;
     while start < block.area.width {
-        let columns = strip_width(block.area.width - start, false);
+        let columns = strip_width(block.area.width - start);
         let strip = part_at(block, start, 0, columns, block.area.height);
         filter_parts::<T, E, W>(target, stride, &strip, halves);
         start += columns;

@@ -1,12 +1,12 @@
 //! Samples that are filtered in 32 bits, two products at a time: those of two bytes, and those of one byte where fewer
 //! than 8 columns are filtered at once.
 //!
-//! A machine multiplies eight numbers of 16 bits by eight others and adds each two neighbouring products in one step.
-//! So the samples that two of the weights belong to are put side by side, for eight columns at once.
+//! A machine multiplies eight or 16 numbers of 16 bits by as many others and adds each two neighbouring products in one
+//! step. So the samples that two of the weights belong to are put side by side, for eight or 16 columns at once.
 //!
 //! AV1 specification: block inter prediction process.
 
-ghost use Rattle.std.specs.Prelude.{◌≡◌, ℕ, ◌+◌, ◌-◌, ◌*◌, ◌^◌, ◌≤◌, ◌<◌, nat_lt, if◌then◌else◌, pos, ◌+ℤ◌, ◌*ℤ◌, length, map, slice_index};
+ghost use Rattle.std.specs.Prelude.{◌≡◌, ℕ, ◌+◌, ◌*◌, ◌^◌, ◌≤◌, ◌<◌, nat_lt, if◌then◌else◌, pos, ◌+ℤ◌, ◌*ℤ◌, length, map, slice_index};
 ghost use Rattle.av1_inter.specs.Motion.{entry};
 ghost use Rattle.av1_inter.specs.Scaffolding.{AreZero, Between, doubled, IsFilter, IsRounding, IsWithin, settled, sum_from};
 
@@ -17,6 +17,26 @@ use std::simd::prelude::*;
 
 /// The places of all lanes of two vectors of eight.
 const EACH: [usize; 16] = [0, 1, 2, 3, 4, 5, 6, 7, 8, 9, 10, 11, 12, 13, 14, 15];
+
+/// The places of all lanes of two vectors of sixteen.
+const EACH_OF_32: [usize; 32] = [
+    0, 1, 2, 3, 4, 5, 6, 7, 8, 9, 10, 11, 12, 13, 14, 15, 16, 17, 18, 19, 20, 21, 22, 23, 24, 25,
+    26, 27, 28, 29, 30, 31,
+];
+
+/// The lanes of two vectors of eight side by side: those of columns 0 to 3, and those of the others.
+const LOW: [usize; 8] = [0, 8, 1, 9, 2, 10, 3, 11];
+
+const HIGH: [usize; 8] = [4, 12, 5, 13, 6, 14, 7, 15];
+
+/// The lanes of two vectors of sixteen side by side: those of columns 0 to 3 and 8 to 11, and those of the others. A
+/// register of 256 bits puts side by side what stands in each of its halves.
+const NEAR: [usize; 16] = [0, 16, 1, 17, 2, 18, 3, 19, 8, 24, 9, 25, 10, 26, 11, 27];
+
+const FAR: [usize; 16] = [4, 20, 5, 21, 6, 22, 7, 23, 12, 28, 13, 29, 14, 30, 15, 31];
+
+/// Where the sums of the columns 0 to 15 stand behind one another in those of the first and of the others.
+const IN_ORDER: [usize; 16] = [0, 1, 2, 3, 8, 9, 10, 11, 4, 5, 6, 7, 12, 13, 14, 15];
 
 /// Sample `c` of the `N` from a place on, and 0 behind them.
 #[inline(always)]
@@ -51,7 +71,10 @@ fn pair_sums(first: [i16; 8], second: [i16; 8], weight: i16, other: i16) -> [i32
     requires other { Between 28 92 other }
     ensures { (c : ℕ) → c < 8 → entry result c ≡ weight *ℤ entry first c +ℤ other *ℤ entry second c }
 {
-    let (low, high) = i16x8::from_array(first).interleave(i16x8::from_array(second));
+    let first = i16x8::from_array(first);
+    let second = i16x8::from_array(second);
+    let low: i16x8 = first.shuffle(second, LOW);
+    let high: i16x8 = first.shuffle(second, HIGH);
     let weights = i16x8::from_array([weight, other, weight, other, weight, other, weight, other]);
     // Both factors are widened at once: weights by themselves would be widened before a loop, and narrowed in it again.
     let low: i16x16 = low.shuffle(weights, EACH);
@@ -63,6 +86,60 @@ fn pair_sums(first: [i16; 8], second: [i16; 8], weight: i16, other: i16) -> [i32
     let low: i32x4 = low.swizzle([0, 2, 4, 6]) + low.swizzle([1, 3, 5, 7]);
     let high: i32x4 = high.swizzle([0, 2, 4, 6]) + high.swizzle([1, 3, 5, 7]);
     low.shuffle(high, [0, 1, 2, 3, 4, 5, 6, 7]).to_array()
+}
+
+/// The sample at a place.
+#[inline(always)]
+fn sample_at<T: Pixel>(source: &[T], place: usize) -> i32
+    requires { place < length source.now }
+    ensures { result ≡ pos (slice_index (map T.num source.now) place) }
+{
+    source[place].to_i32()
+}
+
+/// 16 samples from a place on.
+#[inline(always)]
+fn sixteen_from<T: Pixel>(source: &[T], start: usize) -> [i16; 16]
+    requires reach { start + 16 ≤ length source.now }
+    requires small { (c : ℕ) → c < 16 → slice_index (map T.num source.now) (start + c) < 32768 }
+    ensures value { (c : ℕ) → c < 16 → entry result c ≡ pos (slice_index (map T.num source.now) (start + c)) }
+    ensures within { (c : ℕ) → c < 16 → Between 0 32767 (entry result c) }
+{
+    let mut values = [0; 16];
+    for c in 0..16 {
+        values[c] = sample_at(source, start + c);
+    }
+    i32x16::from_array(values).cast::<i16>().to_array()
+}
+
+/// Each of 16 numbers times a weight, and the one at the same place of 16 others times another.
+#[inline(always)]
+fn wide_pair_sums(first: [i16; 16], second: [i16; 16], weight: i16, other: i16) -> [i32; 16]
+    requires first { (c : ℕ) → c < 16 → Between 0 32767 (entry first c) }
+    requires second { (c : ℕ) → c < 16 → Between 0 32767 (entry second c) }
+    requires weight { Between 28 92 weight }
+    requires other { Between 28 92 other }
+    ensures { (c : ℕ) → c < 16 → entry result c ≡ weight *ℤ entry first c +ℤ other *ℤ entry second c }
+{
+    let first = i16x16::from_array(first);
+    let second = i16x16::from_array(second);
+    let near: i16x16 = first.shuffle(second, NEAR);
+    let far: i16x16 = first.shuffle(second, FAR);
+    let weights = i16x16::from_array([
+        weight, other, weight, other, weight, other, weight, other, weight, other, weight, other,
+        weight, other, weight, other,
+    ]);
+    let near: i16x32 = near.shuffle(weights, EACH_OF_32);
+    let far: i16x32 = far.shuffle(weights, EACH_OF_32);
+    let near = near.cast::<i32>();
+    let far = far.cast::<i32>();
+    let near = near.extract::<0, 16>() * near.extract::<16, 16>();
+    let far = far.extract::<0, 16>() * far.extract::<16, 16>();
+    let near: i32x8 = near.swizzle([0, 2, 4, 6, 8, 10, 12, 14])
+        + near.swizzle([1, 3, 5, 7, 9, 11, 13, 15]);
+    let far: i32x8 = far.swizzle([0, 2, 4, 6, 8, 10, 12, 14])
+        + far.swizzle([1, 3, 5, 7, 9, 11, 13, 15]);
+    near.shuffle(far, IN_ORDER).to_array()
 }
 
 /// Two of the eight products of a sum, added: those of the halved weights `at` and `at + 1`, from each of `N` places
@@ -92,14 +169,40 @@ fn pair_from<T: Pixel, const N: usize>(
     )
 }
 
-/// Eight numbers are added to eight others, place by place.
+/// The same from each of 16 places on.
 #[inline(always)]
-fn add_products(sums: &mut [i32; 8], products: &[i32; 8])
-    requires sums { (c : ℕ) → c < 8 → IsWithin (2 ^ 25) (entry sums.old c) }
-    requires products { (c : ℕ) → c < 8 → IsWithin (2 ^ 25) (entry products.now c) }
-    ensures { (c : ℕ) → c < 8 → entry sums.new c ≡ entry sums.old c +ℤ entry products.now c }
+fn wide_pair_from<T: Pixel>(
+    source: &[T],
+    start: usize,
+    step: usize,
+    halves: &[i16; SUBPEL_FILTER_SIZE],
+    at: usize,
+) -> [i32; 16]
+    requires two { at < 7 }
+    requires filter { IsFilter (doubled halves.now) }
+    requires reach { start + 16 + 7 * step ≤ length source.now }
+    requires small { (c t : ℕ) → c < 16 → t < 8 → slice_index (map T.num source.now) (start + c + t * step) < 32768 }
+    ensures value { (c : ℕ) → c < 16 →
+        entry result c ≡ entry halves.now at *ℤ pos (slice_index (map T.num source.now) (start + c + at * step)) +ℤ entry halves.now (at + 1) *ℤ pos
+        (slice_index (map T.num source.now) (start + c + (at + 1) * step)) }
+    ensures within { (c : ℕ) → c < 16 → IsWithin (2 ^ 23) (entry result c) }
 {
-    for c in 0..8 {
+    wide_pair_sums(
+        sixteen_from(source, start + at * step),
+        sixteen_from(source, start + (at + 1) * step),
+        halves[at],
+        halves[at + 1],
+    )
+}
+
+/// Numbers are added to as many others, place by place.
+#[inline(always)]
+fn add_products<const L: usize>(sums: &mut [i32; L], products: &[i32; L])
+    requires sums { (c : ℕ) → c < L → IsWithin (2 ^ 25) (entry sums.old c) }
+    requires products { (c : ℕ) → c < L → IsWithin (2 ^ 25) (entry products.now c) }
+    ensures { (c : ℕ) → c < L → entry sums.new c ≡ entry sums.old c +ℤ entry products.now c }
+{
+    for c in 0..L {
         sums[c] += products[c];
     }
 }
@@ -124,6 +227,30 @@ fn eight_sums<T: Pixel, const N: usize, const ZEROS: usize>(
     let mut sums = [0; 8];
     for pair in 0..SUBPEL_FILTER_SIZE / 2 - ZEROS {
         let products = pair_from::<T, N>(source, start, step, halves, ZEROS + 2 * pair);
+        add_products(&mut sums, &products);
+    }
+    sums
+}
+
+/// The same from each of 16 places on.
+#[inline(always)]
+fn sixteen_sums<T: Pixel, const ZEROS: usize>(
+    source: &[T],
+    start: usize,
+    step: usize,
+    halves: &[i16; SUBPEL_FILTER_SIZE],
+) -> [i32; 16]
+    requires filter { IsFilter (doubled halves.now) }
+    requires few { ZEROS ≤ 2 }
+    requires zeros { AreZero ZEROS halves.now }
+    requires reach { start + 16 + 7 * step ≤ length source.now }
+    requires small { (c t : ℕ) → c < 16 → t < 8 → slice_index (map T.num source.now) (start + c + t * step) < 32768 }
+    ensures value { (c : ℕ) → c < 16 → entry result c ≡ sum_from halves.now (λ i. pos (slice_index (map T.num source.now) i)) (start + c) step }
+    ensures within { (c : ℕ) → c < 16 → IsWithin (2 ^ 25) (entry result c) }
+{
+    let mut sums = [0; 16];
+    for pair in 0..SUBPEL_FILTER_SIZE / 2 - ZEROS {
+        let products = wide_pair_from(source, start, step, halves, ZEROS + 2 * pair);
         add_products(&mut sums, &products);
     }
     sums
@@ -176,6 +303,33 @@ fn settle_eight(sums: &[i32; 8], rounding: Rounding) -> [i16; 8]
     i32x8::from_array(values).cast::<i16>().to_array()
 }
 
+/// What 16 such sums become.
+#[inline(always)]
+fn settle_sixteen(sums: &[i32; 16], rounding: Rounding) -> [i16; 16]
+    requires rounding { IsRounding rounding }
+    requires within { (c : ℕ) → c < 16 → IsWithin (2 ^ 25) (entry sums.now c) }
+    ensures { (c : ℕ) → c < 16 → entry result c ≡ settled rounding (entry sums.now c) }
+{
+    let mut values = [0; 16];
+    for c in 0..16 {
+        values[c] = settle(sums[c], rounding);
+    }
+    i32x16::from_array(values).cast::<i16>().to_array()
+}
+
+/// The first `N` of some numbers.
+#[inline(always)]
+fn first_of<const L: usize, const N: usize>(numbers: &[i16; L]) -> [i16; N]
+    requires { N ≤ L }
+    ensures { (c : ℕ) → c < N → entry result c ≡ entry numbers.now c }
+{
+    let mut values = [0; N];
+    for c in 0..N {
+        values[c] = numbers[c];
+    }
+    values
+}
+
 /// The first `N` of what eight such sums become.
 #[inline(always)]
 fn settle_first<const N: usize>(sums: &[i32; 8], rounding: Rounding) -> [i16; N]
@@ -184,12 +338,7 @@ fn settle_first<const N: usize>(sums: &[i32; 8], rounding: Rounding) -> [i16; N]
     requires within { (c : ℕ) → c < 8 → IsWithin (2 ^ 25) (entry sums.now c) }
     ensures { (c : ℕ) → c < N → entry result c ≡ settled rounding (entry sums.now c) }
 {
-    let eight = settle_eight(sums, rounding);
-    let mut values = [0; N];
-    for c in 0..N {
-        values[c] = eight[c];
-    }
-    values
+    first_of::<8, N>(&settle_eight(sums, rounding))
 }
 
 /// What the sums from each of at most eight places on become.
@@ -264,29 +413,7 @@ fn filter_each<T: Pixel, const N: usize, const ZEROS: usize>(
     values
 }
 
-/// Number `c` of eight numbers and of eight others behind them.
-#[inline(always)]
-fn either_of(first: &[i16; 8], second: &[i16; 8], c: usize) -> i16
-    requires { c < 16 }
-    ensures { result ≡ (if nat_lt c 8 then entry first.now c else entry second.now (c - 8)) }
-{
-    if c < 8 { first[c] } else { second[c - 8] }
-}
-
-/// The first `N` of eight numbers and of eight others behind them.
-#[inline(always)]
-fn joined<const N: usize>(first: &[i16; 8], second: &[i16; 8]) -> [i16; N]
-    requires { N ≤ 16 }
-    ensures { (c : ℕ) → c < N → entry result c ≡ (if nat_lt c 8 then entry first.now c else entry second.now (c - 8)) }
-{
-    let mut values = [0; N];
-    for c in 0..N {
-        values[c] = either_of(first, second, c);
-    }
-    values
-}
-
-/// The same, eight after eight where there are 16.
+/// The same, at once where there are 16.
 #[inline(always)]
 pub(crate) fn filter_words<T: Pixel, const N: usize, const ZEROS: usize>(
     source: &[T],
@@ -305,9 +432,8 @@ pub(crate) fn filter_words<T: Pixel, const N: usize, const ZEROS: usize>(
     ensures { (c : ℕ) → c < N → entry result c ≡ settled rounding (sum_from halves.now (λ i. pos (slice_index (map T.num source.now) i)) (start + c) step) }
 {
     if N == 16 {
-        let first = filter_group::<T, 8, ZEROS>(source, start, step, halves, rounding);
-        let second = filter_group::<T, 8, ZEROS>(source, start + 8, step, halves, rounding);
-        joined::<N>(&first, &second)
+        let sums = sixteen_sums::<T, ZEROS>(source, start, step, halves);
+        first_of::<16, N>(&settle_sixteen(&sums, rounding))
     } else if N <= 8 {
         filter_group::<T, N, ZEROS>(source, start, step, halves, rounding)
     } else {

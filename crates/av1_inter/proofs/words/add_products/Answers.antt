@@ -6,15 +6,15 @@ use Rattle.av1_inter.proofs.EightSums.{kept_within, two_added, two_fit}
 use Rattle.av1_inter.proofs.words.add_products.Goals as goal
 
 pub loop-c-init : goal.loop-c-init
-loop-c-init c = (record { done = λ k h. absurd (omega (arith, h)); rest = λ k b. refl }, c.told-sums)
+loop-c-init g c = (record { done = λ k h. absurd (omega (arith, h)); rest = λ k b. refl }, c.told-sums)
 
 pub overflow_add-sums : goal.overflow_add-sums
-overflow_add-sums c =
+overflow_add-sums g c =
     let l = c.loop-c-test.true in
     two_fit _ _ (kept_within _ _ (c.loop-c.invariant.0.rest c.loop-c.c (omega arith)) (c.requires.sums _ l)) (c.requires.products _ l)
 
 pub loop-c-preserved : goal.loop-c-preserved
-loop-c-preserved c =
+loop-c-preserved g c =
     let l = c.loop-c-test.true in
     let same = c.loop-c.invariant.0.rest c.loop-c.c (omega arith) in
     let old = c.args.sums.now in
@@ -25,4 +25,4 @@ loop-c-preserved c =
     )
 
 pub returns : goal.returns
-returns c = λ k h. c.loop-c.invariant.0.done k (omega (arith, c.loop-c-test.false, h))
+returns g c = λ k h. c.loop-c.invariant.0.done k (omega (arith, c.loop-c-test.false, h))

@@ -1,19 +1,21 @@
-use Rattle.std.proofs.Common.{arith, ◌≡◌, ◌+◌, ◌-◌, ◌*◌, ◌∙◌, ℕ, ap, pos, map, slice_index, ◌*ℤ◌}
+use Rattle.std.proofs.Common.{arith, rules, ◌≡◌, ◌+◌, ◌-◌, ◌*◌, ◌^◌, ◌<◌, ◌∙◌, ℕ, ap, pos, map, slice_index, ◌*ℤ◌}
 use Rattle.av1_inter.specs.Motion.{entry, sum_to}
+use Rattle.av1_inter.specs.Scaffolding.{IsWithin}
 use Rattle.av1_inter.proofs.Sums.{sum_ends}
 use Rattle.av1_inter.proofs.EightSums.{few_within, next_within, no_pairs, pair_next, pair_wide}
 use Rattle.av1_inter.proofs.words.eight_sums.Goals as goal
 
 pub loop-pair-init : goal.loop-pair-init
 loop-pair-init g c =
-    no_pairs g.row.N g.row.ZEROS c.args.halves.now (λ k t. pos (slice_index (map g.T.Pixel.num c.args.source.now) (c.args.start + k + t * c.args.step)))
+    no_pairs 8 g.row.N g.row.ZEROS c.args.halves.now (λ k t. pos (slice_index (map g.T.Pixel.num c.args.source.now) (c.args.start + k + t * c.args.step)))
     c.requires.few c.requires.zeros
 
-pub add_products-requires-clause-sums : goal.add_products-requires-clause-sums
-add_products-requires-clause-sums g c = λ k h. few_within c.loop-pair.pair _ (omega (arith, c.loop-pair-test.true)) (c.loop-pair.invariant.within k h)
-
-pub add_products-requires-clause-products : goal.add_products-requires-clause-products
-add_products-requires-clause-products g c = λ k h. pair_wide _ (c.pair_from-products.ensures.within k h)
+pub add_products-requires : goal.add_products-requires
+add_products-requires g c =
+    let sums : (k : ℕ) → k < 8 → IsWithin (2 ^ 25) (entry c.loop-pair.sums k) = λ k h.
+    few_within c.loop-pair.pair _ (omega (arith, c.loop-pair-test.true)) (c.loop-pair.invariant.within k h) in
+    let products : (k : ℕ) → k < 8 → IsWithin (2 ^ 25) (entry c.pair_from-products.result k) = λ k h. pair_wide _ (c.pair_from-products.ensures.within k h) in
+    search (rules, sums, products)
 
 pub loop-pair-preserved : goal.loop-pair-preserved
 loop-pair-preserved g c =

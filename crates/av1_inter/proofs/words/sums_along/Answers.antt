@@ -1,5 +1,6 @@
-use Rattle.std.proofs.Common.{arith, rules, ap, ◌≡◌, ◌∙◌, ◌+◌, ◌%◌, ◌<◌, ◌*ℤ◌, ◌+ℤ◌, ℕ, length}
+use Rattle.std.proofs.Common.{arith, rules, ap, ◌≡◌, ◌∙◌, ◌+◌, ◌%◌, ◌^◌, ◌<◌, ◌*ℤ◌, ◌+ℤ◌, ℕ, length}
 use Rattle.av1_inter.specs.Motion.{entry}
+use Rattle.av1_inter.specs.Scaffolding.{IsWithin}
 use Rattle.av1_inter.proofs.EightSums.{few_within, next_within, pair_wide, pair_within}
 use Rattle.av1_inter.proofs.Halves.{half_read_between, half_weight_between}
 use Rattle.av1_inter.proofs.PairSums.{turned, turned_between, turned_is}
@@ -26,20 +27,19 @@ pair_sums-others-requires-clause-weight c = half_read_between c.args.halves.now 
 pub pair_sums-others-requires-clause-other : goal.pair_sums-others-requires-clause-other
 pair_sums-others-requires-clause-other c = half_read_between c.args.halves.now 5 c.requires.filter (omega arith)
 
-pub add_products-requires-clause-sums : goal.add_products-requires-clause-sums
-add_products-requires-clause-sums c = λ k h.
+pub add_products-requires : goal.add_products-requires
+add_products-requires c =
     let w = c.args.halves.now in
     let n : length c.args.values ≡ 8 = search rules in
+    let sums : (k : ℕ) → k < 8 → IsWithin (2 ^ 25) (entry c.pair_sums-sums.result k) = λ k h.
     pair_wide _ (pair_within (entry w 2) (entry w 3) _ _ _ (half_weight_between w 2 c.requires.filter (omega arith))
-    (half_weight_between w 3 c.requires.filter (omega arith)) (c.requires.values k h) (turned_between 1 c.args.values n c.requires.values k h) (search rules))
-
-pub add_products-requires-clause-products : goal.add_products-requires-clause-products
-add_products-requires-clause-products c = λ k h.
-    let w = c.args.halves.now in
-    let n : length c.args.values ≡ 8 = search rules in
+    (half_weight_between w 3 c.requires.filter (omega arith)) (c.requires.values k h) (turned_between 1 c.args.values n c.requires.values k h)
+        (search rules)) in
+    let products : (k : ℕ) → k < 8 → IsWithin (2 ^ 25) (entry c.pair_sums-others.result k) = λ k h.
     pair_wide _ (pair_within (entry w 4) (entry w 5) _ _ _ (half_weight_between w 4 c.requires.filter (omega arith))
     (half_weight_between w 5 c.requires.filter (omega arith)) (turned_between 2 c.args.values n c.requires.values k h)
-    (turned_between 3 c.args.values n c.requires.values k h) (search rules))
+    (turned_between 3 c.args.values n c.requires.values k h) (search rules)) in
+    search (rules, sums, products)
 
 pub returns-clause-value : goal.returns-clause-value
 returns-clause-value c = λ k h.
