@@ -2,6 +2,7 @@
 use Rattle.std.proofs.Common.{ℕ, ◌<◌, ◌≡◌, ◌||◌, ◌/◌, Bool, true, false, Option, Some, None, List, ℤ, refl, sym, ap, subst, ◌∙◌}
 use Rattle.std.specs.List.{fold}
 use Rattle.av1_blocks.specs.Chroma.{is_low, is_narrow}
+use Rattle.av1_blocks.specs.declared.transform.TxType.{TxType}
 use Rattle.av1_blocks.specs.Transforms.{tx_width}
 use Rattle.av1_frame.specs.declared.plane.Plane.{Plane}
 use Rattle.av1_frame.specs.declared.plane.PlaneConfig.{PlaneConfig}
@@ -21,7 +22,7 @@ use Rattle.av1_tile.specs.declared.plane_block.Parts.{Parts}
 use Rattle.av1_tile.specs.declared.plane_block.PlaneBlock.{PlaneBlock}
 use Rattle.av1_tile.specs.declared.plane_block.Prediction.{Prediction}
 use Rattle.av1_tile.specs.Canvas.{Component, Y, U, V}
-use Rattle.av1_tile.specs.PlaneBlocks.{block_told, component, prediction_in}
+use Rattle.av1_tile.specs.PlaneBlocks.{block_told, component, prediction_in, type_in}
 use Rattle.av1_tile.specs.Predicted.{Keeping, keeping_in}
 use Rattle.av1_tile.specs.Shared.{parts_at}
 use Rattle.av1_tile.specs.Steps.{plane_steps}
@@ -65,6 +66,19 @@ filter_there : (h : Header) (known : Known) (p : ℕ) (l : LeafValue) (area : Pl
 filter_there h known p l area filter few at e =
     e ∙ ap (parameters_by h known.told p) at
     ∙ ap (λ (n : ℕ). parameters_by h known.told n (plane_area h l.x l.y l.size l.tx_size n)) (sym (number_component p few))
+
+-- the block that is said, from what it has
+pub told : (h : Header) (near : Nearby) (p : ℕ) (l : LeafValue) (x y : ℕ) (area : PlaneArea) (prediction : Prediction) (type : TxType) → p < 3
+    → x ≡ l.x → y ≡ l.y → area ≡ plane_area h l.x l.y l.size l.tx_size p → prediction ≡ prediction_in near (component p) l.kind →
+    type ≡ type_in (component p) l →
+    record {
+      plane = p;
+      leaf = record { x = x; y = y; size = l.size; tx_size = l.tx_size };
+      area = area;
+      prediction = prediction;
+      tx_type = type;
+    } ≡ block_told h near (component p) l
+told h near p l x y area prediction type few column row at how of = rw (column, row, at, how, of, number_component p few) refl
 
 -- a block that is neither narrow nor low has no parts
 whole_alone : (narrow low : Bool) (at : ℕ → ℕ → Option LeafKind) (cx cy : ℕ) → (narrow || low) ≡ false → parts_at narrow low at cx cy ≡ None

@@ -171,6 +171,7 @@ impl CodedCells {
     }
 
     /// What the edge filter is told of the neighbours of an area of plane `p`, where it is on.
+    #[inline(always)]
     pub(crate) fn filter_parameters(
         &self,
         header: &Header,

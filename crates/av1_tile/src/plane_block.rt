@@ -5,7 +5,7 @@
 ghost use Rattle.std.specs.Prelude.{◌≡◌, ◌<◌, ℤ};
 ghost use Rattle.av1_blocks.specs.declared.predict.PredictionMode.{PredictionMode};
 ghost use Rattle.av1_plan.specs.declared.leaf.LeafKind.TheVariants.{Intra};
-ghost use Rattle.av1_tile.specs.PlaneBlocks.{component, prediction_in, shared, type_in};
+ghost use Rattle.av1_tile.specs.PlaneBlocks.{component, prediction_in, type_in};
 ghost use Rattle.av1_tile.specs.Walk.{leaf_with};
 ghost use Rattle.std.specs.Prelude.{[]};
 
@@ -118,17 +118,6 @@ fn chroma_prediction(chroma: Option<ChromaMode>, p: usize, near: Nearby) -> Pred
     }
 }
 
-/// The prediction of a leaf from references: in parts, where others share its block, or else its own.
-#[inline(always)]
-fn shared(parts: Option<Parts>, own: Prediction) -> Prediction
-    ensures { result ≡ shared parts own }
-{
-    match parts {
-        Some(parts) => Prediction::Parts(parts),
-        None => own,
-    }
-}
-
 /// How a leaf predicts plane `p`.
 #[inline(always)]
 fn prediction_of(kind: LeafKind, p: usize, near: Nearby) -> Prediction
@@ -150,26 +139,26 @@ fn prediction_of(kind: LeafKind, p: usize, near: Nearby) -> Prediction
             mode,
             reference,
             mv,
-        } => shared(
-            near.parts,
-            Prediction::Single {
+        } => match near.parts {
+            Some(parts) => Prediction::Parts(parts),
+            None => Prediction::Single {
                 mode,
                 reference,
                 mv,
             },
-        ),
+        },
         LeafKind::Compound {
             mode,
             references,
             mvs,
-        } => shared(
-            near.parts,
-            Prediction::Compound {
+        } => match near.parts {
+            Some(parts) => Prediction::Parts(parts),
+            None => Prediction::Compound {
                 mode,
                 references,
                 mvs,
             },
-        ),
+        },
     }
 }
 
@@ -186,6 +175,8 @@ fn type_of(leaf: &Leaf, p: usize) -> TxType
 
 impl PlaneBlock {
     ghost use Rattle.std.specs.Prelude.{◌≡◌, ◌<◌, []};
+    ghost use Rattle.av1_plan.specs.declared.header.Header.{Header};
+    ghost use Rattle.av1_plan.specs.Geometry.{plane_area};
     ghost use Rattle.av1_tile.specs.PlaneBlocks.{block_told, component};
     ghost use Rattle.av1_tile.specs.Walk.{leaf_with};
 
@@ -195,6 +186,17 @@ impl PlaneBlock {
         requires { p < 3 }
         ensures { result ≡ block_told header.now near (component p) (leaf_with leaf.now [] [] []) }
     {
+        let area = leaf.plane_area(header, p);
+        PlaneBlock::within(leaf, p, area, near)
+    }
+
+    /// The same, where `area` is the leaf's rectangle in the plane.
+    #[inline(always)]
+    pub(crate) fn within(leaf: &Leaf, p: usize, area: PlaneArea, near: Nearby) -> PlaneBlock
+        requires { p < 3 }
+        ensures { (h : Header) → area ≡ plane_area h leaf.now.x leaf.now.y leaf.now.size leaf.now.tx_size p →
+            result ≡ block_told h near (component p) (leaf_with leaf.now [] [] []) }
+    {
         PlaneBlock {
             plane: p,
             leaf: LumaBlock {
@@ -203,7 +205,7 @@ impl PlaneBlock {
                 size: leaf.size,
                 tx_size: leaf.tx_size,
             },
-            area: leaf.plane_area(header, p),
+            area,
             prediction: prediction_of(leaf.kind, p, near),
             tx_type: type_of(leaf, p),
         }

@@ -163,6 +163,7 @@ fn whole_area(area: PlaneArea) -> StoredArea
 }
 
 /// Keeps the prediction of a leaf's whole area in a plane, where it is predicted from references.
+#[inline(always)]
 fn keep_whole<T: Pixel>(kept: &mut PredictedPlanes<T>, plane: &Plane<T>, block: &PlaneBlock)
     requires fits { InPlane (leaf_area block.now.area) plane.now }
     ensures { kept.new ≡ fold (kept_in T.num T.pixel block.now.plane plane.now) kept.old (whole_steps block.now) }
@@ -413,7 +414,7 @@ fn intra_block<T>(frame: &WalkedFrame<'_, T>, leaf: &Leaf, p: usize) -> PlaneBlo
         filter: frame.cells.filter_parameters(header, p, area),
         parts: None,
     };
-    PlaneBlock::of_leaf(header, leaf, p, near)
+    PlaneBlock::within(leaf, p, area, near)
 }
 
 /// The block of a leaf in plane `p`.
