@@ -1,5 +1,5 @@
 -- The words after the program's name.
-use Rattle.std.specs.Prelude.{◌≡◌, ℕ, ◌<◌, List, [], ◌∷◌, Some, codes}
+use Rattle.std.specs.Prelude.{◌≡◌, ℕ, ◌<◌, List, [], ◌∷◌, Option, Some, None, if◌then◌else◌, bytes_eq, codes}
 use Rattle.av1_recon.specs.Numbers.{number_of}
 
 -- the words, each given by its bytes, are one number, and not 0
@@ -8,6 +8,13 @@ IsCount [] count = ⊥
 IsCount (word ∷ []) count = (number_of word ≡ Some count) × (0 < count)
 IsCount (word ∷ other ∷ words) count = ⊥
 
--- the line for words that are no such number
+-- the number whose plan the words ask for: they are `make` and this number
+abbrev pub made_of : List (List ℕ) → Option ℕ
+made_of [] = None
+made_of (name ∷ []) = None
+made_of (name ∷ word ∷ []) = if bytes_eq name (codes "make") then number_of word else None
+made_of (name ∷ word ∷ other ∷ words) = None
+
+-- the line for words that are neither
 abbrev pub usage : List ℕ
-usage = codes "usage: bench N < plan\n"
+usage = codes "usage: bench N < plan | make N\n"

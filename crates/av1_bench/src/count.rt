@@ -1,7 +1,7 @@
-//! How often a plan is reconstructed.
+//! What the words after the program's name are.
 ghost use Rattle.std.specs.Prelude.{◌≡◌, ℕ, None, IfSome, map, string_bytes};
 ghost use Rattle.std.specs.NonZero.{non_zero_u32_get};
-ghost use Rattle.av1_bench.specs.Count.{IsCount};
+ghost use Rattle.av1_bench.specs.Count.{IsCount, made_of};
 
 use av1_recon::number_of;
 use std::num::NonZeroU32;
@@ -13,6 +13,21 @@ pub fn count_of(words: &[String]) -> Option<NonZeroU32>
 {
     match words {
         [word] => NonZeroU32::new(number_of(word.as_str())?),
+        _ => None,
+    }
+}
+
+/// The number whose plan the words after the program's name ask for: `make`, and a number.
+pub fn made_of(words: &[String]) -> Option<u32>
+    ensures { result ≡ made_of (map string_bytes words.now) }
+{
+    match words {
+        [name, word] => {
+            if name.as_str() != "make" {
+                return None;
+            }
+            number_of(word.as_str())
+        }
         _ => None,
     }
 }

@@ -1,18 +1,21 @@
 //! All that the program does.
-ghost use Rattle.std.specs.Prelude.{◌≡◌, ℕ, map, string_bytes};
+ghost use Rattle.std.specs.Prelude.{◌≡◌, ℕ, Some, None, map, string_bytes};
 ghost use Rattle.av1_recon.specs.Answers.{HasLine, status_of, line_of};
 ghost use Rattle.av1_recon.specs.Lines.{sum_lines};
 ghost use Rattle.av1_recon.specs.Outcomes.{Answer, Converts};
-ghost use Rattle.av1_bench.specs.Count.{IsCount, usage};
+ghost use Rattle.av1_recon.specs.Writing.{Writes};
+ghost use Rattle.av1_generate.specs.Generator.{plan_bytes_in};
+ghost use Rattle.av1_bench.specs.Count.{IsCount, made_of, usage};
 
 use crate::bench::bench;
-use crate::count::count_of;
-use av1_recon::{Sink, Source, report, say};
+use crate::count::{count_of, made_of};
+use av1_recon::{Sink, Source, report, say, write_made_in};
 use std::alloc::Global;
 
 /// Reads a plan from `source`, reconstructs it as often as the one word says, writes its four lines to `out`, and gives
-/// the exit status: that of `av1_recon::report` and its line on `err`, or 1 and a line of usage where the words are no
-/// number, or 0.
+/// the exit status: that of `av1_recon::report` and its line on `err`. By the words `make N` nothing is read, and the
+/// plan of the number N in the third version of the plan grammar is written. Of other words, and of 0, the status is 1,
+/// with a line of usage.
 pub fn run<R: Source, W: Sink, E: Sink>(
     alloc: Global,
     words: &[String],
@@ -21,13 +24,20 @@ pub fn run<R: Source, W: Sink, E: Sink>(
     err: &mut E,
 ) -> u8
     ensures no_number { ((count : ℕ) → ¬ IsCount (map string_bytes words.now) count) →
+        made_of (map string_bytes words.now) ≡ None →
         (result ≡ 1) × (source.new ≡ source.old) × (out.new ≡ out.old) × HasLine E.taken E.faults err.old err.new usage }
     ensures bench { (count : ℕ) → IsCount (map string_bytes words.now) count → (answer : Answer)
         × Converts sum_lines R.left R.faults W.taken W.faults source.old source.new out.old out.new answer
         × (result ≡ status_of answer) × HasLine E.taken E.faults err.old err.new (line_of answer) }
+    ensures made { (number : ℕ) → made_of (map string_bytes words.now) ≡ Some number →
+        (source.new ≡ source.old) × ((answer : Answer) × Writes W.taken W.faults out.old out.new (plan_bytes_in 3 number) answer
+        × (result ≡ status_of answer) × HasLine E.taken E.faults err.old err.new (line_of answer)) }
 {
+    if let Some(number) = made_of(words) {
+        return report(write_made_in(alloc, 3, number, out), err);
+    }
     let Some(count) = count_of(words) else {
-        say(b"usage: bench N < plan\n", err);
+        say(b"usage: bench N < plan | make N\n", err);
         return 1;
     };
     report(bench(alloc, count, source, out), err)

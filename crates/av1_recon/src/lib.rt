@@ -49,7 +49,7 @@ pub use error::{PlanRefusal, ReconError};
 pub use host::run_on_words;
 pub use laws::outcome_laws;
 pub use lines::write_sums;
-pub use made::{write_made, write_made_sums};
+pub use made::{write_made, write_made_in, write_made_sums};
 pub use number::number_of;
 pub use planes::{write_frame, write_planes};
 pub use predictions::write_with_predictions;
