@@ -15,7 +15,7 @@ add_products-requires g c =
     let sums : (k : ℕ) → k < 16 → IsWithin (2 ^ 25) (entry c.loop-pair.sums k) = λ k h.
     few_within c.loop-pair.pair _ (omega (arith, c.loop-pair-test.true)) (c.loop-pair.invariant.within k h) in
     let products : (k : ℕ) → k < 16 → IsWithin (2 ^ 25) (entry c.wide_pair_from-products.result k) =
-        λ k h. pair_wide _ (c.wide_pair_from-products.ensures.within k h) in
+    λ k h. pair_wide _ (c.wide_pair_from-products.ensures.within k h) in
     search (rules, sums, products)
 
 pub loop-pair-preserved : goal.loop-pair-preserved
