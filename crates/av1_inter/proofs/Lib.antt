@@ -9,6 +9,7 @@ pub mod Parts
 pub mod Blocks
 pub mod Values
 pub mod Corners
+pub mod Crossed
 pub mod Vectors
 pub mod Constants
 pub mod Fitting

@@ -94,12 +94,13 @@ pair_lane_is lanes w v xs ys i n h bw bv bx by =
     ∙ ap (λ z. sum_word x w y z) (to_z-of_z w16 v (weight_fits v bv))
     ∙ sum_word_is w v x y bw bv bx by
 
--- as many sums
-pub pairs_are : (lanes : ℕ) (w v : ℤ) (xs ys : List ℤ) → length xs ≡ lanes → Between 28 92 w → Between 28 92 v →
-    ((i : ℕ) → i < lanes → Between 0 32767 (entry xs i)) → ((i : ℕ) → i < lanes → Between 0 32767 (entry ys i))
-    → (i : ℕ) → i < lanes → entry (by_index lanes (pair_lane lanes w v xs ys)) i ≡ w *ℤ entry xs i +ℤ v *ℤ entry ys i
-pairs_are lanes w v xs ys n bw bv bx by i h =
-    get_or-by_index lanes (pair_lane lanes w v xs ys) i (pos 0) h ∙ pair_lane_is lanes w v xs ys i n h bw bv (bx i h) (by i h)
+-- as many sums, each from a place of its own
+pub pairs_are : (lanes : ℕ) (at : ℕ → ℕ) (w v : ℤ) (xs ys : List ℤ) → length xs ≡ lanes → ((i : ℕ) → i < lanes → at i < lanes) → Between 28 92 w →
+    Between 28 92 v → ((i : ℕ) → i < lanes → Between 0 32767 (entry xs i)) → ((i : ℕ) → i < lanes → Between 0 32767 (entry ys i))
+    → (i : ℕ) → i < lanes → entry (by_index lanes (λ i. pair_lane lanes w v xs ys (at i))) i ≡ w *ℤ entry xs (at i) +ℤ v *ℤ entry ys (at i)
+pairs_are lanes at w v xs ys n inside bw bv bx by i h =
+    let k = inside i h in
+    get_or-by_index lanes (λ i. pair_lane lanes w v xs ys (at i)) i (pos 0) h ∙ pair_lane_is lanes w v xs ys (at i) n k bw bv (bx (at i) k) (by (at i) k)
 
 -- a sample as a number
 pub sample_fits : (n : ℕ) → n < 32768 → FitsSigned w16 (pos n)
@@ -111,16 +112,16 @@ wider_fits (pos n) f = record { sfits = omega (arith, f.sfits) }
 wider_fits (negsuc n) f = record { sfits = omega (arith, f.sfits) }
 
 -- numbers of 16 bits in lanes of 32
-module _ (lanes : ℕ) (xs : List ℤ) (value : ℕ → ℤ) (count : length xs ≡ lanes) (are : (i : ℕ) → i < lanes → entry xs i ≡ value i)
+module _ (lanes : ℕ) (xs : List ℤ) (value : ℕ → ℤ) (are : (i : ℕ) → i < lanes → entry xs i ≡ value i)
     (small : (i : ℕ) → i < lanes → FitsSigned w16 (value i)) where
-  wide_lane : (i : ℕ) → i < lanes → to_z w32 (get_or (map (of_z w32) xs) i 0) ≡ value i
+  pub wide_lane : (i : ℕ) → i < lanes → to_z w32 (get_or (map (of_z w32) xs) i 0) ≡ value i
   wide_lane i h =
       ap (to_z w32) (get_or-map (of_z w32) xs i (pos 0)) ∙ ap (λ z. to_z w32 (of_z w32 z)) (are i h)
       ∙ to_z-of_z w32 (value i) (wider_fits (value i) (small i h))
 
   -- each fits 16 bits
-  pub lanes_fit : Each1 (λ n. FitsSigned w16 (to_z w32 n)) (map (of_z w32) xs)
-  lanes_fit =
+  pub lanes_fit : length xs ≡ lanes → Each1 (λ n. FitsSigned w16 (to_z w32 n)) (map (of_z w32) xs)
+  lanes_fit count =
       let P : ℕ → Type 0 = λ n. FitsSigned w16 (to_z w32 n) in
       let Q : ℤ → Type 0 = λ z. FitsSigned w16 z in
       Each1-from_get_or P (map (of_z w32) xs) 0 (λ i l. let h : i < lanes = omega (arith, count, length-map xs (of_z w32))

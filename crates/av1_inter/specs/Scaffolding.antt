@@ -1,6 +1,7 @@
 -- What the crate's own functions promise one another on the way. No public contract cites this file.
 use Rattle.std.specs.Prelude.{◌≡◌, ℕ, zero, suc, ◌+◌, ◌-◌, ◌*◌, ◌^◌, ◌≤◌, ◌<◌, ◌⊎◌, List, []}
-use Rattle.std.specs.Prelude.{◌∷◌, length, map, slice_index, ℤ, pos, negsuc, neg_ℤ, ◌+ℤ◌, ◌-ℤ◌, ◌*ℤ◌, ◌≤ℤ◌}
+use Rattle.std.specs.Prelude.{◌∷◌, length, map, slice_index, nat_lt, if◌then◌else◌, ℤ, pos, negsuc, neg_ℤ, ◌+ℤ◌}
+use Rattle.std.specs.Prelude.{◌-ℤ◌, ◌*ℤ◌, ◌≤ℤ◌}
 use Rattle.std.specs.Int.{int_shr, saturate_signed, w16}
 use Rattle.av1_blocks.specs.Depths.{IsDepth}
 use Rattle.av1_frame.specs.declared.plane_region.StoredArea.{StoredArea}
@@ -191,6 +192,10 @@ twice_filtered num roundings block halves r c =
 -- how many columns a strip may have
 abbrev pub IsStripWidth : ℕ → Type 0
 IsStripWidth n = (n ≡ 16) ⊎ ((n ≡ 8) ⊎ ((n ≡ 4) ⊎ (n ≡ 1)))
+
+-- the place of a column among 16 of which those from 4 to 7 and those from 8 to 11 have changed places
+abbrev pub crossed : ℕ → ℕ
+crossed c = if nat_lt c 4 then c else (if nat_lt c 8 then c + 4 else (if nat_lt c 12 then c - 4 else c))
 
 -- a part of a rectangle
 abbrev pub part_of : StoredArea → (x y width height : ℕ) → StoredArea

@@ -10,6 +10,7 @@ ghost use Rattle.av1_frame.specs.Areas.{AreRows};
 ghost use Rattle.av1_frame.specs.Samples.{paint, paint_row};
 ghost use Rattle.av1_frame.specs.Regions.{InStorage, painted};
 ghost use Rattle.av1_inter.specs.Motion.{averaged, bias, entry, intermediate_bits};
+ghost use Rattle.av1_inter.specs.Scaffolding.{Between};
 ghost use Rattle.av1_blocks.specs.Depths.{IsDepth};
 
 use crate::copies::copy_each;
@@ -30,7 +31,8 @@ fn held_sum(first: i16, second: i16) -> i16
 #[inline(always)]
 fn rise(bit_depth: usize) -> i16
     requires { IsDepth bit_depth }
-    ensures { result ≡ pos (2 ^ intermediate_bits bit_depth) +ℤ pos 2 *ℤ bias bit_depth }
+    ensures value { result ≡ pos (2 ^ intermediate_bits bit_depth) +ℤ pos 2 *ℤ bias bit_depth }
+    ensures small { Between 0 16400 result }
 {
     if bit_depth == 8 {
         16
@@ -41,13 +43,23 @@ fn rise(bit_depth: usize) -> i16
     }
 }
 
+/// The sum of a number and such a rise, or the greatest number of 16 bits.
+#[inline(always)]
+fn raised(number: i16, rise: i16) -> i16
+    requires { Between 0 16400 rise }
+    ensures { result ≡ saturate_signed w16 (number +ℤ rise) }
+{
+    // Cut before the sum, it never leaves 16 bits.
+    number.min(32767 - rise) + rise
+}
+
 /// The number of the sample of two prepared values.
 #[inline(always)]
 fn average_number(first: i16, second: i16, bit_depth: usize) -> i16
     requires { IsDepth bit_depth }
     ensures { result ≡ pos (averaged bit_depth first second) }
 {
-    let sum = held_sum(held_sum(first, second), rise(bit_depth));
+    let sum = raised(held_sum(first, second), rise(bit_depth));
     (sum >> (intermediate_bits(bit_depth) + 1))
         .max(0)
         .min(greatest(bit_depth))

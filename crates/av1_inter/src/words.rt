@@ -8,7 +8,7 @@
 
 ghost use Rattle.std.specs.Prelude.{◌≡◌, ℕ, ◌+◌, ◌*◌, ◌^◌, ◌≤◌, ◌<◌, nat_lt, if◌then◌else◌, pos, ◌+ℤ◌, ◌*ℤ◌, length, map, slice_index};
 ghost use Rattle.av1_inter.specs.Motion.{entry};
-ghost use Rattle.av1_inter.specs.Scaffolding.{AreZero, Between, doubled, IsFilter, IsRounding, IsWithin, settled, sum_from};
+ghost use Rattle.av1_inter.specs.Scaffolding.{AreZero, Between, crossed, doubled, IsFilter, IsRounding, IsWithin, settled, sum_from};
 
 use crate::rounding::Rounding;
 use av1_blocks::SUBPEL_FILTER_SIZE;
@@ -35,7 +35,7 @@ const NEAR: [usize; 16] = [0, 16, 1, 17, 2, 18, 3, 19, 8, 24, 9, 25, 10, 26, 11,
 
 const FAR: [usize; 16] = [4, 20, 5, 21, 6, 22, 7, 23, 12, 28, 13, 29, 14, 30, 15, 31];
 
-/// Where the sums of the columns 0 to 15 stand behind one another in those of the first and of the others.
+/// Where the columns 0 to 15 stand in numbers of these columns, one after another, and of the others behind them.
 const IN_ORDER: [usize; 16] = [0, 1, 2, 3, 8, 9, 10, 11, 4, 5, 6, 7, 12, 13, 14, 15];
 
 /// Sample `c` of the `N` from a place on, and 0 behind them.
@@ -112,14 +112,15 @@ fn sixteen_from<T: Pixel>(source: &[T], start: usize) -> [i16; 16]
     i32x16::from_array(values).cast::<i16>().to_array()
 }
 
-/// Each of 16 numbers times a weight, and the one at the same place of 16 others times another.
+/// Each of 16 numbers times a weight, and the one at the same place of 16 others times another. Those of the columns 0
+/// to 3 and 8 to 11 stand before the others: `crossed` says where.
 #[inline(always)]
 fn wide_pair_sums(first: [i16; 16], second: [i16; 16], weight: i16, other: i16) -> [i32; 16]
     requires first { (c : ℕ) → c < 16 → Between 0 32767 (entry first c) }
     requires second { (c : ℕ) → c < 16 → Between 0 32767 (entry second c) }
     requires weight { Between 28 92 weight }
     requires other { Between 28 92 other }
-    ensures { (c : ℕ) → c < 16 → entry result c ≡ weight *ℤ entry first c +ℤ other *ℤ entry second c }
+    ensures { (c : ℕ) → c < 16 → entry result c ≡ weight *ℤ entry first (crossed c) +ℤ other *ℤ entry second (crossed c) }
 {
     let first = i16x16::from_array(first);
     let second = i16x16::from_array(second);
@@ -139,7 +140,7 @@ fn wide_pair_sums(first: [i16; 16], second: [i16; 16], weight: i16, other: i16) 
         + near.swizzle([1, 3, 5, 7, 9, 11, 13, 15]);
     let far: i32x8 = far.swizzle([0, 2, 4, 6, 8, 10, 12, 14])
         + far.swizzle([1, 3, 5, 7, 9, 11, 13, 15]);
-    near.shuffle(far, IN_ORDER).to_array()
+    near.shuffle(far, EACH).to_array()
 }
 
 /// Two of the eight products of a sum, added: those of the halved weights `at` and `at + 1`, from each of `N` places
@@ -169,7 +170,7 @@ fn pair_from<T: Pixel, const N: usize>(
     )
 }
 
-/// The same from each of 16 places on.
+/// The same from each of 16 places on, in crossed order.
 #[inline(always)]
 fn wide_pair_from<T: Pixel>(
     source: &[T],
@@ -183,8 +184,8 @@ fn wide_pair_from<T: Pixel>(
     requires reach { start + 16 + 7 * step ≤ length source.now }
     requires small { (c t : ℕ) → c < 16 → t < 8 → slice_index (map T.num source.now) (start + c + t * step) < 32768 }
     ensures value { (c : ℕ) → c < 16 →
-        entry result c ≡ entry halves.now at *ℤ pos (slice_index (map T.num source.now) (start + c + at * step)) +ℤ entry halves.now (at + 1) *ℤ pos
-        (slice_index (map T.num source.now) (start + c + (at + 1) * step)) }
+        entry result c ≡ entry halves.now at *ℤ pos (slice_index (map T.num source.now) (start + crossed c + at * step)) +ℤ
+        entry halves.now (at + 1) *ℤ pos (slice_index (map T.num source.now) (start + crossed c + (at + 1) * step)) }
     ensures within { (c : ℕ) → c < 16 → IsWithin (2 ^ 23) (entry result c) }
 {
     wide_pair_sums(
@@ -232,7 +233,7 @@ fn eight_sums<T: Pixel, const N: usize, const ZEROS: usize>(
     sums
 }
 
-/// The same from each of 16 places on.
+/// The same from each of 16 places on, in crossed order.
 #[inline(always)]
 fn sixteen_sums<T: Pixel, const ZEROS: usize>(
     source: &[T],
@@ -245,7 +246,7 @@ fn sixteen_sums<T: Pixel, const ZEROS: usize>(
     requires zeros { AreZero ZEROS halves.now }
     requires reach { start + 16 + 7 * step ≤ length source.now }
     requires small { (c t : ℕ) → c < 16 → t < 8 → slice_index (map T.num source.now) (start + c + t * step) < 32768 }
-    ensures value { (c : ℕ) → c < 16 → entry result c ≡ sum_from halves.now (λ i. pos (slice_index (map T.num source.now) i)) (start + c) step }
+    ensures value { (c : ℕ) → c < 16 → entry result c ≡ sum_from halves.now (λ i. pos (slice_index (map T.num source.now) i)) (start + crossed c) step }
     ensures within { (c : ℕ) → c < 16 → IsWithin (2 ^ 25) (entry result c) }
 {
     let mut sums = [0; 16];
@@ -303,18 +304,20 @@ fn settle_eight(sums: &[i32; 8], rounding: Rounding) -> [i16; 8]
     i32x8::from_array(values).cast::<i16>().to_array()
 }
 
-/// What 16 such sums become.
+/// What 16 such sums become that stand in crossed order: they are put in order. A compiler would do that where sums
+/// begin, but doesn't move it past their limits.
 #[inline(always)]
 fn settle_sixteen(sums: &[i32; 16], rounding: Rounding) -> [i16; 16]
     requires rounding { IsRounding rounding }
     requires within { (c : ℕ) → c < 16 → IsWithin (2 ^ 25) (entry sums.now c) }
-    ensures { (c : ℕ) → c < 16 → entry result c ≡ settled rounding (entry sums.now c) }
+    ensures { (c : ℕ) → c < 16 → entry result c ≡ settled rounding (entry sums.now (crossed c)) }
 {
     let mut values = [0; 16];
     for c in 0..16 {
         values[c] = settle(sums[c], rounding);
     }
-    i32x16::from_array(values).cast::<i16>().to_array()
+    let values: i32x16 = i32x16::from_array(values).swizzle(IN_ORDER);
+    values.cast::<i16>().to_array()
 }
 
 /// The first `N` of some numbers.

@@ -29,17 +29,17 @@ loop-c-preserved g c =
 pub overflow_cast-result : goal.overflow_cast-result
 overflow_cast-result g c =
     lanes_fit 8 c.loop-c.values (λ q. pos (cond (ltb q g.row.N) (slice_index (map g.T.Pixel.num c.args.source.now) (c.args.start + q)) 0))
-    c.loop-c.invariant.long (λ q h. c.loop-c.invariant.value q (omega arith)) (λ q h. sample_fits _ (some_small q g.row.N _ (c.requires.small q)))
+    (λ q h. c.loop-c.invariant.value q (omega arith)) (λ q h. sample_fits _ (some_small q g.row.N _ (c.requires.small q))) c.loop-c.invariant.long
 
 pub returns-clause-value : goal.returns-clause-value
 returns-clause-value g c = λ q h b.
     lanes_are 8 c.loop-c.values (λ q. pos (cond (ltb q g.row.N) (slice_index (map g.T.Pixel.num c.args.source.now) (c.args.start + q)) 0))
-    c.loop-c.invariant.long (λ q h. c.loop-c.invariant.value q (omega arith)) (λ q h. sample_fits _ (some_small q g.row.N _ (c.requires.small q))) q h
+    (λ q h. c.loop-c.invariant.value q (omega arith)) (λ q h. sample_fits _ (some_small q g.row.N _ (c.requires.small q))) q h
     ∙ ap pos (inside_is q g.row.N _ b)
 
 pub returns-clause-within : goal.returns-clause-within
 returns-clause-within g c = λ q h.
     sample_between _ _
     (lanes_are 8 c.loop-c.values (λ q. pos (cond (ltb q g.row.N) (slice_index (map g.T.Pixel.num c.args.source.now) (c.args.start + q)) 0))
-    c.loop-c.invariant.long (λ q h. c.loop-c.invariant.value q (omega arith)) (λ q h. sample_fits _ (some_small q g.row.N _ (c.requires.small q))) q h)
+    (λ q h. c.loop-c.invariant.value q (omega arith)) (λ q h. sample_fits _ (some_small q g.row.N _ (c.requires.small q))) q h)
     (some_small q g.row.N _ (c.requires.small q))

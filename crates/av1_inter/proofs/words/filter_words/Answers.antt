@@ -1,5 +1,6 @@
-use Rattle.std.proofs.Common.{arith, rules, ◌∙◌, ◌≡◌, ◌+◌, ◌*◌, ◌<◌, ℕ, ap, map, slice_index}
-use Rattle.av1_inter.specs.Scaffolding.{settled}
+use Rattle.std.proofs.Common.{arith, rules, ◌∙◌, ◌≡◌, ◌+◌, ◌*◌, ◌<◌, ℕ, ap, pos, map, slice_index}
+use Rattle.av1_inter.specs.Scaffolding.{crossed, settled, sum_from}
+use Rattle.av1_inter.proofs.Crossed.{crossed_below, crossed_twice}
 use Rattle.av1_inter.proofs.words.filter_words.Goals as goal
 
 pub sixteen_sums-sums-requires : goal.sixteen_sums-sums-requires
@@ -12,4 +13,8 @@ sixteen_sums-sums-requires g c =
 pub returns-then-this-eq16 : goal.returns-then-this-eq16
 returns-then-this-eq16 g c = λ k h.
     let b : k < 16 = omega (arith, c.if-this-eq16.true, h) in
-    c.first_of.ensures k h ∙ c.settle_sixteen.ensures k b ∙ ap (settled c.args.rounding) (c.sixteen_sums-sums.ensures.value k b)
+    let o = crossed_below k b in
+    let value =
+    λ (n : ℕ). settled c.args.rounding (sum_from c.args.halves.now (λ i. pos (slice_index (map g.T.Pixel.num c.args.source.now) i)) n c.args.step) in
+    c.first_of.ensures k h ∙ c.settle_sixteen.ensures k b
+    ∙ ap (settled c.args.rounding) (c.sixteen_sums-sums.ensures.value (crossed k) o) ∙ ap (λ (n : ℕ). value (c.args.start + n)) (crossed_twice k b)

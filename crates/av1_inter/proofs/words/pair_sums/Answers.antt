@@ -19,4 +19,5 @@ overflow_cast-high c =
 pub returns : goal.returns
 returns c =
     let n : length c.args.first ≡ 8 = search rules in
-    pairs_are 8 c.args.weight c.args.other c.args.first c.args.second n c.requires.weight c.requires.other c.requires.first c.requires.second
+    pairs_are 8 (λ i. i) c.args.weight c.args.other c.args.first c.args.second n (λ i h. h) c.requires.weight c.requires.other c.requires.first
+        c.requires.second

@@ -19,10 +19,10 @@ loop-c-preserved c =
 
 pub overflow_cast-result : goal.overflow_cast-result
 overflow_cast-result c =
-    lanes_fit 8 c.loop-c.values (λ k. settled c.args.rounding (entry c.args.sums.now k)) c.loop-c.invariant.long
-    (λ k h. c.loop-c.invariant.value k (omega arith)) (λ k h. cut_fits _)
+    lanes_fit 8 c.loop-c.values (λ k. settled c.args.rounding (entry c.args.sums.now k))
+    (λ k h. c.loop-c.invariant.value k (omega arith)) (λ k h. cut_fits _) c.loop-c.invariant.long
 
 pub returns : goal.returns
 returns c =
-    lanes_are 8 c.loop-c.values (λ k. settled c.args.rounding (entry c.args.sums.now k)) c.loop-c.invariant.long
+    lanes_are 8 c.loop-c.values (λ k. settled c.args.rounding (entry c.args.sums.now k))
     (λ k h. c.loop-c.invariant.value k (omega arith)) (λ k h. cut_fits _)

@@ -4,7 +4,7 @@ use Rattle.av1_inter.specs.Motion.{entry}
 use Rattle.av1_inter.specs.Scaffolding.{settled}
 use Rattle.av1_inter.proofs.Fill.{line_more, line_none}
 use Rattle.av1_inter.proofs.HeldSums.{cut_fits}
-use Rattle.av1_inter.proofs.PairSums.{lanes_are, lanes_fit}
+use Rattle.av1_inter.proofs.Crossed.{crossing_is, lane_fits}
 use Rattle.av1_inter.proofs.words.settle_sixteen.Goals as goal
 
 pub loop-c-init : goal.loop-c-init
@@ -19,10 +19,57 @@ loop-c-preserved c =
 
 pub overflow_cast-result : goal.overflow_cast-result
 overflow_cast-result c =
-    lanes_fit 16 c.loop-c.values (λ k. settled c.args.rounding (entry c.args.sums.now k)) c.loop-c.invariant.long
-    (λ k h. c.loop-c.invariant.value k (omega arith)) (λ k h. cut_fits _)
+    let f = lane_fits c.loop-c.values (λ k. settled c.args.rounding (entry c.args.sums.now k)) c.loop-c.invariant.long
+        (λ k h. c.loop-c.invariant.value k (omega arith)) (λ k h. cut_fits _) in (
+      f 0 (omega arith),
+      (
+        f 1 (omega arith),
+        (
+          f 2 (omega arith),
+          (
+            f 3 (omega arith),
+            (
+              f 8 (omega arith),
+              (
+                f 9 (omega arith),
+                (
+                  f 10 (omega arith),
+                  (
+                    f 11
+                        (omega arith),
+                    (
+                      f 4 (omega arith),
+                      (
+                        f 5 (omega arith),
+                        (
+                          f 6 (omega arith),
+                          (
+                            f 7 (omega arith),
+                            (
+                              f 12 (omega arith),
+                              (
+                                f 13 (omega arith),
+                                (
+                                  f 14
+                                      (omega arith),
+                                  (f 15 (omega arith), tt),
+                                ),
+                              ),
+                            ),
+                          ),
+                        ),
+                      ),
+                    ),
+                  ),
+                ),
+              ),
+            ),
+          ),
+        ),
+      ),
+    )
 
 pub returns : goal.returns
 returns c =
-    lanes_are 16 c.loop-c.values (λ k. settled c.args.rounding (entry c.args.sums.now k)) c.loop-c.invariant.long
+    crossing_is c.loop-c.values (λ k. settled c.args.rounding (entry c.args.sums.now k)) c.loop-c.invariant.long
     (λ k h. c.loop-c.invariant.value k (omega arith)) (λ k h. cut_fits _)

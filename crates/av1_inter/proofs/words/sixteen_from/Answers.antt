@@ -17,16 +17,16 @@ loop-c-preserved g c =
 pub overflow_cast-result : goal.overflow_cast-result
 overflow_cast-result g c =
     lanes_fit 16 c.loop-c.values (λ q. pos (slice_index (map g.T.Pixel.num c.args.source.now) (c.args.start + q)))
-    c.loop-c.invariant.long (λ q h. c.loop-c.invariant.value q (omega arith)) (λ q h. sample_fits _ (c.requires.small q h))
+    (λ q h. c.loop-c.invariant.value q (omega arith)) (λ q h. sample_fits _ (c.requires.small q h)) c.loop-c.invariant.long
 
 pub returns-clause-value : goal.returns-clause-value
 returns-clause-value g c =
     lanes_are 16 c.loop-c.values (λ q. pos (slice_index (map g.T.Pixel.num c.args.source.now) (c.args.start + q)))
-    c.loop-c.invariant.long (λ q h. c.loop-c.invariant.value q (omega arith)) (λ q h. sample_fits _ (c.requires.small q h))
+    (λ q h. c.loop-c.invariant.value q (omega arith)) (λ q h. sample_fits _ (c.requires.small q h))
 
 pub returns-clause-within : goal.returns-clause-within
 returns-clause-within g c = λ q h.
     sample_between _ _
     (lanes_are 16 c.loop-c.values (λ q. pos (slice_index (map g.T.Pixel.num c.args.source.now) (c.args.start + q)))
-    c.loop-c.invariant.long (λ q h. c.loop-c.invariant.value q (omega arith)) (λ q h. sample_fits _ (c.requires.small q h)) q h)
+    (λ q h. c.loop-c.invariant.value q (omega arith)) (λ q h. sample_fits _ (c.requires.small q h)) q h)
     (c.requires.small q h)

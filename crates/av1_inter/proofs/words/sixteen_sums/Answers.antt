@@ -1,13 +1,13 @@
 use Rattle.std.proofs.Common.{arith, rules, ◌≡◌, ◌+◌, ◌-◌, ◌*◌, ◌^◌, ◌<◌, ◌∙◌, ℕ, ap, pos, map, slice_index, ◌*ℤ◌}
 use Rattle.av1_inter.specs.Motion.{entry, sum_to}
-use Rattle.av1_inter.specs.Scaffolding.{IsWithin}
+use Rattle.av1_inter.specs.Scaffolding.{crossed, IsWithin}
 use Rattle.av1_inter.proofs.Sums.{sum_ends}
 use Rattle.av1_inter.proofs.EightSums.{few_within, next_within, no_pairs, pair_next, pair_wide}
 use Rattle.av1_inter.proofs.words.sixteen_sums.Goals as goal
 
 pub loop-pair-init : goal.loop-pair-init
 loop-pair-init g c =
-    no_pairs 16 16 g.row.ZEROS c.args.halves.now (λ k t. pos (slice_index (map g.T.Pixel.num c.args.source.now) (c.args.start + k + t * c.args.step)))
+    no_pairs 16 16 g.row.ZEROS c.args.halves.now (λ k t. pos (slice_index (map g.T.Pixel.num c.args.source.now) (c.args.start + crossed k + t * c.args.step)))
     c.requires.few c.requires.zeros
 
 pub add_products-requires : goal.add_products-requires
@@ -15,7 +15,7 @@ add_products-requires g c =
     let sums : (k : ℕ) → k < 16 → IsWithin (2 ^ 25) (entry c.loop-pair.sums k) = λ k h.
     few_within c.loop-pair.pair _ (omega (arith, c.loop-pair-test.true)) (c.loop-pair.invariant.within k h) in
     let products : (k : ℕ) → k < 16 → IsWithin (2 ^ 25) (entry c.wide_pair_from-products.result k) =
-        λ k h. pair_wide _ (c.wide_pair_from-products.ensures.within k h) in
+    λ k h. pair_wide _ (c.wide_pair_from-products.ensures.within k h) in
     search (rules, sums, products)
 
 pub loop-pair-preserved : goal.loop-pair-preserved
@@ -24,7 +24,8 @@ loop-pair-preserved g c =
     let e : g.row.ZEROS + 2 * (c.loop-pair.pair + 1) ≡ n + 2 = omega arith in
     record {
       known = λ k h b.
-          pair_next (λ t. entry c.args.halves.now t *ℤ pos (slice_index (map g.T.Pixel.num c.args.source.now) (c.args.start + k + t * c.args.step))) n _ _ _ _
+          pair_next (λ t. entry c.args.halves.now t *ℤ pos (slice_index (map g.T.Pixel.num c.args.source.now) (c.args.start + crossed k + t * c.args.step)))
+              n _ _ _ _
           (c.loop-pair.invariant.known k h b) (c.wide_pair_from-products.ensures.value k h) e (c.add_products.ensures k h);
       within = λ k h.
           next_within c.loop-pair.pair _ _ _ _ (c.loop-pair.invariant.within k h) (c.wide_pair_from-products.ensures.within k h) (omega arith)
@@ -33,7 +34,7 @@ loop-pair-preserved g c =
 
 pub returns-clause-value : goal.returns-clause-value
 returns-clause-value g c = λ k h.
-    let value = λ (t : ℕ). pos (slice_index (map g.T.Pixel.num c.args.source.now) (c.args.start + k + t * c.args.step)) in
+    let value = λ (t : ℕ). pos (slice_index (map g.T.Pixel.num c.args.source.now) (c.args.start + crossed k + t * c.args.step)) in
     let e : g.row.ZEROS + 2 * c.loop-pair.pair ≡ 8 - g.row.ZEROS = omega (arith, c.requires.few, c.loop-pair-test.false, c.loop-pair.auto.pair-end) in
     sum_ends g.row.ZEROS c.args.halves.now value _ c.requires.few c.requires.zeros
     (c.loop-pair.invariant.known k h h ∙ ap (λ (n : ℕ). sum_to n (λ t. entry c.args.halves.now t *ℤ value t)) e)

@@ -34,7 +34,7 @@ add_products-requires c =
     let sums : (k : ℕ) → k < 8 → IsWithin (2 ^ 25) (entry c.pair_sums-sums.result k) = λ k h.
     pair_wide _ (pair_within (entry w 2) (entry w 3) _ _ _ (half_weight_between w 2 c.requires.filter (omega arith))
     (half_weight_between w 3 c.requires.filter (omega arith)) (c.requires.values k h) (turned_between 1 c.args.values n c.requires.values k h)
-        (search rules)) in
+    (search rules)) in
     let products : (k : ℕ) → k < 8 → IsWithin (2 ^ 25) (entry c.pair_sums-others.result k) = λ k h.
     pair_wide _ (pair_within (entry w 4) (entry w 5) _ _ _ (half_weight_between w 4 c.requires.filter (omega arith))
     (half_weight_between w 5 c.requires.filter (omega arith)) (turned_between 2 c.args.values n c.requires.values k h)

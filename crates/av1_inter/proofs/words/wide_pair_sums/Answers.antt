@@ -1,4 +1,6 @@
 use Rattle.std.proofs.Common.{rules, ◌≡◌, length}
+use Rattle.av1_inter.specs.Scaffolding.{crossed}
+use Rattle.av1_inter.proofs.Crossed.{crossed_below}
 use Rattle.av1_inter.proofs.PairSums.{pairs_are, weight_word_fits, word_fits}
 use Rattle.av1_inter.proofs.words.wide_pair_sums.Goals as goal
 
@@ -173,4 +175,5 @@ overflow_cast-far c =
 pub returns : goal.returns
 returns c =
     let n : length c.args.first ≡ 16 = search rules in
-    pairs_are 16 c.args.weight c.args.other c.args.first c.args.second n c.requires.weight c.requires.other c.requires.first c.requires.second
+    pairs_are 16 crossed c.args.weight c.args.other c.args.first c.args.second n crossed_below c.requires.weight c.requires.other c.requires.first
+        c.requires.second
