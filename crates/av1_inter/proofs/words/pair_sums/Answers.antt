@@ -20,4 +20,4 @@ pub returns : goal.returns
 returns c =
     let n : length c.args.first ≡ 8 = search rules in
     pairs_are 8 (λ i. i) c.args.weight c.args.other c.args.first c.args.second n (λ i h. h) c.requires.weight c.requires.other c.requires.first
-        c.requires.second
+    c.requires.second

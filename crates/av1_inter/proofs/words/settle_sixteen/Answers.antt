@@ -20,7 +20,7 @@ loop-c-preserved c =
 pub overflow_cast-result : goal.overflow_cast-result
 overflow_cast-result c =
     let f = lane_fits c.loop-c.values (λ k. settled c.args.rounding (entry c.args.sums.now k)) c.loop-c.invariant.long
-        (λ k h. c.loop-c.invariant.value k (omega arith)) (λ k h. cut_fits _) in (
+    (λ k h. c.loop-c.invariant.value k (omega arith)) (λ k h. cut_fits _) in (
       f 0 (omega arith),
       (
         f 1 (omega arith),

@@ -25,7 +25,7 @@ loop-pair-preserved g c =
     record {
       known = λ k h b.
           pair_next (λ t. entry c.args.halves.now t *ℤ pos (slice_index (map g.T.Pixel.num c.args.source.now) (c.args.start + crossed k + t * c.args.step)))
-              n _ _ _ _
+          n _ _ _ _
           (c.loop-pair.invariant.known k h b) (c.wide_pair_from-products.ensures.value k h) e (c.add_products.ensures k h);
       within = λ k h.
           next_within c.loop-pair.pair _ _ _ _ (c.loop-pair.invariant.within k h) (c.wide_pair_from-products.ensures.within k h) (omega arith)

@@ -176,4 +176,4 @@ pub returns : goal.returns
 returns c =
     let n : length c.args.first ≡ 16 = search rules in
     pairs_are 16 crossed c.args.weight c.args.other c.args.first c.args.second n crossed_below c.requires.weight c.requires.other c.requires.first
-        c.requires.second
+    c.requires.second
