@@ -1,13 +1,14 @@
 #!/usr/bin/env python3
 """Counts what recorded clips take here and in dav1d.
 
-usage: measure.py [--tools PATH] [--time ROUNDS] FOLDER..
+usage: measure.py [--tools PATH] [--tools-v3 PATH] [--time ROUNDS] FOLDER..
 
 FOLDER is a folder of `integrations/rav1e/record`: its sequence goes through `av1_tools sequence`, its bits through dav1d in
 one thread: in plain C, by its assembler for processors up to SSE4.1, which is what this project is built for, and by that with
-AVX2. TOOLS is the built av1_tools: by default $AV1_TOOLS, else what `rt run` leaves in crates/av1_tools/out. Instructions of
-whole runs are counted by callgrind; with --time stand medians of so many rounds beside them, in milliseconds, the programs in
-turn.
+AVX2. TOOLS is the built av1_tools: by default $AV1_TOOLS, else what `rt run` leaves in crates/av1_tools/out. With --tools-v3 a
+second one stands beside it, built by `rt run --cpu x86-64-v3`, whose registers are those of AVX2: it is what is compared with
+AVX2 then. Instructions of whole runs are counted by callgrind; with --time stand medians of so many rounds beside them, in
+milliseconds, the programs in turn.
 
 dav1d reads bits that are entropy coded, which this project does not, and this project reads coefficients that are written in
 plain bytes. Needs dav1d and valgrind: apt-get install dav1d valgrind.
@@ -24,14 +25,22 @@ import time
 
 HERE = os.path.dirname(os.path.abspath(__file__))
 BUILT = os.path.normpath(os.path.join(HERE, "../../crates/av1_tools/out/av1_tools"))
-PROGRAMS = ("here", "plain C", "SSE4.1", "AVX2")
+# dav1d's assembler, and the word that asks for no more of it.
+MASKS = {"plain C": "0", "SSE4.1": "sse41", "AVX2": "avx2"}
 
 
-def commands(tools, folder):
-    """The four programs, each as its words and the file on its standard input."""
-    bits = os.path.join(folder, "clip.ivf")
+def commands(built, folder):
+    """The programs by name, each as its words and the file on its standard input: this project's builds, and dav1d."""
+    bits, sequence = os.path.join(folder, "clip.ivf"), os.path.join(folder, "sequence")
     dav1d = ["dav1d", "-q", "-i", bits, "--threads", "1", "--muxer", "null", "-o", "-", "--cpumask"]
-    return ([tools, "sequence"], os.path.join(folder, "sequence")), *(([*dav1d, mask], os.devnull) for mask in ("0", "sse41", "avx2"))
+    here = {name: ([path, "sequence"], sequence) for name, path in built.items()}
+    return here | {name: ([*dav1d, mask], os.devnull) for name, mask in MASKS.items()}
+
+
+def pairs(built):
+    """Which build is compared with which assembler: the last one, for the newest processor, with AVX2, else the first."""
+    first, last = list(built)[0], list(built)[-1]
+    return [(last if there == "AVX2" else first, there) for there in MASKS]
 
 
 def run(words, file):
@@ -50,38 +59,43 @@ def instructions(words, file):
 
 def times(programs, rounds):
     """The median time of each program in milliseconds, the programs in turn."""
-    taken = [[] for _ in programs]
+    taken = {name: [] for name in programs}
     for _ in range(rounds):
-        for words_and_file, found in zip(programs, taken):
+        for name, words_and_file in programs.items():
             begun = time.perf_counter()
             run(*words_and_file)
-            found.append(1000 * (time.perf_counter() - begun))
-    return [statistics.median(found) for found in taken]
+            taken[name].append(1000 * (time.perf_counter() - begun))
+    return {name: statistics.median(found) for name, found in taken.items()}
 
 
-def line(name, found):
-    ratios = " | ".join(f"{found[0] / there:.2f}" for there in found[1:])
-    return f"| {name} | {' | '.join(f'{it:.1f}' for it in found)} | {ratios} |"
+def line(name, found, compared):
+    ratios = " | ".join(f"{found[here] / found[there]:.2f}" for here, there in compared)
+    return f"| {name} | {' | '.join(f'{it:.1f}' for it in found.values())} | {ratios} |"
 
 
 def main():
     parser = argparse.ArgumentParser(description=__doc__, formatter_class=argparse.RawDescriptionHelpFormatter)
     parser.add_argument("--tools", default=os.environ.get("AV1_TOOLS", BUILT))
+    parser.add_argument("--tools-v3", metavar="PATH")
     parser.add_argument("--time", type=int, default=0, metavar="ROUNDS")
     parser.add_argument("folders", nargs="+", metavar="FOLDER")
     options = parser.parse_args()
     missing = [name for name in ("dav1d", "valgrind") if not shutil.which(name)]
     if missing:
         sys.exit(f"missing: {' '.join(missing)} (apt-get install {' '.join(missing)})")
-    if not os.access(options.tools, os.X_OK):
-        sys.exit(f"missing: {options.tools}, which `rt run` in crates/av1_tools builds")
-    print("| clip | " + " | ".join([*PROGRAMS, *(f"here / {it}" for it in PROGRAMS[1:])]) + " |\n|" + "---|" * 8)
+    built = {"here": options.tools} | ({"here, v3": options.tools_v3} if options.tools_v3 else {})
+    for path in built.values():
+        if not os.access(path, os.X_OK):
+            sys.exit(f"missing: {path}, which `rt run` in crates/av1_tools builds")
+    compared = pairs(built)
+    titles = ["clip", *built, *MASKS, *(f"{here} / {there}" for here, there in compared)]
+    print(f"| {' | '.join(titles)} |\n|{'---|' * len(titles)}")
     for folder in options.folders:
-        programs = commands(options.tools, folder)
+        programs = commands(built, folder)
         name = os.path.basename(os.path.normpath(folder))
-        print(line(name, [instructions(*it) for it in programs]), flush=True)
+        print(line(name, {it: instructions(*given) for it, given in programs.items()}, compared), flush=True)
         if options.time:
-            print(line(name + ", ms", times(programs, options.time)), flush=True)
+            print(line(name + ", ms", times(programs, options.time), compared), flush=True)
 
 
 if __name__ == "__main__":
