@@ -33,7 +33,7 @@ def commands(built, folder):
     """The programs by name, each as its words and the file on its standard input: this project's builds, and dav1d."""
     bits, sequence = os.path.join(folder, "clip.ivf"), os.path.join(folder, "sequence")
     dav1d = ["dav1d", "-q", "-i", bits, "--threads", "1", "--muxer", "null", "-o", "-", "--cpumask"]
-    here = {name: ([path, "sequence"], sequence) for name, path in built.items()}
+    here = {name: ([os.path.abspath(path), "sequence"], sequence) for name, path in built.items()}
     return here | {name: ([*dav1d, mask], os.devnull) for name, mask in MASKS.items()}
 
 
