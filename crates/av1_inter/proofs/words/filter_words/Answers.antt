@@ -1,4 +1,4 @@
-use Rattle.std.proofs.Common.{arith, rules, ◌∙◌, ◌≡◌, ◌+◌, ◌*◌, ◌<◌, ℕ, ap, pos, map, slice_index}
+use Rattle.std.proofs.Common.{arith, rules, ◌∙◌, ◌+◌, ◌*◌, ◌<◌, ℕ, ap, pos, map, slice_index}
 use Rattle.av1_inter.specs.Scaffolding.{crossed, settled, sum_from}
 use Rattle.av1_inter.proofs.Crossed.{crossed_below, crossed_twice}
 use Rattle.av1_inter.proofs.words.filter_words.Goals as goal

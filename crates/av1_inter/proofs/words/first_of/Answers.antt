@@ -1,4 +1,4 @@
-use Rattle.std.proofs.Common.{arith, rules, ◌∙◌, w16, FitsSigned}
+use Rattle.std.proofs.Common.{arith, rules, w16, FitsSigned}
 use Rattle.std.proofs.lemmas.Int.{to_z-of_z}
 use Rattle.av1_inter.specs.Motion.{entry}
 use Rattle.av1_inter.proofs.Fill.{line_more, line_none}
