@@ -35,7 +35,7 @@ const NEAR: [usize; 16] = [0, 16, 1, 17, 2, 18, 3, 19, 8, 24, 9, 25, 10, 26, 11,
 
 const FAR: [usize; 16] = [4, 20, 5, 21, 6, 22, 7, 23, 12, 28, 13, 29, 14, 30, 15, 31];
 
-/// Where the columns 0 to 15 stand in numbers of these columns, one after another, and of the others behind them.
+/// Where the columns 0 to 15 stand among the columns of `NEAR` with those of `FAR` behind them.
 const IN_ORDER: [usize; 16] = [0, 1, 2, 3, 8, 9, 10, 11, 4, 5, 6, 7, 12, 13, 14, 15];
 
 /// Sample `c` of the `N` from a place on, and 0 behind them.
