@@ -96,15 +96,19 @@ fn filter_row<T: Pixel, E: Copy, W: Writer<E>, const N: usize, const ZEROS: usiz
 }
 
 /// The same taps. Where `ALONE` is true no other filter is laid, and a compiler knows how far its sums are shifted and
-/// what is taken off.
+/// what is taken off. For 16 columns of two-byte samples it isn't told: then it holds sums within their limits and cuts
+/// them to 16 bits in one step, and else in two.
 #[inline(always)]
-fn known_taps<E: Copy, W: Writer<E>, const ALONE: bool>(taps: &Taps, bit_depth: usize) -> Taps
+fn known_taps<T: Pixel, E: Copy, W: Writer<E>, const N: usize, const ALONE: bool>(
+    taps: &Taps,
+    bit_depth: usize,
+) -> Taps
     requires depths { IsDepth bit_depth }
     requires alone { ALONE ≡ true → IsAlone (W.roundings bit_depth) taps.now.rounding }
     ensures { result ≡ taps.now }
 {
     let mut known = *taps;
-    if ALONE {
+    if ALONE && (T::BITS == 8 || N < 16) {
         let rows = W::roundings(bit_depth).rows;
         known.rounding.shift = rows.shift;
         known.rounding.bias = rows.bias;
@@ -136,7 +140,7 @@ fn filter_by<
     ensures { target.new ≡ paint stride strip.now.area (λ r c _. W.written strip.now.bit_depth (filtered T.num strip.now taps.now r c)) target.old }
 {
     // Copies of their own can't be what is written, so they stay in registers.
-    let taps = known_taps::<E, W, ALONE>(taps, strip.bit_depth);
+    let taps = known_taps::<T, E, W, N, ALONE>(taps, strip.bit_depth);
     let strip = *strip;
     for r in 0..strip.area.height {
         filter_row::<T, E, W, N, ZEROS>(target, stride, &strip, &taps, r);
