@@ -95,7 +95,22 @@ fn copy_column<T: Pixel>(left: &mut [T], dst: &PlaneRegion<'_, T>, x: usize, y: 
     requires rows { y + length left.old ≤ visible_rows dst.now }
     ensures { (k : ℕ) (d : T) → k < length left.new → T.num (slice_index_or left.new k d) ≡ region_sample T.num dst.now x (y + (length left.old - 1 - k)) }
 {
-    let count = left.len();
+    match left.len() {
+        4 => copy_rows(left, dst, x, y, 4),
+        8 => copy_rows(left, dst, x, y, 8),
+        count => copy_rows(left, dst, x, y, count),
+    }
+}
+
+/// As `copy_column`, in line, so that the compiler knows how many samples it copies.
+#[inline(always)]
+fn copy_rows<T: Pixel>(left: &mut [T], dst: &PlaneRegion<'_, T>, x: usize, y: usize, count: usize)
+    requires begins { BeginsVisible dst.now }
+    requires column { x < visible_columns dst.now }
+    requires count { length left.old ≡ count }
+    requires rows { y + count ≤ visible_rows dst.now }
+    ensures { (k : ℕ) (d : T) → k < length left.new → T.num (slice_index_or left.new k d) ≡ region_sample T.num dst.now x (y + (count - 1 - k)) }
+{
     for i in 0..count {
         left[i] = dst.row(y + (count - 1 - i))[x];
     }

@@ -1,6 +1,6 @@
 use Rattle.std.proofs.Common.{◌≡◌, ℕ, ◌<◌, ◌+◌, ◌-◌, get_or}
 use Rattle.av1_edges.specs.Edges.{region_sample}
-use Rattle.av1_edges.proofs.fill.copy_column.Given as goal
+use Rattle.av1_edges.proofs.fill.copy_rows.Given as goal
 
 abbrev pub invariant-loop-i : goal.invariant-loop-i
 invariant-loop-i g l =
