@@ -1,8 +1,10 @@
 -- Luma's part of a sample of chroma.
-use Rattle.std.proofs.Common.{ℕ, zero, suc, ◌+◌, ◌*◌, ◌/◌, ◌≤◌, ◌≡◌, arith, ap, ◌∙◌, sym, cond, refl, true, false, ℤ, pos, negsuc, neg_ℤ, ◌+ℤ◌, ◌*ℤ◌, ◌-ℤ◌}
-use Rattle.std.proofs.Common.{unsigned_abs, to_z, of_z, w16, w32, FitsSigned}
+use Rattle.std.proofs.Common.{ℕ, zero, suc, ◌+◌, ◌-◌, ◌*◌, ◌/◌, ◌≤◌, ◌≡◌, arith, ap, ◌∙◌, sym, cond, refl, true, false, ℤ, pos, negsuc, neg_ℤ, ◌+ℤ◌, ◌*ℤ◌}
+use Rattle.std.proofs.Common.{unsigned_abs, to_z, of_z, w16, w32, FitsSigned, inl, inr}
 use Rattle.std.proofs.lemmas.Int.{ints, unsigned_abs-mul, to_z-of_z, fits_signed_from_abs}
 use Rattle.std.proofs.lemmas.Bool.Decides.{nat_tests}
+use Rattle.std.proofs.lemmas.Bool.{cases_lt}
+use Rattle.std.specs.Int.Signed.{shr_z}
 use Rattle.std.proofs.Math.Nat.{mul-le-mul}
 use Rattle.std.specs.Prelude.{int_lt}
 use Rattle.std.specs.Ordering.{int_eq}
@@ -38,20 +40,29 @@ scaled q = let n = pos ((unsigned_abs q + 32) / 64) in cond (int_lt q (pos 0)) (
 not_below : (k : ℕ) → int_lt (pos k) (pos 0) ≡ false
 not_below k = grind (arith, nat_tests)
 
-pub scaled_below : (q p : ℤ) (n : ℕ) → p ≡ q → int_lt p (pos 0) ≡ true → n ≡ unsigned_abs q → unsigned_abs q ≤ 1073741824 →
-    to_z w32 (of_z w32 (pos 0 -ℤ to_z w32 ((n + 32) / 64))) ≡ scaled q
-scaled_below (pos k) p n w h e s = absurd (false-true (sym (not_below k) ∙ ap (λ z. int_lt z (pos 0)) (sym w) ∙ h))
-scaled_below (negsuc k) p n w h e s =
-    let m : (n + 32) / 64 ≤ 16777216 = omega (arith, e, s) in
-    let r : to_z w32 (of_z w32 (pos 0 -ℤ to_z w32 ((n + 32) / 64))) ≡ neg_ℤ (pos ((n + 32) / 64)) = omega (arith, ints) in
-    r ∙ ap (λ x. neg_ℤ (pos ((x + 32) / 64))) e
+-- the machine's rounded shift of a product below 0, and of another
+pub scaled_below : (q p x : ℤ) → p ≡ q → int_lt p (pos 0) ≡ true → unsigned_abs q ≤ 1073741824 → x ≡ q +ℤ pos 31 →
+    to_z w32 (of_z w32 (shr_z x 64)) ≡ scaled q
+scaled_below (pos k) p x w h s e = absurd (false-true (sym (not_below k) ∙ ap (λ z. int_lt z (pos 0)) (sym w) ∙ h))
+scaled_below (negsuc k) p x w h s e =
+    elim (cases_lt k 31) [
+      | inl b ↦ (let y : x ≡ pos (30 - k) = e ∙ omega (arith, ints) in
+          let r : to_z w32 (of_z w32 (pos ((30 - k) / 64))) ≡ pos 0 = omega (arith, ints) in
+          let n : (suc k + 32) / 64 ≡ 0 = omega arith in
+          ap (λ z. to_z w32 (of_z w32 (shr_z z 64))) y ∙ r ∙ sym (ap (λ m. neg_ℤ (pos m)) n))
+      | inr b ↦ (let y : x ≡ negsuc (k - 31) = e ∙ omega (arith, ints) in
+          let r : to_z w32 (of_z w32 (negsuc ((k - 31) / 64))) ≡ negsuc ((k - 31) / 64) = omega (arith, ints) in
+          let n : (suc k + 32) / 64 ≡ suc ((k - 31) / 64) = omega arith in
+          ap (λ z. to_z w32 (of_z w32 (shr_z z 64))) y ∙ r ∙ sym (ap (λ m. neg_ℤ (pos m)) n))
+    ]
 
-pub scaled_above : (q p : ℤ) (n : ℕ) → p ≡ q → int_lt p (pos 0) ≡ false → n ≡ unsigned_abs q → unsigned_abs q ≤ 1073741824 → to_z w32 ((n + 32) / 64) ≡ scaled q
-scaled_above (negsuc k) p n w h e s = absurd (false-true (sym (ap (λ z. int_lt z (pos 0)) (sym w) ∙ h)))
-scaled_above (pos k) p n w h e s =
-    let m : (n + 32) / 64 ≤ 16777216 = omega (arith, e, s) in
-    let r : to_z w32 ((n + 32) / 64) ≡ pos ((n + 32) / 64) = omega (arith, ints) in
-    r ∙ ap (λ x. pos ((x + 32) / 64)) e ∙ rw (not_below k) refl
+pub scaled_above : (q p x : ℤ) → p ≡ q → int_lt p (pos 0) ≡ false → unsigned_abs q ≤ 1073741824 → x ≡ q +ℤ pos 32 →
+    to_z w32 (of_z w32 (shr_z x 64)) ≡ scaled q
+scaled_above (negsuc k) p x w h s e = absurd (false-true (sym (ap (λ z. int_lt z (pos 0)) (sym w) ∙ h)))
+scaled_above (pos k) p x w h s e =
+    let y : x ≡ pos (k + 32) = e ∙ omega (arith, ints) in
+    let r : to_z w32 (of_z w32 (pos ((k + 32) / 64))) ≡ pos ((k + 32) / 64) = omega (arith, ints) in
+    ap (λ z. to_z w32 (of_z w32 (shr_z z 64))) y ∙ r ∙ rw (not_below k) refl
 
 neg_small : (n : ℕ) → n ≤ 16777216 → unsigned_abs (neg_ℤ (pos n)) ≤ 16777216
 neg_small zero h = h

@@ -26,8 +26,11 @@ fn scaled_luma(alpha: i16, difference: i16) -> i32
     ensures small { unsigned_abs result ≤ 16777216 }
 {
     let product = weighted(alpha, difference);
-    let rounded = ((product.unsigned_abs() + 32) >> 6) as i32;
-    if product < 0 { -rounded } else { rounded }
+    if product < 0 {
+        (product + 31) >> 6
+    } else {
+        (product + 32) >> 6
+    }
 }
 
 /// The sample whose DC prediction is `dc`.

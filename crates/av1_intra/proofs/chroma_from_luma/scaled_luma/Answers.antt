@@ -11,34 +11,30 @@ pub returns-then-product-lt0-clause-value : goal.returns-then-product-lt0-clause
 returns-then-product-lt0-clause-value c =
     let q = c.weighted-product.result in
     let s = c.weighted-product.ensures.small in
-    let n : c.unsigned_abs.result ≡ unsigned_abs q = c.unsigned_abs.ensures.value ∙ ap unsigned_abs (word q s) in
     let a = to_z-of_z w16 c.args.alpha c.ranges.alpha in
     let d = to_z-of_z w16 c.args.difference c.ranges.difference in
-    scaled_below q _ c.unsigned_abs.result (word q s) c.if-product-lt0.true n s
+    scaled_below q _ _ (word q s) c.if-product-lt0.true s (omega (arith, ints, s))
     ∙ ap scaled (c.weighted-product.ensures.value ∙ ap (λ z. z *ℤ to_z w16 (of_z w16 c.args.difference)) a ∙ ap (λ z. c.args.alpha *ℤ z) d)
 
 pub returns-then-product-lt0-clause-small : goal.returns-then-product-lt0-clause-small
 returns-then-product-lt0-clause-small c =
     let q = c.weighted-product.result in
     let s = c.weighted-product.ensures.small in
-    let n : c.unsigned_abs.result ≡ unsigned_abs q = c.unsigned_abs.ensures.value ∙ ap unsigned_abs (word q s) in
     let P : ℤ → Type 0 = λ z. unsigned_abs z ≤ 16777216 in
-    subst P (sym (scaled_below q _ c.unsigned_abs.result (word q s) c.if-product-lt0.true n s)) (scaled_small q s)
+    subst P (sym (scaled_below q _ _ (word q s) c.if-product-lt0.true s (omega (arith, ints, s)))) (scaled_small q s)
 
 pub returns-else-product-lt0-clause-value : goal.returns-else-product-lt0-clause-value
 returns-else-product-lt0-clause-value c =
     let q = c.weighted-product.result in
     let s = c.weighted-product.ensures.small in
-    let n : c.unsigned_abs.result ≡ unsigned_abs q = c.unsigned_abs.ensures.value ∙ ap unsigned_abs (word q s) in
     let a = to_z-of_z w16 c.args.alpha c.ranges.alpha in
     let d = to_z-of_z w16 c.args.difference c.ranges.difference in
-    scaled_above q _ c.unsigned_abs.result (word q s) c.if-product-lt0.false n s
+    scaled_above q _ _ (word q s) c.if-product-lt0.false s (omega (arith, ints, s))
     ∙ ap scaled (c.weighted-product.ensures.value ∙ ap (λ z. z *ℤ to_z w16 (of_z w16 c.args.difference)) a ∙ ap (λ z. c.args.alpha *ℤ z) d)
 
 pub returns-else-product-lt0-clause-small : goal.returns-else-product-lt0-clause-small
 returns-else-product-lt0-clause-small c =
     let q = c.weighted-product.result in
     let s = c.weighted-product.ensures.small in
-    let n : c.unsigned_abs.result ≡ unsigned_abs q = c.unsigned_abs.ensures.value ∙ ap unsigned_abs (word q s) in
     let P : ℤ → Type 0 = λ z. unsigned_abs z ≤ 16777216 in
-    subst P (sym (scaled_above q _ c.unsigned_abs.result (word q s) c.if-product-lt0.false n s)) (scaled_small q s)
+    subst P (sym (scaled_above q _ _ (word q s) c.if-product-lt0.false s (omega (arith, ints, s)))) (scaled_small q s)
