@@ -1,22 +1,21 @@
 //! The walk: over the transform blocks of a leaf's block in a plane, and over the planes that a leaf covers.
 
-ghost use Rattle.std.specs.Prelude.{◌≡◌, ◌≢◌, ℕ, ◌+◌, ◌*◌, ◌<◌, ◌≤◌, length, slice_index_or, [], IfSome, IfNone, Some, None, true};
+ghost use Rattle.std.specs.Prelude.{◌≡◌, ◌≢◌, ℕ, ◌+◌, ◌*◌, ◌^◌, ◌<◌, ◌≤◌, length, slice_index_or, [], IfSome, IfNone, Some, None, true};
 ghost use Rattle.std.specs.List.{fold};
 ghost use Rattle.av1_blocks.specs.Transforms.{tx_width};
 ghost use Rattle.av1_frame.specs.Planes.{InPlane};
 ghost use Rattle.av1_intra.specs.ChromaFromLuma.{ac_at};
 ghost use Rattle.av1_order.specs.Plans.{is_inter};
-ghost use Rattle.av1_plan.specs.Plan.{PlanValue};
-ghost use Rattle.av1_references.specs.References.{ServesPlan, leaf_area};
+ghost use Rattle.av1_references.specs.References.{leaf_area};
 ghost use Rattle.av1_plan.specs.Geometry.{blocks_across, block_count, transform_block};
 ghost use Rattle.av1_plan.specs.ReadPlans.{IsReadFrame};
 ghost use Rattle.av1_plan.specs.declared.leaf.Triple.{Triple};
 ghost use Rattle.av1_tile.specs.PlaneBlocks.{block_told, component, is_whole};
 ghost use Rattle.av1_tile.specs.Predicted.{WalksKeeping, keeping_in, kept_in, stored_in};
-ghost use Rattle.av1_tile.specs.Reference.{no_luma};
+ghost use Rattle.av1_tile.specs.Reference.{Scene, no_luma};
 ghost use Rattle.av1_tile.specs.Steps.{own_prediction, whole_steps, plane_steps, steps_at, joined};
 ghost use Rattle.av1_tile.specs.Walk.{area_at, Begins, edges_in, fast_in, leaf_with, BlockFits, HasCells, IsPlaceIn};
-ghost use Rattle.av1_tile.specs.Walk.{block_in, HoldsPlane, IsWalked, KeepsPlane, PredictionFits, Stores, Walks, with_header};
+ghost use Rattle.av1_tile.specs.Walk.{block_in, HoldsPlane, IsWalked, KeepsPlane, PredictionFits, ServesScene, Stores, Walks, with_header};
 
 use crate::block::{BlockPlace, EdgePrediction, add_block, predict_from_edge};
 use crate::buffers::WalkBuffers;
@@ -26,9 +25,10 @@ use crate::plane_block::{Nearby, PlaneBlock, Prediction};
 use crate::predicted::PredictedPlanes;
 use crate::shared::parts_in;
 use av1_blocks::{IntraParam, PredictionMode};
-use av1_frame::{FrameInvariants, Pixel, Plane, StoredArea};
+use av1_frame::{Pixel, Plane, StoredArea};
 use av1_inter::InterCompoundBuffers;
 use av1_plan::{Header, Leaf, LeafKind, PlaneArea, Triple};
+use av1_references::TileReferences;
 
 /// Where the block of number `index` begins, of blocks with sides of `side` samples from `start` on.
 fn block_start(start: u16, index: usize, side: usize) -> usize
@@ -151,7 +151,9 @@ fn keep_block<T: Pixel>(
 
 /// The rectangle of a leaf's whole area in a plane.
 fn whole_area(area: PlaneArea) -> StoredArea
-    ensures { result ≡ stored_in (leaf_area area) }
+    ensures value { result ≡ stored_in (leaf_area area) }
+    ensures columns { result.x + result.width < 2 ^ 17 }
+    ensures rows { result.y + result.height < 2 ^ 17 }
 {
     StoredArea {
         x: usize::from(area.x),
@@ -271,20 +273,20 @@ fn is_only_predicted(prediction: Prediction, triples: &[Triple]) -> bool
     is_whole(prediction) && triples.is_empty()
 }
 
-/// Predicts a leaf's whole area in a plane, where it is predicted from references. The frame settings hold the
-/// references of a plan in which that can be done.
+/// Predicts a leaf's whole area in a plane, where it is predicted from references. These serve a scene in which that
+/// can be done.
 fn predict_whole<T: Pixel>(
     plane: &mut Plane<T>,
     compound: &mut InterCompoundBuffers,
-    fi: &FrameInvariants<T>,
+    from: &TileReferences<'_, T>,
     block: &PlaneBlock,
 )
     requires plane { block.now.plane < 3 }
-    requires depth { fi.now.bit_depth ≤ T.BITS }
+    requires depth { from.now.fi.now.bit_depth ≤ T.BITS }
     requires fits { InPlane (leaf_area block.now.area) plane.old }
-    requires references { (value : PlanValue) ×
-        (ServesPlan T.num value fi.now × PredictionFits value.header block.now.plane block.now.area block.now.prediction) }
-    ensures { (value : PlanValue) → ServesPlan T.num value fi.now → PredictionFits value.header block.now.plane block.now.area block.now.prediction
+    requires references { (value : Scene) ×
+        (ServesScene T.num value from.now × PredictionFits value.header block.now.plane block.now.area block.now.prediction) }
+    ensures { (value : Scene) → ServesScene T.num value from.now → PredictionFits value.header block.now.plane block.now.area block.now.prediction
         → plane.new ≡ fold (fast_in T.num T.pixel value block.now.plane (λ _. no_luma)) plane.old (whole_steps block.now) }
 {
     let p = block.plane;
@@ -300,7 +302,7 @@ fn predict_whole<T: Pixel>(
                 reference,
                 mv,
             };
-            predict_kind(plane, compound, fi, p, kind, area);
+            predict_kind(plane, compound, from, p, kind, area);
         }
         Prediction::Compound {
             mode,
@@ -312,9 +314,9 @@ fn predict_whole<T: Pixel>(
                 references,
                 mvs,
             };
-            predict_kind(plane, compound, fi, p, kind, area);
+            predict_kind(plane, compound, from, p, kind, area);
         }
-        Prediction::Parts(parts) => predict_parts(plane, compound, fi, p, parts, area),
+        Prediction::Parts(parts) => predict_parts(plane, compound, from, p, parts, area),
         Prediction::Intra { .. } | Prediction::FromLuma { .. } => {}
     }
 }
@@ -333,7 +335,7 @@ fn reconstruct_plane_block<T: Pixel>(
     requires stores { Stores T.num frame.now.header.now block.now.plane plane.old }
     requires fits { BlockFits plane.old.plane_cfg frame.now.header.now block.now triples.now }
     ensures walked { let h = frame.now.header.now in
-        (value : PlanValue) → ServesPlan T.num (with_header h value) frame.now.fi.now
+        (value : Scene) → ServesScene T.num (with_header h value) frame.now.from.now
         → plane.new ≡
         fold (fast_in T.num T.pixel (with_header h value) block.now.plane (λ _. ac_at (tx_width block.now.area.tx_size) buffers.old.luma.items))
         plane.old (plane_steps h block.now triples.now) }
@@ -341,11 +343,11 @@ fn reconstruct_plane_block<T: Pixel>(
     ensures luma { buffers.new.luma.items ≡ buffers.old.luma.items }
     ensures kept { KeepsPlane T.num frame.now.header.now block.now.plane plane.old plane.new }
     ensures predictions { let h = frame.now.header.now in
-        (value : PlanValue) → ServesPlan T.num (with_header h value) frame.now.fi.now → (plane.new, buffers.new.kept) ≡
+        (value : Scene) → ServesScene T.num (with_header h value) frame.now.from.now → (plane.new, buffers.new.kept) ≡
         fold (keeping_in T.num T.pixel (with_header h value) block.now.plane (λ _. ac_at (tx_width block.now.area.tx_size) buffers.old.luma.items))
         (plane.old, buffers.old.kept) (plane_steps h block.now triples.now) }
 {
-    predict_whole(plane, &mut buffers.compound, frame.fi, block);
+    predict_whole(plane, &mut buffers.compound, frame.from, block);
     keep_whole(&mut buffers.kept, plane, block);
     if is_only_predicted(block.prediction, triples) {
         return;
@@ -401,7 +403,7 @@ pub fn reconstruct_leaf_in<T: Pixel>(
     requires begins { Begins frame.now.header.now (component p) (leaf_with leaf.now [] [] []) }
     requires fits { BlockFits plane.old.plane_cfg frame.now.header.now (block_in frame.now p leaf.now) triples.now }
     ensures walked { let h = frame.now.header.now in let block = block_in frame.now p leaf.now in
-        (value : PlanValue) → ServesPlan T.num (with_header h value) frame.now.fi.now
+        (value : Scene) → ServesScene T.num (with_header h value) frame.now.from.now
         → plane.new ≡ fold (fast_in T.num T.pixel (with_header h value) p (λ _. ac_at (tx_width block.area.tx_size) buffers.old.luma.items)) plane.old
         (plane_steps h block triples.now) }
     ensures counted { buffers.new.edges.prepared ≡
@@ -409,7 +411,7 @@ pub fn reconstruct_leaf_in<T: Pixel>(
     ensures luma { buffers.new.luma.items ≡ buffers.old.luma.items }
     ensures kept { KeepsPlane T.num frame.now.header.now p plane.old plane.new }
     ensures predictions { let h = frame.now.header.now in let block = block_in frame.now p leaf.now in
-        (value : PlanValue) → ServesPlan T.num (with_header h value) frame.now.fi.now → (plane.new, buffers.new.kept) ≡
+        (value : Scene) → ServesScene T.num (with_header h value) frame.now.from.now → (plane.new, buffers.new.kept) ≡
         fold (keeping_in T.num T.pixel (with_header h value) p (λ _. ac_at (tx_width block.area.tx_size) buffers.old.luma.items))
         (plane.old, buffers.old.kept) (plane_steps h block triples.now) }
 {

@@ -1,6 +1,5 @@
 use Rattle.std.proofs.Common.{◌+◌, ◌-◌, ◌/◌, ◌≡◌, true, arith, tests}
 use Rattle.av1_references.specs.References.{visible_in}
-use Rattle.av1_tile.specs.Reference.{kind_motion}
 use Rattle.av1_tile.proofs.Halves.{beside_joined, still_inside}
 use Rattle.av1_tile.proofs.parts.predict_row.Goals as goal
 
@@ -20,6 +19,6 @@ pub returns : goal.returns
 returns g c = λ value holds left right.
     let narrow : c.args.row.narrow ≡ true = grind (arith, tests, c.if-not-row.false) in
     beside_joined g.T.Pixel.pixel c.args.plane.now c.predict_kind-2.new.plane c.predict_kind-3.new.plane (visible_in c.args.area)
-    (kind_motion value c.args.p c.args.row.left) (kind_motion value c.args.p c.args.row.right) c.args.row.narrow narrow
+    (value.motion c.args.p c.args.row.left) (value.motion c.args.p c.args.row.right) c.args.row.narrow narrow
     (c.predict_kind-2.ensures value holds (record { wide = omega (arith, left.wide); high = left.high; serves = left.serves }))
     (c.predict_kind-3.ensures value holds (record { wide = omega (arith, right.wide); high = right.high; serves = right.serves }))
