@@ -118,12 +118,22 @@ holds_all num value n fi h depth holds = record {
 
 -- ---- slots that are kept in a list
 
+-- an item that is there, whatever stands for one that isn't
+pub same_item : {A : Type 0} (xs : List A) (k : ℕ) (d e : A) → k < length xs → get_or xs k d ≡ get_or xs k e
+same_item [] k d e lt = absurd (omega (arith, lt))
+same_item (x ∷ xs) zero d e lt = refl
+same_item (x ∷ xs) (suc k) d e lt = same_item xs k d e (omega (arith, lt))
+
+-- one that was read there
+pub item_at : (xs : List (Option SlotPlanes)) (k : ℕ) (o own : Option SlotPlanes) → k < length xs → o ≡ get_or xs k o → o ≡ own → slice_index_or xs k None ≡ own
+item_at xs k o own lt at is = same_item xs k None o lt ∙ sym at ∙ is
+
 module _ (h : Header) (references : List (Option SlotPlanes)) (n : ℕ) (below : n < length references) (stored : IsStoredSlot h n (slice_index_or references n None)) where
   -- what a slot carries
-  pub stored_none : (o : Option SlotPlanes) → slice_index_or references n None ≡ o → o ≡ None → has_slot h n ≡ false
-  stored_none o is none = subst (IsStoredSlot h n) (is ∙ none) stored
+  pub stored_none : slice_index_or references n None ≡ None → has_slot h n ≡ false
+  stored_none is = subst (IsStoredSlot h n) is stored
 
-  stored_planes : (planes : SlotPlanes) → slice_index_or references n None ≡ Some planes → IsStoredSlot h n (Some planes)
+  pub stored_planes : (planes : SlotPlanes) → slice_index_or references n None ≡ Some planes → IsStoredSlot h n (Some planes)
   stored_planes planes is = subst (IsStoredSlot h n) is stored
 
   pub stored_samples : (planes : SlotPlanes) → slice_index_or references n None ≡ Some planes → (p : ℕ) →
