@@ -18,11 +18,11 @@ use av1_references::TileReferences;
 
 /// These leaves, in coding order, in a frame with this header. Each is noted in `cells` once it is
 /// reconstructed.
-pub fn reconstruct_leaves<T: Pixel>(
+pub fn reconstruct_leaves<'a, T: Pixel>(
     planes: &mut Planes<T>,
     cells: &mut CodedCells,
     buffers: &mut WalkBuffers<T>,
-    from: &TileReferences<'_, T>,
+    from: &'a TileReferences<'a, T>,
     header: &Header,
     leaves: &Leaves,
 )

@@ -1,4 +1,4 @@
-use Rattle.std.proofs.Common.{◌+◌, ◌∙◌, List, ℕ, ap, sym, subst, arith}
+use Rattle.std.proofs.Common.{◌+◌, ◌<◌, ◌∙◌, List, length, ℕ, ap, sym, subst, arith}
 use Rattle.av1_frame.specs.declared.frame_invariants.FrameInvariants.{FrameInvariants}
 use Rattle.av1_plan.specs.Plan.{slot_values}
 use Rattle.av1_plan.specs.ReadPlans.{ArePlane}
@@ -12,7 +12,7 @@ padded_plane-requires-in-Some-clause-samples g c =
     let h = c.args.header.now in
     let references = c.args.references.now in
     let n = c.loop-slot.slot in
-    let below = omega (arith, c.requires.eight, c.loop-slot-test.true) in
+    let below : n < length references = omega (arith, c.requires.eight, c.loop-slot-test.true) in
     let at = item_at references n c.index-references-slot.result _ below c.index-references-slot.is c.in-Some.is in
     subst (ArePlane h 1) (sym c.deref-in-Some.ensures.value)
     (stored_planes h references n below (c.requires.slots n c.loop-slot-test.true) c.in-Some.planes at).2
@@ -22,7 +22,7 @@ padded_plane-requires-in-Some-2-clause-samples g c =
     let h = c.args.header.now in
     let references = c.args.references.now in
     let n = c.loop-slot.slot in
-    let below = omega (arith, c.requires.eight, c.loop-slot-test.true) in
+    let below : n < length references = omega (arith, c.requires.eight, c.loop-slot-test.true) in
     let at = item_at references n c.index-references-slot.result _ below c.index-references-slot.is c.in-Some.is in
     subst (ArePlane h 2) (sym c.deref-in-Some-2.ensures.value)
     (stored_planes h references n below (c.requires.slots n c.loop-slot-test.true) c.in-Some.planes at).3
@@ -33,7 +33,7 @@ loop-slot-preserved g c =
     let h = c.args.header.now in
     let references = c.args.references.now in
     let n = c.loop-slot.slot in
-    let below = omega (arith, c.requires.eight, c.loop-slot-test.true) in
+    let below : n < length references = omega (arith, c.requires.eight, c.loop-slot-test.true) in
     let value = frame_with h (slot_values references) in
     let stored = c.requires.slots n c.loop-slot-test.true in
     let o = c.index-references-slot.result in
