@@ -41,7 +41,7 @@ use Rattle.av1_tile.specs.Output.{visible, planes_of}
 use Rattle.av1_tile.specs.PlaneBlocks.{component, shown_of, number}
 use Rattle.av1_tile.specs.declared.predicted.PredictedPlanes.{PredictedPlanes}
 use Rattle.av1_tile.specs.Predicted.{AreBlank, Keeping, ShowsPredictions, keeping_step}
-use Rattle.av1_tile.specs.Reference.{scene, slow_walk}
+use Rattle.av1_tile.specs.Reference.{Scene, scene, slow_walk}
 use Rattle.av1_tile.specs.Memory.{ShowsPlan, ShowsScene}
 use Rattle.av1_tile.specs.State.{ShowsRows, edges_of, shown}
 use Rattle.av1_tile.specs.Steps.{steps}
@@ -156,11 +156,11 @@ module _ (plan : PlanValue) (spelled : ∥ IsSpelled grammar plan ∥₁) (valid
 
   -- planes that have gone through its steps, whatever its leaves predict from references, show the samples that they come to
   pub plan_shows : {T : Type 0} (num : T → ℕ) (pixel : ℕ → T) (law : (v : ℕ) → num (pixel v) ≡ v) (back : (x : T) → pixel (num x) ≡ x) (p q : Planes T)
-      (told : Told) (motion : ℕ → LeafKind → VisibleArea → ℕ → ℕ → ℕ) → let own = record { header = plan.header; motion = motion }
+      (told : Told) (motion : ℕ → LeafKind → VisibleArea → ℕ → ℕ → ℕ) → let own : Scene = record { header = plan.header; motion = motion }
       in StoresAll num plan.header p → HasRoom plan.header p → StoresAll num plan.header q
       → q ≡ fold (fast_step num pixel own) p (steps_by plan.header (at_start told) plan.leaves) → ShowsScene num own plan.leaves q
   plan_shows num pixel law back p q told motion stores room after walked k x y hx hy =
-      let own = record { header = plan.header; motion = motion } in
+      let own : Scene = record { header = plan.header; motion = motion } in
       let read = kept_frame plan spelled in
       let coded_x : x < plane_width plan.header (number k) = omega (arith, hx, (columns_shown plan.header (number k) read.width read.shown_width).1) in
       let coded_y : y < plane_height plan.header (number k) = omega (arith, hy, (rows_shown plan.header (number k) read.height read.shown_height).1) in

@@ -68,7 +68,7 @@ fn prepare_luma<T: Pixel>(luma: &mut [i16], plane: &Plane<T>, header: &Header, l
 pub fn reconstruct_leaf<T: Pixel>(
     planes: &mut Planes<T>,
     buffers: &mut WalkBuffers<T>,
-    frame: &WalkedFrame<'_, T>,
+    frame: &WalkedFrame<'_, '_, T>,
     leaf: &Leaf,
     y: &[Triple],
     u: &[Triple],

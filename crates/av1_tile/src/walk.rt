@@ -326,7 +326,7 @@ fn predict_whole<T: Pixel>(
 fn reconstruct_plane_block<T: Pixel>(
     plane: &mut Plane<T>,
     buffers: &mut WalkBuffers<T>,
-    frame: &WalkedFrame<'_, T>,
+    frame: &WalkedFrame<'_, '_, T>,
     block: &PlaneBlock,
     triples: &[Triple],
 )
@@ -367,7 +367,7 @@ fn is_from_references(kind: LeafKind) -> bool
 
 /// What the leaves before a leaf say of its block in plane `p`. One that is predicted from references has no edge, one
 /// that isn't shares no block.
-fn near_leaf<T>(frame: &WalkedFrame<'_, T>, leaf: &Leaf, p: usize) -> Nearby
+fn near_leaf<T>(frame: &WalkedFrame<'_, '_, T>, leaf: &Leaf, p: usize) -> Nearby
     requires frame { IsReadFrame frame.now.header.now }
     requires plane { p < 3 }
     requires cells { HasCells frame.now.header.now frame.now.cells.now }
@@ -392,7 +392,7 @@ fn near_leaf<T>(frame: &WalkedFrame<'_, T>, leaf: &Leaf, p: usize) -> Nearby
 pub fn reconstruct_leaf_in<T: Pixel>(
     plane: &mut Plane<T>,
     buffers: &mut WalkBuffers<T>,
-    frame: &WalkedFrame<'_, T>,
+    frame: &WalkedFrame<'_, '_, T>,
     leaf: &Leaf,
     p: usize,
     triples: &[Triple],
