@@ -47,9 +47,9 @@ def part(data):
     return struct.pack("<I", len(data)) + data
 
 
-def tiles(parts, width=128, height=8, columns=(64,), rows=(), references=b"", **more):
+def tiles(parts, width=128, height=8, columns=(64,), rows=(), references=b"", magic=b"RTL1", **more):
     """A grid of tiles, whose columns and rows begin at 0 and at these."""
-    file = header(width, height, magic=b"RTL1", **more) + references
+    file = header(width, height, magic=magic, **more) + references
     for starts in (columns, rows):
         file += bytes([len(starts) + 1]) + struct.pack(f"<{len(starts)}H", *starts)
     return file + b"".join(part(it) for it in parts)

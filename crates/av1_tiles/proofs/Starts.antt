@@ -3,8 +3,9 @@ use Rattle.std.proofs.Common.{◌≡◌, ℕ, zero, suc, ◌+◌, ◌-◌, ◌%�
 use Rattle.std.specs.Prelude.{slice_index, ◌&&◌, ◌==◌, nat_lt}
 use Rattle.std.proofs.lemmas.Bool.{and_parts, cases_lt, eqb-true, ltb-true}
 use Rattle.av1_plan.specs.Format.{IsAdmitted, done, ◌>>=◌, Input, on_ok, read_field, read, add}
+use Rattle.av1_plan.specs.Geometry.{coded_side}
 use Rattle.av1_plan.specs.Grammar.{byte_from}
-use Rattle.av1_plan.specs.ReadPlans.{IsSide}
+use Rattle.av1_plan.specs.ReadPlans.{IsShown, IsSide}
 use Rattle.av1_plan.specs.Spelling.{IsSpelled}
 use Rattle.av1_plan.proofs.Formats.{add_asks, add_done, add_behind, on_ok_same}
 use Rattle.av1_plan.proofs.Lists.{read_empty}
@@ -119,13 +120,27 @@ eighths side xs multiple are k lt = elim (cases_lt (k + 1) (length xs)) [
       subst (λ (n : ℕ). n % 8 ≡ 0) (sym value) multiple)
 ]
 
-pub side_between : (side : ℕ) (xs : List ℕ) → IsSide side → AreBounds side xs → (k : ℕ) → k + 1 < length xs → IsSide (slice_index xs (k + 1) - slice_index xs k)
-side_between side xs is are k lt =
-    let first = eighths side xs is.whole are k (omega (arith, lt)) in
-    let second = eighths side xs is.whole are (k + 1) lt in
+-- what is shown between two, of what is coded there
+pub shown_between : (version side : ℕ) (xs : List ℕ) → (version ≤ 2 → side % 8 ≡ 0) → AreBounds side xs → (k : ℕ) → k + 1 < length xs →
+    IsShown version (slice_index xs (k + 1) - slice_index xs k) (coded_side (slice_index xs (k + 1) - slice_index xs k))
+shown_between version side xs whole are k lt =
+    let rise = are.rising k lt in
+    record {
+      some = omega (arith, rise);
+      within = omega arith;
+      near = omega arith;
+      whole = λ early.
+          let first = eighths side xs (whole early) are k (omega (arith, lt)) in
+          let second = eighths side xs (whole early) are (k + 1) lt in
+          omega (arith, first, second, rise);
+    }
+
+pub coded_between : (side : ℕ) (xs : List ℕ) → side ≤ 2048 → AreBounds side xs → (k : ℕ) → k + 1 < length xs →
+    IsSide (coded_side (slice_index xs (k + 1) - slice_index xs k))
+coded_between side xs few are k lt =
     let rise = are.rising k lt in
     let most = are.within (k + 1) lt in
-    record { whole = omega (arith, first, second, rise); least = omega (arith, first, second, rise); most = omega (arith, most, is.most) }
+    record { whole = omega arith; least = omega (arith, rise); most = omega (arith, most, few) }
 
 -- ---- reading
 
