@@ -140,9 +140,13 @@ abbrev pub rect_of : {T : Type 0} → TileReferences T → (p : ℕ) → TileRec
 rect_of from zero = from.luma
 rect_of from (suc p) = from.chroma
 
+-- a rectangle, so many columns and rows further
+abbrev pub shifted : (columns rows : ℕ) → VisibleArea → VisibleArea
+shifted columns rows a = record { x = columns + a.x; y = rows + a.y; width = a.width; height = a.height }
+
 -- a rectangle of a tile, as one of the tile's frame
 abbrev pub in_frame : (tile : TileRect) → VisibleArea → VisibleArea
-in_frame tile a = record { x = tile.x + a.x; y = tile.y + a.y; width = a.width; height = a.height }
+in_frame tile a = shifted tile.x tile.y a
 
 -- whose places can be counted with a sign
 pub record IsPlaced (tile : TileRect) (a : VisibleArea) : Type 0 where

@@ -16,8 +16,8 @@
 //!   rectangle is one of a tile, whose place in the frame `TileReferences` says; motion reads the whole frame.
 //! - `motion_lies_within_depth`: each such sample lies within the depth.
 //!
-//! Only `frame_invariants` and `stored_references`, which does the same for a frame without leaves, allocate, and nothing else can fail. Columns, rows and sides are counted in samples of the
-//! plane at hand.
+//! Only `frame_invariants` allocates, and `stored_references`, which does the same for a frame without leaves; nothing
+//! else can fail. Columns, rows and sides are counted in samples of the plane at hand.
 #![tactic(auto)]
 
 mod fill;

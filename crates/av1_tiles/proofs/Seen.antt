@@ -14,7 +14,7 @@ use Rattle.av1_plan.specs.Values.{plan_value}
 use Rattle.av1_plan.specs.ReadPlans.{IsReadFrame}
 use Rattle.av1_plan.specs.Validity.{first_fault, has_reference}
 use Rattle.av1_references.specs.declared.tile.TileReferences.{TileReferences}
-use Rattle.av1_references.specs.References.{HoldsReferences, ServesPlan, in_frame, rect_of}
+use Rattle.av1_references.specs.References.{HoldsReferences, ServesPlan, frame_with, in_frame, rect_of, shifted}
 use Rattle.av1_references.proofs.Served.{holds_serves}
 use Rattle.av1_tile.specs.declared.planes.Planes.{Planes}
 use Rattle.av1_tile.specs.Canvas.{Canvas}
@@ -28,7 +28,7 @@ use Rattle.av1_tiles.specs.declared.frame.TilePicture.{TilePicture}
 use Rattle.av1_tiles.specs.Grammar.{FrontValue}
 use Rattle.av1_tiles.specs.Joined.{PlansAreAll}
 use Rattle.av1_tiles.specs.Seen.{IsAtTile}
-use Rattle.av1_tiles.specs.Tiles.{IsTileArea, corner_column, corner_row, frame_of, in_frame_of, tile_area, tile_header, tile_motion, tile_scene, tile_walk}
+use Rattle.av1_tiles.specs.Tiles.{IsTileArea, corner_column, corner_row, tile_area, tile_header, tile_motion, tile_scene, tile_walk}
 use Rattle.av1_tiles.proofs.Rectangles.{same_xdec, same_ydec}
 
 -- ---- a tile's own plan
@@ -36,7 +36,7 @@ use Rattle.av1_tiles.proofs.Rectangles.{same_xdec, same_ydec}
 module _ (f : FrontValue) (i : ℕ) (plan : PlanValue) (early : follows_av1 f.header ≡ false) where
   own_motion : tile_motion f i plan ≡ kind_motion plan
   own_motion = fun_ext (λ p. fun_ext (λ kind. fun_ext (λ a.
-      ap (λ (b : Bool). if b then kind_motion (frame_of f) p kind (in_frame_of f.header (tile_area f i) p a) else kind_motion plan p kind a) early)))
+      ap (λ (b : Bool). if b then kind_motion (frame_with f.header f.references) p kind (shifted (corner_column f.header (tile_area f i) p) (corner_row f.header (tile_area f i) p) a) else kind_motion plan p kind a) early)))
 
   own_walk : tile_walk f i plan ≡ slow_walk plan
   unfolding slow_walk
@@ -105,9 +105,9 @@ near a d most le few = omega (arith, div-le_self a (2 ^ d), le, few)
 module _ {T : Type 0} (num : T → ℕ) (f : FrontValue) (i : ℕ) (plan : PlanValue) (from : TileReferences T) (fi : FrameInvariants T)
     (third : follows_av1 f.header ≡ true) (read : IsReadFrame f.header) (area : IsTileArea f.header (tile_area f i))
     (header : tile_header f.header (tile_area f i) ≡ plan.header) (own : from.fi.now ≡ fi) (place : IsAtTile f.header (tile_area f i) from)
-    (holds : HoldsReferences num (frame_of f) fi) where
+    (holds : HoldsReferences num (frame_with f.header f.references) fi) where
   -- a rectangle of the tile lies there in the frame
-  same_rectangle : (p : ℕ) (a : VisibleArea) → in_frame_of f.header (tile_area f i) p a ≡ in_frame (rect_of from p) a
+  same_rectangle : (p : ℕ) (a : VisibleArea) → shifted (corner_column f.header (tile_area f i) p) (corner_row f.header (tile_area f i) p) a ≡ in_frame (rect_of from p) a
   same_rectangle p a =
       ap (λ (n : ℕ). record a { x = n + a.x; y = corner_row f.header (tile_area f i) p + a.y }) (sym (place.column p))
       ∙ ap (λ (n : ℕ). record a { x = (rect_of from p).x + a.x; y = n + a.y }) (sym (place.row p))
@@ -115,8 +115,8 @@ module _ {T : Type 0} (num : T → ℕ) (f : FrontValue) (i : ℕ) (plan : PlanV
   -- they serve the tile
   pub frame_serves : ServesScene num (tile_scene f i plan) from
   frame_serves = record {
-    plan = frame_of f;
-    serves = subst (λ (g : FrameInvariants T). ServesPlan num (frame_of f) g) (sym own) (holds_serves num (frame_of f) fi holds);
+    plan = frame_with f.header f.references;
+    serves = subst (λ (g : FrameInvariants T). ServesPlan num (frame_with f.header f.references) g) (sym own) (holds_serves num (frame_with f.header f.references) fi holds);
     depth = ap (λ (h : Header). h.depth) header;
     xdec = λ p. sym (same_xdec f.header (tile_area f i) p) ∙ ap (λ (h : Header). xdec h p) header;
     ydec = λ p. sym (same_ydec f.header (tile_area f i) p) ∙ ap (λ (h : Header). ydec h p) header;
@@ -126,6 +126,6 @@ module _ {T : Type 0} (num : T → ℕ) (f : FrontValue) (i : ℕ) (plan : PlanV
     near_y = λ p. subst (λ (n : ℕ). n < 2 ^ 16) (sym (place.row p))
         (near (tile_area f i).y (ydec f.header p) f.header.shown_height (omega (arith, area.rows)) (omega (arith, read.shown_height.within, read.height.most)));
     motion = λ p kind a r c.
-        ap (λ (b : Bool). (if b then kind_motion (frame_of f) p kind (in_frame_of f.header (tile_area f i) p a) else kind_motion plan p kind a) r c) third
-        ∙ ap (λ (b : VisibleArea). kind_motion (frame_of f) p kind b r c) (same_rectangle p a);
+        ap (λ (b : Bool). (if b then kind_motion (frame_with f.header f.references) p kind (shifted (corner_column f.header (tile_area f i) p) (corner_row f.header (tile_area f i) p) a) else kind_motion plan p kind a) r c) third
+        ∙ ap (λ (b : VisibleArea). kind_motion (frame_with f.header f.references) p kind b r c) (same_rectangle p a);
   }

@@ -11,6 +11,7 @@ use Rattle.av1_plan.specs.Geometry.{coded_side, follows_av1, xdec, ydec, shown_c
 use Rattle.av1_plan.specs.Grammar.{plan_behind}
 use Rattle.av1_plan.specs.Plan.{PlanValue}
 use Rattle.av1_plan.specs.ReadPlans.{IsShown, IsSide}
+use Rattle.av1_references.specs.References.{frame_with, shifted}
 use Rattle.av1_tile.specs.Canvas.{Canvas}
 use Rattle.av1_tile.specs.Reference.{Scene, kind_motion, walk_of}
 use Rattle.av1_tiles.specs.declared.area.TileArea.{TileArea}
@@ -98,26 +99,15 @@ part_of f i = slice_index_or f.parts i []
 
 -- ---- what a tile is predicted from
 
--- the frame, without leaves: its settings and its references
-abbrev pub frame_of : FrontValue → PlanValue
-frame_of f = record { header = f.header; references = f.references; leaves = [] }
-
--- a rectangle of plane p of a tile, as one of its frame
-abbrev pub in_frame_of : Header → TileArea → (p : ℕ) → VisibleArea → VisibleArea
-in_frame_of h a p r = record {
-  x = corner_column h a p + r.x;
-  y = corner_row h a p + r.y;
-  width = r.width;
-  height = r.height;
-}
-
 -- What leaves from references predict of tile i. In the third version of plans it is what they would predict in the
 -- frame: motion reads the whole of each reference from the tile's place there on, as AV1's does. Before it motion reads
 -- the references of the tile's own plan, which are the tile's rectangle.
 abbrev pub tile_motion : FrontValue → ℕ → PlanValue → (p : ℕ) → LeafKind → VisibleArea → (r c : ℕ) → ℕ
 tile_motion f i plan p kind a =
-    if follows_av1 f.header then kind_motion (frame_of f) p kind (in_frame_of f.header (tile_area f i) p a)
-    else kind_motion plan p kind a
+    let h = f.header in
+    let t = tile_area f i in
+    let in_frame = shifted (corner_column h t p) (corner_row h t p) a in
+    if follows_av1 h then kind_motion (frame_with h f.references) p kind in_frame else kind_motion plan p kind a
 
 -- tile i as it is walked
 abbrev pub tile_scene : FrontValue → ℕ → PlanValue → Scene

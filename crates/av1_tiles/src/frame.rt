@@ -264,8 +264,7 @@ fn reconstruct_picture<T: Pixel>(
 }
 
 /// Reconstructs one tile in this memory, and puts it into the planes of its frame. `seen` has the references of the
-/// whole frame where motion reads these. At an error the planes are as they
-/// were before.
+/// whole frame where motion reads these. At an error the planes are as they were before.
 pub fn reconstruct_in<T: Pixel>(
     alloc: Global,
     planes: &mut Planes<T>,
