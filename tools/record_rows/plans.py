@@ -55,6 +55,20 @@ def tiles(parts, width=128, height=8, columns=(64,), rows=(), references=b"", ma
     return file + b"".join(part(it) for it in parts)
 
 
+def third_grid(file, seed):
+    """A grid of the second version like this one of the first: of sides that are coded alike, to which its references are cut."""
+    width, height, depth, sampling = struct.unpack_from("<HHBB", file, 4)
+    shown = width - seed % 8, height - seed // 8 % 8
+    samples, at = b"", 20
+    each = 1 if depth == 8 else 2
+    for xdec, ydec in file[19].bit_count() * ((0, 0), *2 * ((sampling < 2, sampling == 0),)):
+        stride, kept = (width >> xdec) * each, (shown[0] + xdec >> xdec) * each
+        for row in range(shown[1] + ydec >> ydec):
+            samples += file[at + row * stride:at + row * stride + kept]
+        at += stride * (height >> ydec)
+    return b"RTL2" + struct.pack("<HH", *shown) + file[8:20] + samples + file[at:]
+
+
 def trace(plan, given, length=None):
     return b"RTR1" + struct.pack("<I", len(plan) if length is None else length) + plan + given
 
