@@ -1,5 +1,6 @@
 -- The slots of a frame, filled one after another with the planes of a plan.
-use Rattle.std.proofs.Common.{ℕ, zero, suc, ◌+◌, ◌<◌, ◌≤◌, List, [], ◌∷◌, Option, slice_index_or, ◌≡◌, ◌≢◌, ◌∙◌, ap, sym, subst, refl, arith, inl, inr, true, false, length, get_or, set, Some, None}
+use Rattle.std.proofs.Common.{ℕ, zero, suc, ◌+◌, ◌<◌, ◌≤◌, List, [], ◌∷◌, Option, slice_index_or, ◌≡◌, ◌≢◌, ◌∙◌, ap, sym, subst, refl, arith, inl, inr}
+use Rattle.std.proofs.Common.{true, false, length, get_or, set, Some, None}
 use Rattle.std.proofs.Common.{is_some, replicate}
 use Rattle.std.specs.Option.{option_map}
 use Rattle.std.proofs.lemmas.Bool.{cases_lt}
@@ -128,7 +129,8 @@ same_item (x ∷ xs) (suc k) d e lt = same_item xs k d e (omega (arith, lt))
 pub item_at : (xs : List (Option SlotPlanes)) (k : ℕ) (o own : Option SlotPlanes) → k < length xs → o ≡ get_or xs k o → o ≡ own → slice_index_or xs k None ≡ own
 item_at xs k o own lt at is = same_item xs k None o lt ∙ sym at ∙ is
 
-module _ (h : Header) (references : List (Option SlotPlanes)) (n : ℕ) (below : n < length references) (stored : IsStoredSlot h n (slice_index_or references n None)) where
+module _ (h : Header) (references : List (Option SlotPlanes)) (n : ℕ) (below : n < length references)
+    (stored : IsStoredSlot h n (slice_index_or references n None)) where
   -- what a slot carries
   pub stored_none : slice_index_or references n None ≡ None → has_slot h n ≡ false
   stored_none is = subst (IsStoredSlot h n) is stored
@@ -143,7 +145,8 @@ module _ (h : Header) (references : List (Option SlotPlanes)) (n : ℕ) (below :
 
 -- ---- a reference that is kept in a list
 
-pub stored_some : {T : Type 0} (num : T → ℕ) (h : Header) (references : List (Option SlotPlanes)) (n : ℕ) (fi : FrameInvariants T) (planes : SlotPlanes) (s : Slot T)
+pub stored_some : {T : Type 0} (num : T → ℕ) (h : Header) (references : List (Option SlotPlanes)) (n : ℕ) (fi : FrameInvariants T) (planes : SlotPlanes)
+    (s : Slot T)
     → n < length references → n < 8 → slice_index_or references n None ≡ Some planes → IsStoredSlot h n (slice_index_or references n None)
     → HoldsPlane num h 0 planes.y.items s.y → HoldsPlane num h 1 planes.u.items s.u → HoldsPlane num h 2 planes.v.items s.v
     → HoldsFirst num (frame_with h (slot_values references)) n fi

@@ -30,8 +30,8 @@ fn first_sample(area: StoredArea) -> PlaneOffset
 }
 
 /// Predicts a rectangle of plane `p` (0 for Y, 1 for U and 2 for V), counted from the first visible sample, from one
-/// reference of a plan, whichever plan the settings of the tile's frame hold the references of. A vector counts from the
-/// rectangle's place in that frame.
+/// reference of a plan, whichever plan the settings of the tile's frame hold the references of. A vector counts from
+/// the rectangle's place in that frame.
 pub fn predict_single<T: Pixel>(
     plane: &mut Plane<T>,
     from: &TileReferences<'_, T>,
@@ -51,7 +51,8 @@ pub fn predict_single<T: Pixel>(
     requires depth { from.now.fi.now.bit_depth ≤ T.BITS }
     requires reference { IsServed T.num from.now.fi.now reference p area.width area.height }
     ensures { (value : PlanValue) → ServesPlan T.num value from.now.fi.now → has_reference value.header reference ≡ true
-        → plane.new ≡ painted_plane plane.old (visible_in area) (λ r c _. T.pixel (single_motion value p reference mv (in_frame (rect_of from.now p) (visible_in area)) r c)) }
+        → plane.new ≡ painted_plane plane.old (visible_in area)
+        (λ r c _. T.pixel (single_motion value p reference mv (in_frame (rect_of from.now p) (visible_in area)) r c)) }
 {
     let mut region = plane.region_mut(visible_area(area.x, area.y, area.width, area.height));
     predict_inter_single(
@@ -91,7 +92,8 @@ pub fn predict_compound<T: Pixel>(
     requires second { IsServed T.num from.now.fi.now (reference_in references 1) p area.width area.height }
     ensures { (value : PlanValue) → ServesPlan T.num value from.now.fi.now
         → has_reference value.header (reference_in references 0) ≡ true → has_reference value.header (reference_in references 1) ≡ true
-        → plane.new ≡ painted_plane plane.old (visible_in area) (λ r c _. T.pixel (compound_motion value p references mvs (in_frame (rect_of from.now p) (visible_in area)) r c)) }
+        → plane.new ≡ painted_plane plane.old (visible_in area)
+        (λ r c _. T.pixel (compound_motion value p references mvs (in_frame (rect_of from.now p) (visible_in area)) r c)) }
 {
     let mut region = plane.region_mut(visible_area(area.x, area.y, area.width, area.height));
     predict_inter_compound(

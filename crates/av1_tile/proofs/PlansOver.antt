@@ -124,7 +124,8 @@ module _ {T : Type 0} (num : T → ℕ) (h : Header) (leaves : List LeafValue) (
       → (q, last) ≡ fold (keeping_step num pixel (with_header h (scene plan))) (p, kept) (steps_by h (at_start told) leaves) → ShowsPredictions num plan last
   over_predicts pixel law back p q kept last told stores room empty walked =
       let own : (q, last) ≡ fold (keeping_step num pixel (scene plan)) (p, kept) (steps_by plan.header (at_start told) plan.leaves) =
-      subst (λ (ls : List LeafValue). (q, last) ≡ fold (keeping_step num pixel (scene plan)) (p, kept) (steps_by plan.header (at_start told) ls)) (sym is.leaves)
+      subst (λ (ls : List LeafValue). (q, last) ≡ fold (keeping_step num pixel (scene plan)) (p, kept) (steps_by plan.header (at_start told) ls))
+      (sym is.leaves)
       (subst (λ (k : Header). (q, last) ≡ fold (keeping_step num pixel (with_header k (scene plan))) (p, kept) (steps_by k (at_start told) leaves))
       (sym is.header) walked) in
       plan_predicts plan is.spelled is.valid num pixel law back p q kept last told (subst (λ (k : Header). StoresAll num k p) (sym is.header) stores)

@@ -31,7 +31,8 @@ use Rattle.av1_tile.specs.declared.plane_block.Prediction.TheVariants as predict
 use Rattle.av1_tile.specs.PlaneBlocks.{extent_of, is_whole}
 use Rattle.av1_tile.specs.Reference.{Scene, above, beside, by_mode, by_prediction, kind_motion, no_luma, parts_motion}
 use Rattle.av1_tile.specs.Steps.{predict, add, own_prediction, whole_steps}
-use Rattle.av1_tile.specs.Walk.{IsPlaneOf, KindServes, PartsServe, ServesScene, Stores, PredictionFits, edge_by_place, answer_right, answer_low, placed_edge, fast_in}
+use Rattle.av1_tile.specs.Walk.{IsPlaneOf, KindServes, PartsServe, ServesScene, Stores, PredictionFits, edge_by_place, answer_right, answer_low}
+use Rattle.av1_tile.specs.Walk.{placed_edge, fast_in}
 use Rattle.av1_frame.proofs.Within.{chosen_below, clip_within, painted_numbers_below, sample_below, some_numbers}
 use Rattle.av1_edges.proofs.Within.{above_within, base_within, corner_within, left_within, smoothed_within, some_available, available_inside}
 use Rattle.av1_lists.proofs.Lists.{by_index-all}
@@ -134,7 +135,8 @@ module _ {T : Type 0} (num : T → ℕ) (pixel : ℕ → T) (law : (v : ℕ) →
     abbrev AreWithin : (VisibleArea → ℕ → ℕ → ℕ) → Type 0
     AreWithin f = (a : VisibleArea) (r c : ℕ) → f a r c < 2 ^ plan.header.depth
 
-    plan_within : (kind : LeafKind) → KindServes plan.header kind → (a : VisibleArea) (r c : ℕ) → kind_motion holds.plan p kind a r c < 2 ^ holds.plan.header.depth
+    plan_within : (kind : LeafKind) → KindServes plan.header kind → (a : VisibleArea) (r c : ℕ) →
+        kind_motion holds.plan p kind a r c < 2 ^ holds.plan.header.depth
     plan_within (Intra mode step chroma) serves a r c = absurd serves
     plan_within (Single mode reference mv) serves a r c =
         held_motion_within num holds.plan from.fi.now reference p mv a r c holds.serves (holds.has reference ∙ serves.1.has) below

@@ -98,7 +98,8 @@ unfoldable pub keeping_in : {T : Type 0} → (T → ℕ) → (ℕ → T) → Sce
 keeping_in num pixel scene p luma s step =
     let plane = fast_in num pixel scene p luma s.0 step in (plane, kept_in num pixel p plane s.1 step)
 
--- what steps of a block make of both, in any scene with this header; `luma` is how far luma is from its mean, row by row
+-- what steps of a block make of both, in any scene with this header; `luma` is how far luma is from its mean, row by
+-- row
 abbrev pub WalksKeeping : {T : Type 0} → (T → ℕ) → (ℕ → T) → Header → PlaneBlock → (luma : List ℤ) → List Step →
     (before after : Keeping (Plane T) T) → Type 0
 WalksKeeping num pixel h block luma steps before after =

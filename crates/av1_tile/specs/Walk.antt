@@ -65,7 +65,8 @@ use Rattle.av1_tile.specs.PlaneBlocks.{number, component, extent_of, block_told,
 use Rattle.av1_tile.specs.PlaneBlocks.{is_from_luma}
 use Rattle.av1_tile.specs.PlaneBlocks.{triples_in}
 use Rattle.av1_tile.specs.Shared.{moved, parts_at}
-use Rattle.av1_tile.specs.Reference.{Scene, by_mode, by_prediction, kind_motion, luma_for, luma_of, added, block_residue}
+use Rattle.av1_tile.specs.Reference.{Scene, by_mode, by_prediction, kind_motion, luma_for, luma_of, added}
+use Rattle.av1_tile.specs.Reference.{block_residue}
 use Rattle.av1_tile.specs.Steps.{Step, predict, add, PlaneStep, steps_of}
 
 -- ---- edges by place
@@ -517,8 +518,8 @@ steps_by h known (leaf ∷ leaves) = leaf_steps_by h known leaf ++ steps_by h (w
 
 -- ---- the references
 
--- What leaves from references predict of the scene is what the references of a tile have: those of a plan, read from the
--- tile's place in the frame on. In what motion reads of a header that plan's frame and the scene agree.
+-- What leaves from references predict of the scene is what the references of a tile have: those of a plan, read from
+-- the tile's place in the frame on. In what motion reads of a header that plan's frame and the scene agree.
 pub record ServesScene {T : Type 0} (num : T → ℕ) (scene : Scene) (from : TileReferences T) : Type 0 where
   pub plan : PlanValue
   pub serves : ServesPlan num plan from.fi.now

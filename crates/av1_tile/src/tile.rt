@@ -5,7 +5,8 @@ ghost use Rattle.std.specs.List.{fold};
 ghost use Rattle.av1_plan.specs.Values.{leaves_value};
 ghost use Rattle.av1_tile.specs.Predicted.{keeping_step};
 ghost use Rattle.av1_tile.specs.Reference.{Scene};
-ghost use Rattle.av1_tile.specs.Walk.{at_start, cell_at, edges_after, fast_step, steps_by, HasCells, HoldsPlanes, KeepsPlanes, LeafFits, ServesScene, with_header};
+ghost use Rattle.av1_tile.specs.Walk.{at_start, cell_at, edges_after, fast_step, steps_by, HasCells, HoldsPlanes, KeepsPlanes, LeafFits, ServesScene};
+ghost use Rattle.av1_tile.specs.Walk.{with_header};
 
 use crate::buffers::WalkBuffers;
 use crate::cells::CodedCells;

@@ -36,7 +36,8 @@ isolated f g plans_f plans_g frame_f frame_g i tiles_f tiles_g joined_f joined_g
     joined_f i lt_f component x y lx ly
     ∙ ap (λ (m : ℕ → LeafKind → VisibleArea → ℕ → ℕ → ℕ).
     sample_of (walk_of (record { header = (plans_f i).header; motion = m }) (plans_f i).leaves component x y)) motion
-    ∙ ap (λ (plan : PlanValue). sample_of (walk_of (record { header = plan.header; motion = tile_motion g.front i (plans_g i) }) plan.leaves component x y)) same
+    ∙ ap (λ (plan : PlanValue). sample_of (walk_of (record { header = plan.header; motion = tile_motion g.front i (plans_g i) }) plan.leaves component x y))
+    same
     ∙ sym (joined_g i lt_g component x y lx_g ly_g)
     ∙ ap (λ (column : ℕ). frame_g component (column + x) (corner_row g.front.header (tile_area g.front i) p + y)) (sym (columns component))
     ∙ ap (λ (row : ℕ). frame_g component (corner_column f.front.header (tile_area f.front i) p + x) (row + y)) (sym (rows component))

@@ -43,8 +43,10 @@ agree f bounds plans others tiles_a tiles_b a b joined_a joined_b c x y lx ly =
     let dy = y - corner_row h t p in
     let from_x : corner_column h t p ≤ x = subst (λ (q : TileArea). q.x / 2 ^ xdec h p ≤ x) (sym at.area) column.from in
     let from_y : corner_row h t p ≤ y = subst (λ (q : TileArea). q.y / 2 ^ ydec h p ≤ y) (sym at.area) row.from in
-    let wide : dx < (t.width + xdec h p) / 2 ^ xdec h p = subst (λ (q : TileArea). x - q.x / 2 ^ xdec h p < (q.width + xdec h p) / 2 ^ xdec h p) (sym at.area) column.below in
-    let high : dy < (t.height + ydec h p) / 2 ^ ydec h p = subst (λ (q : TileArea). y - q.y / 2 ^ ydec h p < (q.height + ydec h p) / 2 ^ ydec h p) (sym at.area) row.below in
+    let wide : dx < (t.width + xdec h p) / 2 ^ xdec h p =
+    subst (λ (q : TileArea). x - q.x / 2 ^ xdec h p < (q.width + xdec h p) / 2 ^ xdec h p) (sym at.area) column.below in
+    let high : dy < (t.height + ydec h p) / 2 ^ ydec h p =
+    subst (λ (q : TileArea). y - q.y / 2 ^ ydec h p < (q.height + ydec h p) / 2 ^ ydec h p) (sym at.area) row.below in
     let in_x : dx < tile_columns f.front i p = subst (λ (n : ℕ). dx < n) (sym (tile_width h t p)) wide in
     let in_y : dy < tile_rows f.front i p = subst (λ (n : ℕ). dy < n) (sym (tile_height h t p)) high in
     let place_x : corner_column h t p + dx ≡ x = omega (arith, from_x) in

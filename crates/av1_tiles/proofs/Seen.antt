@@ -1,5 +1,6 @@
 -- What a tile is predicted from: its own plan, or the whole of each reference.
-use Rattle.std.proofs.Common.{◌≡◌, ◌==◌, ℕ, zero, suc, ◌+◌, ◌/◌, ◌^◌, ◌<◌, ◌≤◌, List, None, Result, Ok, Err, IfOk, Bool, true, false, if◌then◌else◌, refl, sym, ap, subst, ◌∙◌, arith}
+use Rattle.std.proofs.Common.{◌≡◌, ◌==◌, ℕ, zero, suc, ◌+◌, ◌/◌, ◌^◌, ◌<◌, ◌≤◌, List, None, Result, Ok, Err, IfOk, Bool, true, false, if◌then◌else◌, refl}
+use Rattle.std.proofs.Common.{sym, ap, subst, ◌∙◌, arith}
 use Rattle.std.proofs.Math.Nat.{div-le_self}
 use mathlib.Core.Path.{fun_ext}
 use Rattle.av1_blocks.specs.declared.partition.RefType.{RefType}
@@ -31,12 +32,19 @@ use Rattle.av1_tiles.specs.Seen.{IsAtTile}
 use Rattle.av1_tiles.specs.Tiles.{IsTileArea, corner_column, corner_row, tile_area, tile_header, tile_motion, tile_scene, tile_walk}
 use Rattle.av1_tiles.proofs.Rectangles.{same_xdec, same_ydec}
 
+-- what leaves predict of tile i, where motion reads the frame's references and where it doesn't
+abbrev by_choice : FrontValue → ℕ → PlanValue → ℕ → LeafKind → VisibleArea → Bool → ℕ → ℕ → ℕ
+by_choice f i plan p kind a b =
+    let h = f.header in
+    let t = tile_area f i in
+    if b then kind_motion (frame_with h f.references) p kind (shifted (corner_column h t p) (corner_row h t p) a) else kind_motion plan p kind a
+
 -- ---- a tile's own plan
 
 module _ (f : FrontValue) (i : ℕ) (plan : PlanValue) (early : follows_av1 f.header ≡ false) where
   own_motion : tile_motion f i plan ≡ kind_motion plan
   own_motion = fun_ext (λ p. fun_ext (λ kind. fun_ext (λ a.
-      ap (λ (b : Bool). if b then kind_motion (frame_with f.header f.references) p kind (shifted (corner_column f.header (tile_area f i) p) (corner_row f.header (tile_area f i) p) a) else kind_motion plan p kind a) early)))
+      ap (by_choice f i plan p kind a) early)))
 
   own_walk : tile_walk f i plan ≡ slow_walk plan
   unfolding slow_walk
@@ -107,7 +115,8 @@ module _ {T : Type 0} (num : T → ℕ) (f : FrontValue) (i : ℕ) (plan : PlanV
     (header : tile_header f.header (tile_area f i) ≡ plan.header) (own : from.fi.now ≡ fi) (place : IsAtTile f.header (tile_area f i) from)
     (holds : HoldsReferences num (frame_with f.header f.references) fi) where
   -- a rectangle of the tile lies there in the frame
-  same_rectangle : (p : ℕ) (a : VisibleArea) → shifted (corner_column f.header (tile_area f i) p) (corner_row f.header (tile_area f i) p) a ≡ in_frame (rect_of from p) a
+  same_rectangle : (p : ℕ) (a : VisibleArea) →
+      shifted (corner_column f.header (tile_area f i) p) (corner_row f.header (tile_area f i) p) a ≡ in_frame (rect_of from p) a
   same_rectangle p a =
       ap (λ (n : ℕ). record a { x = n + a.x; y = corner_row f.header (tile_area f i) p + a.y }) (sym (place.column p))
       ∙ ap (λ (n : ℕ). record a { x = (rect_of from p).x + a.x; y = n + a.y }) (sym (place.row p))
@@ -116,7 +125,9 @@ module _ {T : Type 0} (num : T → ℕ) (f : FrontValue) (i : ℕ) (plan : PlanV
   pub frame_serves : ServesScene num (tile_scene f i plan) from
   frame_serves = record {
     plan = frame_with f.header f.references;
-    serves = subst (λ (g : FrameInvariants T). ServesPlan num (frame_with f.header f.references) g) (sym own) (holds_serves num (frame_with f.header f.references) fi holds);
+    serves =
+        subst (λ (g : FrameInvariants T). ServesPlan num (frame_with f.header f.references) g) (sym own)
+        (holds_serves num (frame_with f.header f.references) fi holds);
     depth = ap (λ (h : Header). h.depth) header;
     xdec = λ p. sym (same_xdec f.header (tile_area f i) p) ∙ ap (λ (h : Header). xdec h p) header;
     ydec = λ p. sym (same_ydec f.header (tile_area f i) p) ∙ ap (λ (h : Header). ydec h p) header;
@@ -126,6 +137,6 @@ module _ {T : Type 0} (num : T → ℕ) (f : FrontValue) (i : ℕ) (plan : PlanV
     near_y = λ p. subst (λ (n : ℕ). n < 2 ^ 16) (sym (place.row p))
         (near (tile_area f i).y (ydec f.header p) f.header.shown_height (omega (arith, area.rows)) (omega (arith, read.shown_height.within, read.height.most)));
     motion = λ p kind a r c.
-        ap (λ (b : Bool). (if b then kind_motion (frame_with f.header f.references) p kind (shifted (corner_column f.header (tile_area f i) p) (corner_row f.header (tile_area f i) p) a) else kind_motion plan p kind a) r c) third
+        ap (λ (b : Bool). by_choice f i plan p kind a b r c) third
         ∙ ap (λ (b : VisibleArea). kind_motion (frame_with f.header f.references) p kind b r c) (same_rectangle p a);
   }

@@ -1,5 +1,5 @@
--- The plan of each tile: the tile's sides, its rectangle of each reference plane, and the leaves that its part spells; and
--- what these are predicted from.
+-- The plan of each tile: the tile's sides, its rectangle of each reference plane, and the leaves that its part spells;
+-- and what these are predicted from.
 use Rattle.std.specs.Prelude.{ℕ, ◌+◌, ◌*◌, ◌-◌, ◌/◌, ◌%◌, ◌^◌, ◌≤◌, List, [], ◌∷◌, length, take, drop, map, Option}
 use Rattle.std.specs.Prelude.{option_map, slice_index, slice_index_or, ◌≡◌, if◌then◌else◌}
 use Rattle.std.specs.List.{flat_map, range_with_len}
@@ -34,7 +34,8 @@ area_between columns rows k r = record {
 unfoldable pub tile_area : FrontValue → ℕ → TileArea
 tile_area f i = area_between f.columns f.rows (i % across f) (i / across f)
 
--- a rectangle of what is shown of the frame that begins with a superblock, and has the sides of what is shown of a frame
+-- a rectangle of what is shown of the frame that begins with a superblock, and has the sides of what is shown of a
+-- frame
 pub record IsTileArea (h : Header) (a : TileArea) : Type 0 where
   pub columns : a.x + a.width ≤ h.shown_width
   pub rows : a.y + a.height ≤ h.shown_height

@@ -86,8 +86,7 @@ pub fn join_tiles<T: Pixel>(alloc: Global, file: &TileFile<'_>) -> Result<Planes
     let mut planes = Planes::new(alloc, &file.front.header, 0)?;
     let mut memory = WalkMemory::new(alloc, &file.front.header)?;
     for index in 0..file.parts.len() {
-        if let Err(error) = reconstruct_in(alloc, &mut planes, file, index, &seen, &mut memory)
-        {
+        if let Err(error) = reconstruct_in(alloc, &mut planes, file, index, &seen, &mut memory) {
             return Err(tile_error(index, error));
         }
     }

@@ -3,7 +3,8 @@ use Rattle.std.specs.List.{fold}
 use Rattle.av1_plan.specs.Values.{leaf_list, leaves_value}
 use Rattle.av1_tile.specs.Reference.{Scene}
 use Rattle.av1_tile.specs.Predicted.{keeping_step}
-use Rattle.av1_tile.specs.Walk.{HasCells, MoversServe, SameLayout, ServesScene, StoresAll, at_start, cell_at, edges_after, fast_step, movers_of, steps_by, with_all_known}
+use Rattle.av1_tile.specs.Walk.{HasCells, MoversServe, SameLayout, ServesScene, StoresAll, at_start, cell_at, edges_after, fast_step, movers_of, steps_by}
+use Rattle.av1_tile.specs.Walk.{with_all_known}
 use Rattle.av1_tile.specs.Walk.{with_header}
 use Rattle.av1_tile.proofs.PlanLeaves.{KnowSame}
 use Rattle.av1_tile.proofs.tile.reconstruct_leaves.Given as goal

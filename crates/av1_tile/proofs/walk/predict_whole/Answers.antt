@@ -72,15 +72,21 @@ predict_kind-requires-in-Compound-clause-references g c =
       own.0,
       (
         own.1.0,
-        as_compound own.0.header block.plane block.area block.prediction own.1.1 _ (ap visible_in c.whole_area-in-Compound.ensures.value) _ _ _ c.in-Compound.is,
+        as_compound own.0.header block.plane block.area block.prediction own.1.1 _ (ap visible_in c.whole_area-in-Compound.ensures.value) _ _ _
+            c.in-Compound.is,
       ),
     )
 
 pub predict_parts-requires-clause-references : goal.predict_parts-requires-clause-references
 predict_parts-requires-clause-references g c =
     let block = c.args.block.now in
-    let own = c.requires.references in
-    (own.0, (own.1.0, as_parts own.0.header block.plane block.area block.prediction own.1.1 _ (ap visible_in c.whole_area-in-Parts.ensures.value) _ c.in-Parts.is))
+    let own = c.requires.references in (
+      own.0,
+      (
+        own.1.0,
+        as_parts own.0.header block.plane block.area block.prediction own.1.1 _ (ap visible_in c.whole_area-in-Parts.ensures.value) _ c.in-Parts.is,
+      ),
+    )
 
 -- what was painted in the area that is the block's
 moved_to : {T : Type 0} (plane after : Plane T) (area : PlaneArea) (a : VisibleArea) (f : VisibleArea → ℕ → ℕ → T) → a ≡ leaf_area area →

@@ -12,7 +12,7 @@ use Rattle.av1_tile.proofs.Lifts.{whole_steps_same}
 use Rattle.av1_tile.proofs.walk.reconstruct_plane_block.Goals as goal
 
 pub predict_whole-requires-clause-depth : goal.predict_whole-requires-clause-depth
-predict_whole-requires-clause-depth g c = 
+predict_whole-requires-clause-depth g c =
     let own = c.requires.frame.references.1 in omega (arith, own.serves.settings.depth, own.depth, c.requires.frame.depth)
 
 pub predict_whole-requires-clause-fits : goal.predict_whole-requires-clause-fits
