@@ -7,7 +7,7 @@ use Rattle.av1_tiles.specs.Bounds.{AreBounds, IsReadFront}
 use Rattle.av1_tiles.specs.File.{front_value}
 use Rattle.av1_tiles.specs.Grammar.{count_tiles}
 use Rattle.av1_tiles.specs.Tiles.{IsTileArea, tile_area}
-use Rattle.av1_tiles.proofs.Starts.{coded_between, shown_between}
+use Rattle.av1_tiles.proofs.Starts.{area_of}
 use Rattle.av1_tiles.proofs.Placing.{ends_before, halved_before}
 
 -- before a run of samples or behind it
@@ -51,23 +51,8 @@ row_in f read i lt =
 pub area_is : (f : Front) → IsReadFront f → (i : ℕ) → i < count_tiles (front_value f) → IsTileArea f.header (tile_area (front_value f) i)
 unfolding tile_area
 area_is f read i lt =
-    let k = i % (length f.columns.items - 1) in
-    let r = i / (length f.columns.items - 1) in
-    let column = column_in f read i lt in
-    let row = row_in f read i lt in
-    record {
-      columns = omega (arith, read.columns.rising k column, read.columns.within (k + 1) column);
-      rows = omega (arith, read.rows.rising r row, read.rows.within (r + 1) row);
-      column = read.columns.whole k column;
-      row = read.rows.whole r row;
-      width = shown_between f.header.version f.header.shown_width f.columns.items
-          (λ early. omega (arith, read.frame.shown_width.whole early, read.frame.width.whole)) read.columns k column;
-      height = shown_between f.header.version f.header.shown_height f.rows.items
-          (λ early. omega (arith, read.frame.shown_height.whole early, read.frame.height.whole)) read.rows r row;
-      coded_width = coded_between f.header.shown_width f.columns.items (omega (arith, read.frame.shown_width.within, read.frame.width.most)) read.columns k
-          column;
-      coded_height = coded_between f.header.shown_height f.rows.items (omega (arith, read.frame.shown_height.within, read.frame.height.most)) read.rows r row;
-    }
+    area_of f.header f.columns.items f.rows.items (i % (length f.columns.items - 1)) (i / (length f.columns.items - 1)) read.frame read.columns read.rows
+    (column_in f read i lt) (row_in f read i lt)
 
 -- a sample of one tile isn't in another
 pub tiles_apart : (f : Front) → IsReadFront f → (i j : ℕ) → i < count_tiles (front_value f) → j < count_tiles (front_value f) → i ≢ j → (dx dy x y : ℕ) →

@@ -155,19 +155,3 @@ tile_width h a p = ap (λ (d : ℕ). (a.width + d) / 2 ^ d) (same_xdec h a p)
 pub tile_height : (h : Header) (a : TileArea) (p : ℕ) → shown_rows (tile_header h a) p ≡ (a.height + ydec h p) / 2 ^ ydec h p
 unfolding shown_rows
 tile_height h a p = ap (λ (d : ℕ). (a.height + d) / 2 ^ d) (same_ydec h a p)
-
--- a tile is a frame
-pub tile_frame : (h : Header) (a : TileArea) → IsReadFrame h → IsTileArea h a → IsReadFrame (tile_header h a)
-tile_frame h a read is = record {
-  least_version = read.least_version;
-  most_version = read.most_version;
-  width = is.coded_width;
-  height = is.coded_height;
-  shown_width = is.width;
-  shown_height = is.height;
-  depth = read.depth;
-  sampling = read.sampling;
-  filter = read.filter;
-  slots = read.slots;
-  mask = read.mask;
-}

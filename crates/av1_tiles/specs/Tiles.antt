@@ -10,7 +10,7 @@ use Rattle.av1_plan.specs.Format.{Format}
 use Rattle.av1_plan.specs.Geometry.{coded_side, follows_av1, xdec, ydec, shown_columns, shown_rows}
 use Rattle.av1_plan.specs.Grammar.{plan_behind}
 use Rattle.av1_plan.specs.Plan.{PlanValue}
-use Rattle.av1_plan.specs.ReadPlans.{IsShown, IsSide}
+use Rattle.av1_plan.specs.ReadPlans.{IsReadFrame}
 use Rattle.av1_references.specs.References.{frame_with, shifted}
 use Rattle.av1_tile.specs.Canvas.{Canvas}
 use Rattle.av1_tile.specs.Reference.{Scene, kind_motion, walk_of}
@@ -34,18 +34,6 @@ area_between columns rows k r = record {
 unfoldable pub tile_area : FrontValue → ℕ → TileArea
 tile_area f i = area_between f.columns f.rows (i % across f) (i / across f)
 
--- a rectangle of what is shown of the frame that begins with a superblock, and has the sides of what is shown of a
--- frame
-pub record IsTileArea (h : Header) (a : TileArea) : Type 0 where
-  pub columns : a.x + a.width ≤ h.shown_width
-  pub rows : a.y + a.height ≤ h.shown_height
-  pub column : a.x % 64 ≡ 0
-  pub row : a.y % 64 ≡ 0
-  pub width : IsShown h.version a.width (coded_side a.width)
-  pub height : IsShown h.version a.height (coded_side a.height)
-  pub coded_width : IsSide (coded_side a.width)
-  pub coded_height : IsSide (coded_side a.height)
-
 -- a tile as a frame of its own, of which these sides are shown
 abbrev pub tile_header : Header → TileArea → Header
 tile_header h a = record {
@@ -61,6 +49,12 @@ tile_header h a = record {
   slots = h.slots;
   mask = h.mask;
 }
+
+-- a rectangle of what is shown of the frame, with which a tile is a frame of its own
+pub record IsTileArea (h : Header) (a : TileArea) : Type 0 where
+  pub columns : a.x + a.width ≤ h.shown_width
+  pub rows : a.y + a.height ≤ h.shown_height
+  pub frame : IsReadFrame (tile_header h a)
 
 -- the column and the row of plane p at which a rectangle of luma begins
 abbrev pub corner_column : Header → TileArea → ℕ → ℕ

@@ -66,8 +66,7 @@ pub fn tile_area(front: &Front, index: usize) -> TileArea
 
 /// A tile as a frame of its own.
 fn tile_header(header: &Header, area: TileArea) -> Header
-    requires width { area.width ≤ 2048 }
-    requires height { area.height ≤ 2048 }
+    requires area { IsTileArea header.now area }
     ensures { result ≡ tile_header header.now area }
 {
     Header {
