@@ -65,7 +65,7 @@ def third_grids(add):
     other_two = b"\0" + leaf(mode=33, vectors=[(2, 0, -400), (1, 33, -16000)], tx_size=4)
     two = {"mask": 3, "slots": (0, 1, 0, 0, 0, 0, 0)}
     four = [by(0, 8), by(0, -8), by(-8, 4), by(-12, -20)]
-    corner = [by(0, 0), parts(APART), by(-3, 5), parts(((0, -512), (-9, 3), (16, 16), (-512, -512)))]
+    corner = [by(0, 0), by(-3, 5), by(9, -9), parts(((0, -512), *APART[:2], (-512, -13)))]
     cases = [
         grid([by(0, -16000), by(0, 16000)], mask=1, references=RISING), grid([by(0, 512), by(0, -512)], mask=1, references=RISING),
         grid([by(0, 8), BACK], mask=1, references=RISING, filter=2), sloped(four, 67, 69, columns=(64,), rows=(64,)),
@@ -73,7 +73,7 @@ def third_grids(add):
     others = ((1, 8), (2, 10), (0, 12), (1, 12))
     cases += [sloped(four, 65, 66, sampling, depth, columns=(64,), rows=(64,)) for sampling, depth in others]
     cases += [sloped(corner, 72, 72, columns=(64,), rows=(64,))]
-    cases += [sloped(corner[:2], 72, 8, depth=depth, filter=filter, columns=(64,)) for filter in range(4) for depth in (8, 10)]
+    cases += [sloped(corner[::3], 72, 8, depth=depth, filter=filter, columns=(64,)) for filter in range(4) for depth in (8, 10)]
     cases += [
         grid([of_two_slots, other_two], width=99, sampling=sampling, references=slopes(99, 8, sampling, slots=2), **two) for sampling in range(3)]
     refused = [
