@@ -209,7 +209,7 @@ fn rect_in(header: &Header, area: TileArea, p: usize) -> TileRect
 
 /// The picture that a tile with this valid plan comes to, reconstructed in this memory, where motion reads the
 /// references of its frame. An error is running out of memory.
-pub fn reconstruct_in_frame<T: Pixel>(
+fn reconstruct_in_frame<T: Pixel>(
     alloc: Global,
     plan: &Plan,
     from: &TileReferences<'_, T>,
