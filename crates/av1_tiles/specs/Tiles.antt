@@ -1,7 +1,7 @@
 -- The plan of each tile: the tile's sides, its rectangle of each reference plane, and the leaves that its part spells;
 -- and what these are predicted from.
 use Rattle.std.specs.Prelude.{ℕ, ◌+◌, ◌*◌, ◌-◌, ◌/◌, ◌%◌, ◌^◌, ◌≤◌, List, [], ◌∷◌, length, take, drop, map, Option}
-use Rattle.std.specs.Prelude.{option_map, slice_index, slice_index_or, ◌≡◌, if◌then◌else◌}
+use Rattle.std.specs.Prelude.{option_map, slice_index, slice_index_or, if◌then◌else◌}
 use Rattle.std.specs.List.{flat_map, range_with_len}
 use Rattle.av1_frame.specs.Areas.{VisibleArea}
 use Rattle.av1_plan.specs.declared.header.Header.{Header}

@@ -1,9 +1,10 @@
-use Rattle.std.proofs.Common.{◌≤◌, ◌≡◌, ◌∙◌, ◌×◌, sym, subst, refl}
+use Rattle.std.proofs.Common.{◌≤◌, subst, refl}
 use Rattle.av1_plan.specs.declared.header.Header.{Header}
 use Rattle.av1_plan.specs.Values.{plan_value}
+use Rattle.av1_tiles.specs.declared.area.TileArea.{TileArea}
 use Rattle.av1_tiles.specs.File.{front_value, file_value}
 use Rattle.av1_tiles.specs.Seen.{IsAtTile, SeesFront}
-use Rattle.av1_tiles.specs.Tiles.{IsTileArea, tile_area, tile_header, tile_scene}
+use Rattle.av1_tiles.specs.Tiles.{tile_area, tile_scene}
 use Rattle.av1_tiles.proofs.Apart.{area_is}
 use Rattle.av1_tiles.proofs.Isolation.{tile_header_is}
 use Rattle.av1_tiles.proofs.Seen.{frame_serves, own_shown, seen_shown}
@@ -20,7 +21,7 @@ reconstruct_in_frame-requires-clause-serves g c =
     let plan = plan_value c.args.plan.now in
     let seen = subst (SeesFront g.T.Pixel.num front) c.in-Some.is c.requires.seen in
     let area = area_is front c.requires.read.front c.args.index c.requires.tile in
-    let place = subst (λ (a : _). IsAtTile front.header a c.references_of-from.result) c.tile_area.ensures.value c.references_of-from.ensures.place in (
+    let place = subst (λ (a : TileArea). IsAtTile front.header a c.references_of-from.result) c.tile_area.ensures.value c.references_of-from.ensures.place in (
       tile_scene (front_value front) c.args.index plan,
       (
         frame_serves g.T.Pixel.num (front_value front) c.args.index plan c.references_of-from.result c.in-Some.fi seen.0 c.requires.read.front.frame area
