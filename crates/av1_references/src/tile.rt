@@ -16,7 +16,7 @@ pub struct TileReferences<'a, T> {
     pub chroma: TileRect,
 }
 
-/// All that is coded of plane `p` of a frame.
+/// All that is shown of plane `p` of a frame.
 fn whole_plane(header: &Header, p: usize) -> TileRect
     ensures x { result.x ≡ 0 }
     ensures y { result.y ≡ 0 }
@@ -24,8 +24,8 @@ fn whole_plane(header: &Header, p: usize) -> TileRect
     TileRect {
         x: 0,
         y: 0,
-        width: header.plane_width(p),
-        height: header.plane_height(p),
+        width: header.shown_columns(p),
+        height: header.shown_rows(p),
     }
 }
 

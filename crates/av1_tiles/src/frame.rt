@@ -199,11 +199,12 @@ fn rect_in(header: &Header, area: TileArea, p: usize) -> TileRect
     ensures row { result.y ≡ corner_row header.now area p }
 {
     let (x, y) = corner(header, area, p);
+    let (xdec, ydec) = (header.xdec(p), header.ydec(p));
     TileRect {
         x,
         y,
-        width: usize::from(area.width) >> header.xdec(p),
-        height: usize::from(area.height) >> header.ydec(p),
+        width: (usize::from(area.width) + xdec) >> xdec,
+        height: (usize::from(area.height) + ydec) >> ydec,
     }
 }
 
