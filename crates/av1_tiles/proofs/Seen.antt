@@ -69,15 +69,14 @@ own_shown num f i plan (Err e) early shows = tt
 -- they begin at the tile's corner
 pub at_tile : {T : Type 0} (h : Header) (a : TileArea) (from : TileReferences T) → from.luma.x ≡ corner_column h a 0 → from.luma.y ≡ corner_row h a 0 →
     from.chroma.x ≡ corner_column h a 1 → from.chroma.y ≡ corner_row h a 1 → IsAtTile h a from
+unfolding xdec ydec
 at_tile {T} h a from x y chroma_x chroma_y = record { column = column; row = row }
   where
     column : (p : ℕ) → (rect_of from p).x ≡ corner_column h a p
-    unfolding xdec
     column zero = x
     column (suc p) = chroma_x
 
     row : (p : ℕ) → (rect_of from p).y ≡ corner_row h a p
-    unfolding ydec
     row zero = y
     row (suc p) = chroma_y
 
