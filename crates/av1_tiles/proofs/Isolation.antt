@@ -13,7 +13,7 @@ use Rattle.av1_tile.specs.PlaneBlocks.{number}
 use Rattle.av1_tile.specs.Reference.{walk_of}
 use Rattle.av1_tiles.specs.Grammar.{FrontValue, FileValue}
 use Rattle.av1_tiles.specs.Joined.{TilesAreIsolated}
-use Rattle.av1_tiles.specs.Tiles.{tile_area, tile_header, tile_motion, tile_plan, corner_column, corner_row}
+use Rattle.av1_tiles.specs.Tiles.{tile_area, tile_header, tile_motion, tile_plan, tile_walk, corner_column, corner_row}
 use Rattle.av1_tiles.specs.Validity.{IsTile}
 
 -- the header of a tile's plan is the tile's
@@ -27,6 +27,7 @@ pub tile_header_is : (f : FileValue) (i : ℕ) (plan : PlanValue) → IsTile f i
 tile_header_is f i plan is = plan_header f.front i plan (record { values = is.text.0; spells = is.text.1 })
 
 pub isolated : TilesAreIsolated
+unfolding walk_of tile_walk
 isolated f g plans_f plans_g frame_f frame_g i tiles_f tiles_g joined_f joined_g lt_f lt_g same motion columns rows component x y lx ly =
     let p = number component in
     let header : tile_header f.front.header (tile_area f.front i) ≡ tile_header g.front.header (tile_area g.front i) =

@@ -47,11 +47,12 @@ module _ (f : FrontValue) (i : ℕ) (plan : PlanValue) (early : follows_av1 f.he
       ap (by_choice f i plan p kind a) early)))
 
   own_walk : tile_walk f i plan ≡ slow_walk plan
-  unfolding slow_walk
+  unfolding slow_walk tile_walk walk_of
   own_walk = ap (λ (m : ℕ → LeafKind → VisibleArea → ℕ → ℕ → ℕ). walk_of (record { header = plan.header; motion = m }) plan.leaves) own_motion
 
   -- what shows the plan shows the tile
   pub own_shows : {T : Type 0} (num : T → ℕ) (q : Planes T) → ShowsPlan num plan q → ShowsScene num (tile_scene f i plan) plan.leaves q
+  unfolding walk_of tile_walk
   own_shows num q shows k x y hx hy = shows k x y hx hy ∙ sym (ap (λ (w : Canvas). sample_of (w k x y)) own_walk)
 
 pub plans_are_all : PlansAreAll
@@ -59,7 +60,7 @@ plans_are_all f i plan few =
     let early : follows_av1 f.header ≡ false = not_third f.header.version few in
     (own_motion f i plan early, own_walk f i plan early)
 
-pub own_shown : {T E : Type 0} (num : T → ℕ) (f : FrontValue) (i : ℕ) (plan : PlanValue) (r : Result (TilePicture T) E) → follows_av1 f.header ≡ false →
+pub own_shown : {T C E : Type 0} (num : T → ℕ) (f : FrontValue) (i : ℕ) (plan : PlanValue) (r : Result (TilePicture T C) E) → follows_av1 f.header ≡ false →
     IfOk r (λ tile. ShowsPlan num plan tile.planes) → IfOk r (λ tile. ShowsScene num (tile_scene f i plan) plan.leaves tile.planes)
 own_shown num f i plan (Ok tile) early shows = own_shows f i plan early num tile.planes shows
 own_shown num f i plan (Err e) early shows = tt
@@ -94,7 +95,7 @@ tile_over num plan own h from scene are same valid header serves = record {
 }
 
 -- what shows each scene that is served shows the tile's
-pub seen_shown : {T E : Type 0} (num : T → ℕ) (scene : Scene) (plan : PlanValue) (from : TileReferences T) (r : Result (TilePicture T) E)
+pub seen_shown : {T C E : Type 0} (num : T → ℕ) (scene : Scene) (plan : PlanValue) (from : TileReferences T) (r : Result (TilePicture T C) E)
     → ServesScene num scene from → scene.header ≡ plan.header
     → IfOk r (λ tile. (scene : Scene) → ServesScene num scene from → scene.header ≡ plan.header → ShowsScene num scene plan.leaves tile.planes)
     → IfOk r (λ tile. ShowsScene num scene plan.leaves tile.planes)

@@ -165,14 +165,6 @@ area_of h columns rows k r read wide high column row = record {
   };
 }
 
--- the same of what calls gave
-pub area_by : (h : Header) (columns rows : List ℕ) (k r x y right low : ℕ) → IsReadFrame h → AreBounds h.shown_width columns →
-    AreBounds h.shown_height rows → k + 1 < length columns → r + 1 < length rows
-    → x ≡ slice_index columns k → y ≡ slice_index rows r → right ≡ slice_index columns (k + 1) → low ≡ slice_index rows (r + 1) →
-    IsTileArea h (record { x = x; y = y; width = right - x; height = low - y })
-area_by h columns rows k r x y right low read wide high column row x_is y_is right_is low_is =
-    rw (x_is, y_is, right_is, low_is) (area_of h columns rows k r read wide high column row)
-
 -- ---- reading
 
 -- one start, and then the others behind it
