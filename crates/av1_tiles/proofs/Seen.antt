@@ -1,5 +1,5 @@
 -- What a tile is predicted from: its own plan, or the whole of each reference.
-use Rattle.std.proofs.Common.{◌≡◌, ℕ, zero, suc, ◌+◌, ◌/◌, ◌^◌, ◌<◌, ◌≤◌, List, None, Result, Ok, Err, IfOk, Bool, true, false, if◌then◌else◌, refl}
+use Rattle.std.proofs.Common.{◌≡◌, ℕ, zero, suc, ◌+◌, ◌/◌, ◌^◌, ◌<◌, ◌≤◌, List, Option, Some, None, Result, Ok, Err, IfOk, Bool, true, false, if◌then◌else◌, refl}
 use Rattle.std.proofs.Common.{sym, ap, subst, ◌∙◌, arith}
 use Rattle.std.proofs.Math.Nat.{div-le_self}
 use mathlib.Core.Path.{fun_ext}
@@ -26,10 +26,16 @@ use Rattle.av1_tile.specs.Walk.{ServesScene}
 use Rattle.av1_tile.proofs.Versions.{not_third}
 use Rattle.av1_tiles.specs.declared.area.TileArea.{TileArea}
 use Rattle.av1_tiles.specs.declared.frame.TilePicture.{TilePicture}
-use Rattle.av1_tiles.specs.Grammar.{FrontValue}
+use Rattle.av1_tiles.specs.declared.file.TileFile.{TileFile}
+use Rattle.av1_tiles.specs.Bounds.{IsReadFile}
+use Rattle.av1_tiles.specs.File.{file_value, front_value}
+use Rattle.av1_tiles.specs.Grammar.{FrontValue, count_tiles}
 use Rattle.av1_tiles.specs.Joined.{PlansAreAll}
-use Rattle.av1_tiles.specs.Seen.{IsAtTile}
+use Rattle.av1_tiles.specs.Seen.{IsAtTile, SeesFront}
 use Rattle.av1_tiles.specs.Tiles.{IsTileArea, corner_column, corner_row, tile_area, tile_header, tile_motion, tile_scene, tile_walk}
+use Rattle.av1_tiles.specs.Validity.{IsTile}
+use Rattle.av1_tiles.proofs.Apart.{area_is}
+use Rattle.av1_tiles.proofs.Isolation.{tile_header_is}
 use Rattle.av1_tiles.proofs.Rectangles.{same_xdec, same_ydec}
 
 -- what leaves predict of tile i, where motion reads the frame's references and where it doesn't
@@ -122,7 +128,7 @@ module _ {T : Type 0} (num : T → ℕ) (f : FrontValue) (i : ℕ) (plan : PlanV
       ∙ ap (λ (n : ℕ). record a { x = (rect_of from p).x + a.x; y = n + a.y }) (sym (place.row p))
 
   -- they serve the tile
-  pub frame_serves : ServesScene num (tile_scene f i plan) from
+  frame_serves : ServesScene num (tile_scene f i plan) from
   frame_serves = record {
     plan = frame_with f.header f.references;
     serves =
@@ -140,3 +146,15 @@ module _ {T : Type 0} (num : T → ℕ) (f : FrontValue) (i : ℕ) (plan : PlanV
         ap (λ (b : Bool). by_choice f i plan p kind a b r c) third
         ∙ ap (λ (b : VisibleArea). kind_motion (frame_with f.header f.references) p kind b r c) (same_rectangle p a);
   }
+
+-- the frame's references serve a tile of a grid that was read
+pub tile_serves : {T : Type 0} (num : T → ℕ) (file : TileFile) (i : ℕ) (plan : PlanValue) (from : TileReferences T) (fi : FrameInvariants T) (a : TileArea)
+    (seen : Option (FrameInvariants T))
+    → IsReadFile file → i < count_tiles (front_value file.front) → IsTile (file_value file) i plan → seen ≡ Some fi → SeesFront num file.front seen
+    → from.fi.now ≡ fi → a ≡ tile_area (front_value file.front) i → IsAtTile file.front.header a from →
+    ServesScene num (tile_scene (front_value file.front) i plan) from
+tile_serves num file i plan from fi a seen read lt tile is sees own at place =
+    let front = file.front in
+    let (third, holds) = subst (SeesFront num front) is sees in
+    frame_serves num (front_value front) i plan from fi third read.front.frame (area_is front read.front i lt) (tile_header_is (file_value file) i plan tile) own
+    (subst (λ (b : TileArea). IsAtTile front.header b from) at place) holds

@@ -48,6 +48,7 @@ pub shows_own : {T : Type 0} (num : T → ℕ) (pixel : ℕ → T) → ((v : T) 
     plane_of c new ≡ painted_plane (plane_of c old) (tile_rectangle f.header (tile_area f i) (number c))
     (λ r k _. pixel (slice_index (row_in num own q (number c) r) k)))
     → ShowsTile f i plan (samples_of num new)
+unfolding tile_walk
 shows_own num pixel back there f i plan own q old new are area shows same header placed c x y lx ly =
     let p = number c in
     let a = tile_rectangle f.header (tile_area f i) p in
