@@ -7,7 +7,7 @@ use Rattle.av1_tiles.proofs.joined.join_tiles.Given as goal
 
 abbrev pub invariant-loop-index : goal.invariant-loop-index
 invariant-loop-index g l = record {
-  seen : SeesFront g.T.Pixel.num l.file.front l.seen-1;
+  seen : SeesFront g.T.Pixel.num l.file.front l.seen;
   room : HasRoomFor l.file.front.header l.memory;
   planes : AreFrame l.file.front.header l.planes;
   shown : AreShown (file_value l.file) l.index (samples_of g.T.Pixel.num l.planes);
