@@ -42,10 +42,10 @@ static text read_file(const char *name) {
     return read;
 }
 
-/* The plan's frame as one tile. */
-static text grid_of(const text *plan) {
+/* The plan's frame as one tile, in a grid with these letters. */
+static text grid_of(const text *plan, const char *letters) {
     text grid = {{0}, 0};
-    put(&grid, "RTL1", 4);
+    put(&grid, letters, 4);
     put(&grid, plan->at + 4, HEADER - 4);
     put(&grid, "\1\1", 2);
     put_part(&grid, plan->at + HEADER, plan->len - HEADER);
@@ -209,15 +209,17 @@ int main(int count, char **words) {
     CHECK(count == 3);
     text plan = read_file(words[1]), planes = read_file(words[2]);
     CHECK(planes.len > 0);
-    text grid = grid_of(&plan), sequence = sequence_of(&plan);
+    text grid = grid_of(&plan, "RTL1"), third = grid_of(&plan, "RTL2"), sequence = sequence_of(&plan);
     size_t part = plan.len - HEADER;
     whole_and_cut(av1_reconstruct_tiles, &grid, &planes, 1);
+    whole_and_cut(av1_reconstruct_tiles, &third, &planes, 1);
     whole_and_cut(av1_reconstruct_sequence, &sequence, &planes, 2);
     shown_again(&plan, &planes);
     traces(&plan, &planes);
     long_bytes(av1_reconstruct_tiles);
     long_bytes(av1_reconstruct_sequence);
     spoilt(av1_reconstruct_tiles, grid, grid.len - part, 0);
+    spoilt(av1_reconstruct_tiles, third, third.len - part, 0);
     spoilt(av1_reconstruct_sequence, sequence, 12 + 14, 0);
     spoilt(av1_reconstruct_sequence, sequence, sequence.len - part, 1);
     return 0;

@@ -265,9 +265,12 @@ static void parts(const uint8_t *plan, size_t len) {
     av1_difference list[4];
     av1_part_refusal told;
     av1_refusal refusal;
-    memcpy(text, "RTL1", 4), memcpy(text + 4, plan + 4, HEADER - 4), memcpy(text + HEADER, "\1\1", 2);
+    memcpy(text + 4, plan + 4, HEADER - 4), memcpy(text + HEADER, "\1\1", 2);
     memcpy(text + HEADER + 2, leaves, 4), memcpy(text + HEADER + 6, plan + HEADER, len - HEADER);
-    DEEP(av1_reconstruct_tiles(text, len + 6, room, sizeof room, &written, &told));
+    for (int third = 0; third < 2; third++) {
+        memcpy(text, third ? "RTL2" : "RTL1", 4);
+        DEEP(av1_reconstruct_tiles(text, len + 6, room, sizeof room, &written, &told));
+    }
     tell("av1_reconstruct_tiles", deepest);
     deepest = 0;
     memcpy(text, "RSQ1", 4), memcpy(text + 4, plan + 4, 6), memcpy(text + 10, "\1\0\0\0\0\0\0\0\0\0\0\0", 12);

@@ -37,9 +37,9 @@ void rattle_dealloc(void *p) {
     free(p);
 }
 
-enum { PLAN, TILES, SEQUENCE, TRACE, KINDS, HEADER = 20, MOST = 4096 };
+enum { PLAN, TILES, THIRD_TILES, SEQUENCE, TRACE, KINDS, HEADER = 20, MOST = 4096 };
 
-/* What a call is given: the plan, or a grid of one tile, a sequence of one frame or a trace of it. */
+/* What a call is given: the plan, or a grid of one tile in either version, a sequence of one frame or a trace of it. */
 typedef struct {
     int kind;
     uint8_t bytes[2 * MOST];
@@ -61,9 +61,10 @@ static void put_part(given *to, const uint8_t *bytes, size_t len) {
 static void give(given *to, int kind, const uint8_t *plan, size_t len, const uint8_t *planes, size_t wanted) {
     to->kind = kind, to->len = 0;
     if (kind == PLAN) put(to, plan, len);
-    if (kind == TILES) put(to, "RTL1", 4), put(to, plan + 4, HEADER - 4), put(to, "\1\1", 2);
+    bool is_grid = kind == TILES || kind == THIRD_TILES;
+    if (is_grid) put(to, kind == TILES ? "RTL1" : "RTL2", 4), put(to, plan + 4, HEADER - 4), put(to, "\1\1", 2);
     if (kind == SEQUENCE) put(to, "RSQ1", 4), put(to, plan + 4, 6), put(to, "\1\0\0\0\0\0\0\0\0\0\0", 12);
-    if (kind == TILES || kind == SEQUENCE) put_part(to, plan + HEADER, len - HEADER);
+    if (is_grid || kind == SEQUENCE) put_part(to, plan + HEADER, len - HEADER);
     if (kind == TRACE) put(to, "RTR1", 4), put_part(to, plan, len), put(to, planes, wanted);
 }
 
@@ -72,7 +73,7 @@ static uint32_t call(const given *it, uint8_t *room, size_t *written) {
     av1_part_refusal told = {7, 8, 9, 10};
     av1_difference list[1];
     uint32_t status = it->kind == PLAN ? av1_reconstruct_plan(it->bytes, it->len, room, MOST, written, &refusal)
-        : it->kind == TILES ? av1_reconstruct_tiles(it->bytes, it->len, room, MOST, written, &told)
+        : it->kind == TILES || it->kind == THIRD_TILES ? av1_reconstruct_tiles(it->bytes, it->len, room, MOST, written, &told)
         : it->kind == SEQUENCE ? av1_reconstruct_sequence(it->bytes, it->len, room, MOST, written, &told)
         : av1_trace_differences(it->bytes, it->len, list, 1, written, &told);
     CHECK(refusal.at == 7 && refusal.leaf == 8 && refusal.kind == 9);

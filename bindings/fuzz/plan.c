@@ -93,7 +93,7 @@ static void as_trace(numbers plan, numbers planes, size_t wanted) {
 /* The text is the plan's frame as a grid of one tile. */
 static void put_grid(const uint8_t *plan, size_t front, size_t len) {
     text_len = 0;
-    put("RTL1", 4), put(plan + 4, front - 4), put("\1\1", 2), put_part(plan + front, len - front);
+    put(plan[3] == '3' ? "RTL2" : "RTL1", 4), put(plan + 4, front - 4), put("\1\1", 2), put_part(plan + front, len - front);
 }
 
 /* The text is a plan without references as a sequence of its frame, which is shown and kept nowhere. */
@@ -105,15 +105,13 @@ static void put_sequence(const uint8_t *plan, size_t len) {
     put(plan + 10, 9), put_byte(0), put_part(plan + HEADER, len - HEADER);
 }
 
-/* All three, where all of the references are there; no grid of version 3, since tiles are of version 2. */
+/* All three, where all of the references are there. */
 static void as_parts(numbers plan, numbers planes, size_t wanted, uint32_t status, av1_refusal refusal) {
     const uint8_t *bytes = plan.at;
     size_t front = HEADER + (size_t)__builtin_popcount(bytes[19]) * wanted;
     if (plan.count < front || plan.count + wanted > SLOT / 4) return;
-    if (bytes[3] != '3') {
-        put_grid(bytes, front, plan.count);
-        comes_to(false, planes, wanted, status, refusal, front);
-    }
+    put_grid(bytes, front, plan.count);
+    comes_to(false, planes, wanted, status, refusal, front);
     if (bytes[19] == 0) {
         put_sequence(bytes, plan.count);
         comes_to(true, planes, wanted, status, refusal, front);

@@ -47,12 +47,26 @@ def part(data):
     return struct.pack("<I", len(data)) + data
 
 
-def tiles(parts, width=128, height=8, columns=(64,), rows=(), references=b"", **more):
+def tiles(parts, width=128, height=8, columns=(64,), rows=(), references=b"", magic=b"RTL1", **more):
     """A grid of tiles, whose columns and rows begin at 0 and at these."""
-    file = header(width, height, magic=b"RTL1", **more) + references
+    file = header(width, height, magic=magic, **more) + references
     for starts in (columns, rows):
         file += bytes([len(starts) + 1]) + struct.pack(f"<{len(starts)}H", *starts)
     return file + b"".join(part(it) for it in parts)
+
+
+def third_grid(file, seed):
+    """A grid of the second version like this one of the first: of sides that are coded alike, to which its references are cut."""
+    width, height, depth, sampling = struct.unpack_from("<HHBB", file, 4)
+    shown = width - seed % 8, height - seed // 8 % 8
+    samples, at = b"", 20
+    each = 1 if depth == 8 else 2
+    for xdec, ydec in file[19].bit_count() * ((0, 0), *2 * ((sampling < 2, sampling == 0),)):
+        stride, kept = (width >> xdec) * each, (shown[0] + xdec >> xdec) * each
+        for row in range(shown[1] + ydec >> ydec):
+            samples += file[at + row * stride:at + row * stride + kept]
+        at += stride * (height >> ydec)
+    return b"RTL2" + struct.pack("<HH", *shown) + file[8:20] + samples + file[at:]
 
 
 def trace(plan, given, length=None):

@@ -9,8 +9,9 @@ programs are to. From its standard input to its standard output it takes a plan,
 their statuses and lines, and `make N` and `sum N`. With `random SEED`, `randomtiles SEED`, `randomtrace SEED`, `randomsequence SEED`, and
 `randombad ..` for `random ..`, it writes a random plan or file of a seed, within limits such as `maxside=32`, with `magic=3` a plan of the third
 version, and with `small=85` so many in 100 leaves with a side of 4 from references, where rav1e predicts them as AV1 does. Of plans of the third version
-it pads references from the sides that are shown, as rav1e's `Plane::pad` does, predicts the chroma that such leaves share as rav1e's `motion_compensate`
-does, and in rav1e's code it has AV1's short filter in place of the sharp one, and identities in 64 bits, as integrations/rav1e/parts/edits.py has them.
+it pads references from the sides that are shown, as rav1e's `Plane::pad` does, and predicts the chroma that such leaves share as rav1e's
+`motion_compensate` does; of a grid of such plans it reads the frame's references from the place of a tile on, which it gives `predict_inter` as a
+`TileRect`. In rav1e's code it has AV1's short filter in place of the sharp one, and identities in 64 bits, as integrations/rav1e/parts/edits.py has them.
 Where `motion_compensate` departs from AV1, in chroma that leaves of 4x16, 16x4 and in 4:2:2 share, it has no answer, but another status. FRAMES are rows
 that `integrations/rav1e/corpus` wrote; without them FILE keeps those that it has.
 

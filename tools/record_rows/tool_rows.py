@@ -1,6 +1,8 @@
 """Runs of the tools: grids of tiles, traces, sequences, plans without their coefficients."""
-from plans import (AGAIN, DIRECTIONAL, DOWN_TO_4, FLAT, FROM_LUMA_420, HALVED, HIDDEN, MOVED, NINE_BY_NINE, ONE_HALF, ONE_SAMPLE, PLAIN, PLAN, QUARTERS,
-                   SHOWN, SINGLE, changed, header, leaf, moved, of_two, planes, sequence, shown_sequence, tiles, trace, with_entries)
+from departure_rows import BACK, RISING
+from plans import (AGAIN, APART, DIRECTIONAL, DOWN_TO_4, FLAT, FROM_LUMA_420, HALVED, HIDDEN, MOVED, NINE_BY_NINE, ONE_HALF, ONE_SAMPLE, PLAIN, PLAN,
+                   QUARTERS, SHOWN, SINGLE, changed, header, leaf, moved, of_two, parts, planes, sequence, shown_sequence, third_grid, tiles, trace,
+                   with_entries)
 from runs import NEVER, TOOLS, WORDS_OF_TOOLS, reads_of
 
 # A leaf of 64x64 from above, one by DC, one from the left, and one from the first slot.
@@ -33,6 +35,58 @@ def worked_tiles(add):
         add("tiles, cut", TWO_TILES[:count], ("tiles",))
 
 
+def slopes(width, height, sampling=2, depth=8, slots=1):
+    """Reference planes that rise along rows and down columns, in each slot and plane by other steps."""
+    xdec, ydec = int(sampling < 2), int(sampling == 0)
+    each = 1 if depth == 8 else 2
+    samples = b""
+    for slot in range(slots):
+        for plane, (dx, dy) in enumerate(((0, 0), (xdec, ydec), (xdec, ydec))):
+            for row in range(height + dy >> dy):
+                for column in range(width + dx >> dx):
+                    value = ((3 + plane + slot) * column + (5 - plane) * row + 40 * slot) % 256 << depth - 8
+                    samples += value.to_bytes(each, "little")
+    return samples
+
+
+def third_grids(add):
+    """Grids of the third version: blocks that lead into another tile and out of the frame, from one reference and from two, small leaves, any sides,
+    sides and starts that none has, and parts that are refused."""
+    def by(row, col):
+        return b"\0" + leaf(mode=19, vectors=[(1, row, col)], tx_size=4)
+
+    def grid(parts, magic=b"RTL2", **more):
+        return tiles(parts, magic=magic, **more)
+
+    def sloped(parts, width, height, sampling=0, depth=8, **more):
+        return grid(parts, width=width, height=height, sampling=sampling, depth=depth, mask=1, references=slopes(width, height, sampling, depth), **more)
+
+    of_two_slots = b"\0" + leaf(mode=33, vectors=[(1, 4, 260), (2, -7, 9)], tx_size=4)
+    other_two = b"\0" + leaf(mode=33, vectors=[(2, 0, -400), (1, 33, -16000)], tx_size=4)
+    two = {"mask": 3, "slots": (0, 1, 0, 0, 0, 0, 0)}
+    four = [by(0, 8), by(0, -8), by(-8, 4), by(-12, -20)]
+    corner = [by(0, 0), by(-3, 5), by(9, -9), parts(((0, -512), *APART[:2], (-512, -13)))]
+    cases = [
+        grid([by(0, -16000), by(0, 16000)], mask=1, references=RISING), grid([by(0, 512), by(0, -512)], mask=1, references=RISING),
+        grid([by(0, 8), BACK], mask=1, references=RISING, filter=2), sloped(four, 67, 69, columns=(64,), rows=(64,)),
+        grid([FROM_ABOVE, BY_DC], width=65, height=1), grid([SAME_PLACE], width=1, height=1, columns=(), mask=1, references=b"\7\x08\x09")]
+    others = ((1, 8), (2, 10), (0, 12), (1, 12))
+    cases += [sloped(four, 65, 66, sampling, depth, columns=(64,), rows=(64,)) for sampling, depth in others]
+    cases += [sloped(corner, 72, 72, columns=(64,), rows=(64,))]
+    cases += [sloped(corner[::3], 72, 8, depth=depth, filter=filter, columns=(64,)) for filter in range(4) for depth in (8, 10)]
+    cases += [
+        grid([of_two_slots, other_two], width=99, sampling=sampling, references=slopes(99, 8, sampling, slots=2), **two) for sampling in range(3)]
+    refused = [
+        grid([SAME_PLACE, SAME_PLACE]), grid([FROM_ABOVE, by(16384, 0)], mask=1, references=RISING), grid([FROM_ABOVE, b"\4"]),
+        grid([FROM_ABOVE, BY_DC], width=64), grid([FROM_ABOVE, BY_DC], width=2049), grid([FROM_ABOVE, BY_DC], height=0),
+        grid([FROM_ABOVE, BY_DC], width=67, magic=b"RTL1"), grid([FROM_ABOVE, BY_DC], magic=b"RTL3"), grid([FROM_ABOVE, BY_DC], magic=b"RTL0"),
+        grid([FROM_ABOVE, BY_DC], mask=1, references=RISING[:-1])]
+    for it in cases:
+        add("tiles, in the third version", it, ("tiles",), out=(2**20, 100, NEVER))
+    for it in refused:
+        add("tiles, in the third version, refused", it, ("tiles",))
+
+
 def worked_traces(add):
     """Traces: the plan's own planes, others, those that are cut or too long, and plans that are refused."""
     worse = header() + DOWN_TO_4 + leaf() + leaf(y=[(0, 16, 1)]) + leaf() + leaf()
@@ -55,7 +109,7 @@ def worked_traces(add):
 
 
 def any_sides(add):
-    """Traces and plans of frames whose sides are no multiples of 8; grids and sequences, which have none."""
+    """Traces and plans of frames whose sides are no multiples of 8; grids and sequences of the first version, which have none."""
     shown = 8 * bytes([40, 50, 60, 70, 80, 80, 80, 80, 80]) + planes(128, 128, count=72)
     nine = trace(moved(0, 32), shown)
     front = len(nine) - len(shown)
@@ -207,6 +261,16 @@ def small_leaves(runs, count):
                 runs.add(kind + " of small leaves", file, (word,), kind=TOOLS, piece=4096, out=(2**20, 4096, NEVER))
 
 
+def random_grids(runs, count):
+    """Random grids of the third version, every other one with small leaves."""
+    for seed in range(count):
+        width, height = GRIDS[seed % len(GRIDS)]
+        small = ("small=85", "split=90", "mask=1") if seed % 2 else (f"mask={(1, 3, 0, 1)[seed // 2 % 4]}",)
+        file = runs.oracle.made("randomtiles", str(seed), f"w={width}", f"h={height}", f"samp={(0, 0, 1, 2)[seed // 2 % 4]}", "coef=20", *small)
+        if len(file) < 12_000:
+            runs.add("randomtiles, in the third version", third_grid(file, seed), ("tiles",), kind=TOOLS, piece=4096, out=(2**20, 4096, NEVER))
+
+
 def random_entries(runs, count):
     """Random sequences whose frames are shown or not."""
     for seed in range(count):
@@ -219,10 +283,11 @@ def record(runs):
     def add(*call, **more):
         runs.add(*call, kind=TOOLS, **more)
 
-    for rows in (worked_tiles, worked_traces, worked_sequences, worked_plans, faults, any_sides, shown_sequences):
+    for rows in (worked_tiles, third_grids, worked_traces, worked_sequences, worked_plans, faults, any_sides, shown_sequences):
         rows(add)
     add("too long", words=("tiles",), piece=2**26 + 1, zeros=2**26 + 1)
     random_files(runs, 64)
     random_sides(runs, 24)
+    random_grids(runs, 96)
     random_entries(runs, 64)
     small_leaves(runs, 96)

@@ -102,18 +102,24 @@ def starts_at(data, at):
     return [0, *struct.unpack_from(f"<{count - 1}H", data, at + 1)], at + 2 * count - 1
 
 
-def tiles_of(data):
-    """The tiles of a grid, each with the rectangle of the references that it reads."""
+def front_of(data):
+    """The frame of a grid, without leaves."""
     whole = Plan.__new__(Plan)
     whole.data, whole.leaves, whole.types, whole.lists = data, [], [], []
     whole.read_front()
+    return whole
+
+
+def tiles_of(data):
+    """The tiles of a grid, each with its rectangle of the references."""
+    whole = front_of(data)
     columns, at = starts_at(data, whole.at)
     rows, at = starts_at(data, at)
     tiles = []
     for y, below in zip(rows, rows[1:] + [whole.height]):
         for x, right in zip(columns, columns[1:] + [whole.width]):
             (length,) = struct.unpack_from("<I", data, at)
-            front = b"RPL2" + struct.pack("<HH", right - x, below - y) + data[8:20]
+            front = (b"RPL3" if data[:4] == b"RTL2" else b"RPL2") + struct.pack("<HH", right - x, below - y) + data[8:20]
             slots = b"".join(rectangle(whole, samples, x, y, right, below) for _, samples in sorted(whole.slots.items()))
             tiles.append(Tile(x, y, front + slots + data[at + 4:at + 4 + length]))
             at += 4 + length
@@ -125,7 +131,7 @@ def rectangle(frame, planes, x, y, right, below):
     samples = []
     for p, (width, _) in enumerate(frame.sides):
         across, down = (0, 0) if p == 0 else frame.halved
-        samples += [planes[p][row * width + column] for row in range(y >> down, below >> down) for column in range(x >> across, right >> across)]
+        samples += [planes[p][row * width + column] for row in range(y >> down, below + down >> down) for column in range(x >> across, right + across >> across)]
     return bytes(samples) if frame.bytes == 1 else struct.pack(f"<{len(samples)}H", *samples)
 
 
@@ -157,3 +163,12 @@ def two_tiles(make):
     front = b"RTL1" + struct.pack("<HHBBBB", width, height, 10, 0, 0, 1) + bytes(7) + b"\1" + struct.pack(f"<{len(slot)}H", *slot)
     parts = [leaves_of(make(number)) for number in (5, 6)]
     return front + b"\2" + struct.pack("<H", 512) + b"\1" + b"".join(struct.pack("<I", len(part)) + part for part in parts)
+
+
+def odd_tiles():
+    """Two tiles of version 3, of which the second has no sides that are multiples of 8, from one slot."""
+    draw, width, height = random.Random(12), 64 + 73, 51
+    slot = bytes(draw.randrange(256) for w, h in halves(width, height, 0) for _ in range(w * h))
+    front = b"RTL2" + struct.pack("<HHBBBB", width, height, 8, 0, 0, 0) + bytes(7) + b"\1" + slot
+    parts = [leaves_of(odd(64, height, seed=3)), leaves_of(odd(73, height, seed=4))]
+    return front + b"\2" + struct.pack("<H", 64) + b"\1" + b"".join(struct.pack("<I", len(part)) + part for part in parts)

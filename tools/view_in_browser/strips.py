@@ -201,8 +201,8 @@ def look_at_borders(browser, checks, tiles):
                   "view.setLocked(false), view.fitFrame()")
 
 
-def look_at_tile_sources(browser, checks, tiles):
-    """A block of a tile is predicted from its tile's rectangle of a reference alone: past it its last sample stands."""
+def look_at_tile_sources(browser, checks, tiles, frame=None):
+    """A block of a tile is predicted from its tile's rectangle of a reference alone, past which its last sample stands; or from this whole frame."""
     browser.value("view.setComponent('Y'), view.setLayer('source', true)")
     ahead, past = 0, 0
     for tile in tiles:
@@ -213,12 +213,15 @@ def look_at_tile_sources(browser, checks, tiles):
             _, row, column = leaf[9][0]
             x, y = (8 * leaf[1] + column) // 8 + leaf[3] // 2, (8 * leaf[2] + row) // 8 + leaf[4] // 2
             outside = not (0 <= x < plan.width and 0 <= y < plan.height)
+            read = frame or plan
+            if frame:
+                x, y = tile.x + x, tile.y + y
             if not outside and leaf[0] % 11:
                 continue
             past += outside
             browser.value(f"view.moveToLeaf({ahead + leaf[0]})")
-            wanted = plan.slots[0][0][min(max(y, 0), plan.height - 1) * plan.width + min(max(x, 0), plan.width - 1)]
-            checks.near("a sample of the source in its tile", source_sample(browser, leaf[3:5]), wanted / (1 << plan.depth - 8), 1)
+            wanted = read.slots[0][0][min(max(y, 0), read.height - 1) * read.width + min(max(x, 0), read.width - 1)]
+            checks.near("a sample of the source of a tile", source_sample(browser, leaf[3:5]), wanted / (1 << plan.depth - 8), 1)
         ahead += len(plan.leaves)
     checks.true("some lead past their tile", past > 0)
     browser.value("view.setLayer('source', false), view.setLocked(false), view.setComponent('RGB')")

@@ -276,16 +276,18 @@ def hidden(browser, pages, checks, options):
 
 
 def grid(browser, pages, checks, options):
-    """Grids of tiles: the stored one, and two large tiles that read a reference."""
+    """Grids of tiles: the stored one, two of version 3, and two large tiles that read a reference."""
     with open(os.path.join(CRATES, "av1_tools", "stdin"), "rb") as file:
         stored = file.read()
     made = files.two_tiles(lambda number: pages.run(options.recon, ["make", str(number)], b""))
-    for name, data in (("stored grid", stored), ("two tiles", made)):
+    for name, data in (("stored grid", stored), ("odd tiles", files.odd_tiles()), ("two tiles", made)):
         path, planes = pages.write_file(name.replace(" ", "_"), "tiles", data)
         tiles = files.tiles_of(data)
         browser.open(path)
         checks.same(f"{name}: its title", browser.value("document.title"), "A grid of tiles seen")
         strips.look_at_grid(browser, checks, name, tiles, planes)
+        if data[:4] == b"RTL2":
+            strips.look_at_tile_sources(browser, checks, tiles, files.front_of(data))
         checks.same(f"{name}: faults of the page", browser.faults(), [])
     strips.look_at_borders(browser, checks, tiles)
     strips.look_at_tile_sources(browser, checks, tiles)

@@ -56,7 +56,7 @@ macro_rules! plane_calls {
 plane_calls!(
     av1_reconstruct_tiles,
     reconstruct_tiles,
-    /// Reconstructs the tiles of a grid, each from its own part alone. The visible planes of their frame
+    /// Reconstructs the tiles of a grid, none of which reads another. The visible planes of their frame
     ,
     /// `TooLong`, then `Malformed`, then `MalformedPart` or `InvalidPart`, whose part is a tile, then `RoomTooSmall`.
 );

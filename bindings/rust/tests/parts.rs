@@ -22,8 +22,12 @@ fn part(plan: &[u8]) -> Vec<u8> {
     [&(leaves.len() as u32).to_le_bytes(), leaves].concat()
 }
 
+fn grid_of(letters: &[u8], plan: &[u8]) -> Vec<u8> {
+    [letters, &plan[4..HEADER], &[1, 1], &part(plan)].concat()
+}
+
 fn grid(plan: &[u8]) -> Vec<u8> {
-    [b"RTL1", &plan[4..HEADER], &[1, 1], &part(plan)].concat()
+    grid_of(b"RTL1", plan)
 }
 
 fn sequence(first: &[u8], second: &[u8]) -> Vec<u8> {
@@ -96,6 +100,28 @@ fn a_frame_is_shown_again() {
         Err(fault)
     );
     assert_eq!(fault.to_string(), "part 1: empty slot");
+}
+
+// A frame of 9 columns and 1 row in 4:4:4, whose slot 0 rises along rows, in one tile with a leaf from that slot.
+#[test]
+fn a_grid_has_any_sides_in_the_third_version() {
+    let front = [0, 9, 0, 1, 0, 8, 2, 0, 0, 0, 0, 0, 0, 0, 0, 0, 1];
+    let leaf = [0, 19, 1, 0, 0, 8, 0, 4, 0, 0, 0, 0, 0, 0, 0, 0];
+    let slot: Vec<u8> = (0..27).collect();
+    let plan = [b"RPL", &front[..], &leaf].concat();
+    let bytes = [b"RTL2", &front[1..], &slot, &[1, 1], &part(&plan)].concat();
+    let mut room = [7; 27];
+    assert_eq!(reconstruct_tiles(&bytes, &mut room), Ok(27));
+    let wanted: Vec<u8> = slot
+        .iter()
+        .map(|value| (value + 1).min(value / 9 * 9 + 8))
+        .collect();
+    assert_eq!(room[..], wanted);
+    let early = [b"RTL1", &bytes[4..]].concat();
+    assert_eq!(
+        reconstruct_tiles(&early, &mut room),
+        Err(Error::Malformed { at: 4 })
+    );
 }
 
 #[test]

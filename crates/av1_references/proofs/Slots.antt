@@ -1,9 +1,10 @@
 -- The slots of a frame, filled one after another with the planes of a plan.
-use Rattle.std.proofs.Common.{ℕ, zero, suc, ◌+◌, ◌<◌, ◌≤◌, ◌≡◌, ◌≢◌, ◌∙◌, ap, sym, subst, refl, arith, inl, inr, true, false, length, get_or, set, Some, None}
+use Rattle.std.proofs.Common.{ℕ, zero, suc, ◌+◌, ◌<◌, ◌≤◌, List, [], ◌∷◌, Option, slice_index_or, ◌≡◌, ◌≢◌, ◌∙◌, ap, sym, subst, refl, arith, inl, inr}
+use Rattle.std.proofs.Common.{true, false, length, get_or, set, Some, None}
 use Rattle.std.proofs.Common.{is_some, replicate}
 use Rattle.std.specs.Option.{option_map}
 use Rattle.std.proofs.lemmas.Bool.{cases_lt}
-use Rattle.std.proofs.lemmas.List.{get_or-set_other, get_or-set_same, length-set}
+use Rattle.std.proofs.lemmas.List.{get_or-map, get_or-set_other, get_or-set_same, length-set}
 use Rattle.std.proofs.lemmas.Option.{same_Some, none-some}
 use Rattle.av1_frame.specs.declared.frame_invariants.FrameInvariants.{FrameInvariants}
 use Rattle.av1_frame.specs.declared.plane.Plane.{Plane}
@@ -11,8 +12,11 @@ use Rattle.av1_frame.specs.declared.slots.Slot.{Slot}
 use Rattle.av1_frame.specs.Frames.{new_frame, plane_of, slot_plane}
 use Rattle.av1_blocks.specs.Depths.{IsDepth}
 use Rattle.av1_plan.specs.Geometry.{follows_av1, has_slot}
-use Rattle.av1_plan.specs.Plan.{PlanValue}
-use Rattle.av1_references.specs.References.{HasSettings, HoldsPlane, HoldsReferences, slot_samples}
+use Rattle.av1_plan.specs.declared.header.Header.{Header}
+use Rattle.av1_plan.specs.declared.planes.SlotPlanes.{SlotPlanes}
+use Rattle.av1_plan.specs.Plan.{PlanValue, slot_value, slot_values}
+use Rattle.av1_plan.specs.ReadPlans.{IsStoredSlot}
+use Rattle.av1_references.specs.References.{HasSettings, HoldsPlane, HoldsReferences, frame_with, slot_samples}
 
 -- the first n slots of a frame are filled as a plan's, and the others are empty
 pub record HoldsFirst {T : Type 0} (num : T → ℕ) (value : PlanValue) (n : ℕ) (fi : FrameInvariants T) : Type 0 where
@@ -112,3 +116,46 @@ holds_all num value n fi h depth holds = record {
   filled = λ slot p l k. holds.filled slot p (omega arith) k;
   planes = λ slot p plane l k e. holds.planes slot p plane (omega arith) k e;
 }
+
+-- ---- slots that are kept in a list
+
+-- an item that is there, whatever stands for one that isn't
+pub same_item : {A : Type 0} (xs : List A) (k : ℕ) (d e : A) → k < length xs → get_or xs k d ≡ get_or xs k e
+same_item [] k d e lt = absurd (omega (arith, lt))
+same_item (x ∷ xs) zero d e lt = refl
+same_item (x ∷ xs) (suc k) d e lt = same_item xs k d e (omega (arith, lt))
+
+-- one that was read there
+pub item_at : (xs : List (Option SlotPlanes)) (k : ℕ) (o own : Option SlotPlanes) → k < length xs → o ≡ get_or xs k o → o ≡ own → slice_index_or xs k None ≡ own
+item_at xs k o own lt at is = same_item xs k None o lt ∙ sym at ∙ is
+
+module _ (h : Header) (references : List (Option SlotPlanes)) (n : ℕ) (below : n < length references)
+    (stored : IsStoredSlot h n (slice_index_or references n None)) where
+  -- what a slot carries
+  pub stored_none : slice_index_or references n None ≡ None → has_slot h n ≡ false
+  stored_none is = subst (IsStoredSlot h n) is stored
+
+  pub stored_planes : (planes : SlotPlanes) → slice_index_or references n None ≡ Some planes → IsStoredSlot h n (Some planes)
+  stored_planes planes is = subst (IsStoredSlot h n) is stored
+
+  pub stored_samples : (planes : SlotPlanes) → slice_index_or references n None ≡ Some planes → (p : ℕ) →
+      slot_samples (frame_with h (slot_values references)) n p ≡ slice_index_or (planes.y.items ∷ planes.u.items ∷ planes.v.items ∷ []) p []
+  stored_samples planes is p =
+      rw (get_or-map slot_value references n None None below ∙ ap slot_value is) refl
+
+-- ---- a reference that is kept in a list
+
+pub stored_some : {T : Type 0} (num : T → ℕ) (h : Header) (references : List (Option SlotPlanes)) (n : ℕ) (fi : FrameInvariants T) (planes : SlotPlanes)
+    (s : Slot T)
+    → n < length references → n < 8 → slice_index_or references n None ≡ Some planes → IsStoredSlot h n (slice_index_or references n None)
+    → HoldsPlane num h 0 planes.y.items s.y → HoldsPlane num h 1 planes.u.items s.u → HoldsPlane num h 2 planes.v.items s.v
+    → HoldsFirst num (frame_with h (slot_values references)) n fi
+    → HoldsFirst num (frame_with h (slot_values references)) (n + 1) (record fi { slots = set fi.slots n (Some s) })
+stored_some num h references n fi planes s below few is stored y u v holds =
+    let value = frame_with h (slot_values references) in
+    let own : (p : ℕ) → slot_samples value n p ≡ slice_index_or (planes.y.items ∷ planes.u.items ∷ planes.v.items ∷ []) p [] =
+    stored_samples h references n below stored planes is in
+    holds_filled num value n fi holds s few (stored_planes h references n below stored planes is).0
+    (subst (λ (samples : List ℕ). HoldsPlane num h 0 samples s.y) (sym (own 0)) y)
+    (subst (λ (samples : List ℕ). HoldsPlane num h 1 samples s.u) (sym (own 1)) u)
+    (subst (λ (samples : List ℕ). HoldsPlane num h 2 samples s.v) (sym (own 2)) v)

@@ -1,7 +1,8 @@
 -- What inter prediction reads of a plan: the planes of its slots, and the samples of a leaf's whole area that it
 -- predicts from them. AV1 specification: inter prediction process, motion vector scaling process.
-use Rattle.std.specs.Prelude.{◌≡◌, true, ℕ, ◌+◌, ◌*◌, ◌/◌, ◌-◌, ◌^◌, ◌<◌, ◌≤◌, List, [], Some, is_some, unwrap_or}
-use Rattle.std.specs.Prelude.{slice_index}
+use Rattle.std.specs.Prelude.{◌≡◌, true, ℕ, zero, suc, ◌+◌, ◌*◌, ◌/◌, ◌-◌, ◌^◌, ◌<◌, ◌≤◌, List, [], Some, is_some}
+use Rattle.std.specs.Prelude.{unwrap_or}
+use Rattle.std.specs.Prelude.{slice_index, Option}
 use Rattle.av1_blocks.specs.declared.mc.FilterMode.{FilterMode}
 use Rattle.av1_blocks.specs.declared.mc.MotionVector.{MotionVector}
 use Rattle.av1_blocks.specs.declared.partition.RefType.{RefType}
@@ -10,6 +11,7 @@ use Rattle.av1_blocks.specs.References.{reference_number}
 use Rattle.av1_frame.specs.declared.frame_invariants.FrameInvariants.{FrameInvariants}
 use Rattle.av1_frame.specs.declared.plane.Plane.{Plane}
 use Rattle.av1_frame.specs.declared.plane_region.StoredArea.{StoredArea}
+use Rattle.av1_frame.specs.declared.tile_state.TileRect.{TileRect}
 use Rattle.av1_frame.specs.Areas.{VisibleArea}
 use Rattle.av1_frame.specs.Frames.{slot_plane}
 use Rattle.av1_frame.specs.Planes.{sample_at}
@@ -22,6 +24,7 @@ use Rattle.av1_plan.specs.declared.header.Header.{Header}
 use Rattle.av1_plan.specs.Geometry.{follows_av1, has_slot, shown_rows, shown_columns, xdec, ydec}
 use Rattle.av1_plan.specs.Plan.{PlanValue, carried_plane}
 use Rattle.av1_plan.specs.Validity.{has_reference}
+use Rattle.av1_references.specs.declared.tile.TileReferences.{TileReferences}
 
 -- ---- the references of a plan
 
@@ -108,6 +111,10 @@ pub record HoldsReferences {T : Type 0} (num : T → ℕ) (value : PlanValue) (f
   pub planes : (slot p : ℕ) (plane : Plane T) → slot < 8 → p < 3 → slot_plane fi slot p ≡ Some plane →
       HoldsPlane num value.header p (slot_samples value slot p) plane
 
+-- a frame without leaves
+abbrev pub frame_with : Header → List (Option (List (List ℕ))) → PlanValue
+frame_with h references = record { header = h; references = references; leaves = [] }
+
 -- the settings of a frame that prediction from references reads are those of a header
 pub record PredictsAs {T : Type 0} (h : Header) (fi : FrameInvariants T) : Type 0 where
   pub depth : fi.bit_depth ≡ h.depth
@@ -126,3 +133,30 @@ pub record ServesPlan {T : Type 0} (num : T → ℕ) (value : PlanValue) (fi : F
   pub planes : (reference : RefType) (p : ℕ) (plane : Plane T) → has_reference value.header reference ≡ true → p < 3 →
       slot_plane fi (slot_of fi reference) p ≡ Some plane
       → HoldsPlane num value.header p (slot_samples value (slot_in value.header reference) p) plane
+
+-- ---- a tile in its frame
+
+-- the rectangle of plane p of its frame that a tile is
+abbrev pub rect_of : {T : Type 0} → TileReferences T → (p : ℕ) → TileRect
+rect_of from zero = from.luma
+rect_of from (suc p) = from.chroma
+
+-- a rectangle, so many columns and rows further
+abbrev pub shifted : (columns rows : ℕ) → VisibleArea → VisibleArea
+shifted columns rows a = record { x = columns + a.x; y = rows + a.y; width = a.width; height = a.height }
+
+-- a rectangle of a tile, as one of the tile's frame
+abbrev pub in_frame : (tile : TileRect) → VisibleArea → VisibleArea
+in_frame tile a = shifted tile.x tile.y a
+
+-- whose places can be counted with a sign
+pub record IsPlaced (tile : TileRect) (a : VisibleArea) : Type 0 where
+  pub columns : tile.x + (a.x + a.width) < 2 ^ 63
+  pub rows : tile.y + (a.y + a.height) < 2 ^ 63
+
+-- the tile begins where its frame does
+pub record IsWholeFrame {T : Type 0} (from : TileReferences T) : Type 0 where
+  pub luma_x : from.luma.x ≡ 0
+  pub luma_y : from.luma.y ≡ 0
+  pub chroma_x : from.chroma.x ≡ 0
+  pub chroma_y : from.chroma.y ≡ 0

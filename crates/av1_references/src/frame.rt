@@ -1,15 +1,16 @@
 //! The settings of a plan's frame, and the planes of its slots.
 
-ghost use Rattle.std.specs.Prelude.{◌≡◌, ◌/◌, ◌^◌, ◌<◌, ◌≤◌, IfOk, IsTrue};
+ghost use Rattle.std.specs.Prelude.{◌≡◌, ◌/◌, ◌^◌, ◌<◌, ◌≤◌, IfOk, IsTrue, length};
 ghost use Rattle.av1_plan.specs.Values.{plan_value};
 ghost use Rattle.av1_plan.specs.Geometry.{has_slot};
-ghost use Rattle.av1_plan.specs.ReadPlans.{ArePlane, IsReadFrame};
-ghost use Rattle.av1_references.specs.References.{HoldsPlane, HoldsReferences, slot_samples};
+ghost use Rattle.av1_plan.specs.Plan.{slot_values};
+ghost use Rattle.av1_plan.specs.ReadPlans.{ArePlane, AreStoredSlots, IsReadFrame};
+ghost use Rattle.av1_references.specs.References.{HoldsPlane, HoldsReferences, frame_with, slot_samples};
 
 use crate::fill::fill_plane;
 use av1_blocks::OutOfMemory;
 use av1_frame::{FrameInvariants, Pixel, Plane};
-use av1_plan::{Header, Plan};
+use av1_plan::{Header, Plan, SlotPlanes};
 use std::alloc::Global;
 
 /// How many columns and rows of luma stand round a reference: the filters of a block with sides of 64 reach 7 samples
@@ -66,6 +67,40 @@ fn slot_plane<T: Pixel>(
 {
     let samples = plan.reference(slot, p).unwrap();
     padded_plane(alloc, plan.header(), p, samples)
+}
+
+/// The settings of a frame, and its slots with these planes: for formats that keep what stands before leaves apart. An
+/// error is running out of memory.
+pub fn stored_references<T: Pixel>(
+    alloc: Global,
+    header: &Header,
+    references: &[Option<SlotPlanes>],
+) -> Result<FrameInvariants<T>, OutOfMemory>
+    requires frame { IsReadFrame header.now }
+    requires depth { header.now.depth ≤ T.BITS }
+    requires eight { length references.now ≡ 8 }
+    requires slots { AreStoredSlots header.now references.now 8 }
+    ensures { IfOk result (HoldsReferences T.num (frame_with header.now (slot_values references.now))) }
+{
+    let mut fi = FrameInvariants::new(
+        alloc,
+        usize::from(header.width),
+        usize::from(header.height),
+        header.filter,
+        usize::from(header.depth),
+        header.edge_filter,
+        header.slots,
+    )?;
+    fi.short_by_av1 = header.follows_av1();
+    for slot in 0..SLOTS {
+        if let Some(planes) = &references[slot] {
+            let y = padded_plane(alloc, header, 0, &planes.y)?;
+            let u = padded_plane(alloc, header, 1, &planes.u)?;
+            let v = padded_plane(alloc, header, 2, &planes.v)?;
+            fi.set_slot(slot, y, u, v);
+        }
+    }
+    Ok(fi)
 }
 
 /// The settings of a plan's frame, and its slots with the plan's planes.

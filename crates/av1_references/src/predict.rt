@@ -9,12 +9,11 @@ ghost use Rattle.av1_blocks.specs.Depths.{IsDepth};
 ghost use Rattle.av1_inter.specs.Reference.{IsServed, reference_of as reference_in};
 ghost use Rattle.av1_plan.specs.Plan.{PlanValue};
 ghost use Rattle.av1_plan.specs.Validity.{has_reference};
-ghost use Rattle.av1_references.specs.References.{compound_motion, ServesPlan, single_motion, visible_in};
+ghost use Rattle.av1_references.specs.References.{compound_motion, in_frame, IsPlaced, rect_of, ServesPlan, single_motion, visible_in};
 
+use crate::tile::TileReferences;
 use av1_blocks::{MotionVector, PredictionMode, RefType};
-use av1_frame::{
-    FrameInvariants, Pixel, Plane, PlaneConfig, PlaneOffset, StoredArea, TileRect, visible_area,
-};
+use av1_frame::{Pixel, Plane, PlaneOffset, StoredArea, visible_area};
 use av1_inter::{InterCompoundBuffers, predict_inter_compound, predict_inter_single};
 
 /// The place of a rectangle's first sample in its plane.
@@ -30,24 +29,12 @@ fn first_sample(area: StoredArea) -> PlaneOffset
     }
 }
 
-/// The tile that is the whole of a plane.
-fn whole_tile(cfg: PlaneConfig) -> TileRect
-    ensures x { result.x ≡ 0 }
-    ensures y { result.y ≡ 0 }
-{
-    TileRect {
-        x: 0,
-        y: 0,
-        width: cfg.width,
-        height: cfg.height,
-    }
-}
-
 /// Predicts a rectangle of plane `p` (0 for Y, 1 for U and 2 for V), counted from the first visible sample, from one
-/// reference of a plan, whichever plan the frame settings hold the references of.
+/// reference of a plan, whichever plan the settings of the tile's frame hold the references of. A vector counts from
+/// the rectangle's place in that frame.
 pub fn predict_single<T: Pixel>(
     plane: &mut Plane<T>,
-    fi: &FrameInvariants<T>,
+    from: &TileReferences<'_, T>,
     p: usize,
     mode: PredictionMode,
     area: StoredArea,
@@ -57,20 +44,21 @@ pub fn predict_single<T: Pixel>(
     requires plane { p < 3 }
     requires mode { is_intra mode ≡ false }
     requires fits { InPlane (visible_in area) plane.old }
+    requires placed { IsPlaced (rect_of from.now p) (visible_in area) }
     requires wide { area.width ≤ 64 }
     requires high { area.height ≤ 64 }
-    requires depths { IsDepth fi.now.bit_depth }
-    requires depth { fi.now.bit_depth ≤ T.BITS }
-    requires reference { IsServed T.num fi.now reference p area.width area.height }
-    ensures { (value : PlanValue) → ServesPlan T.num value fi.now → has_reference value.header reference ≡ true
-        → plane.new ≡ painted_plane plane.old (visible_in area) (λ r c _. T.pixel (single_motion value p reference mv (visible_in area) r c)) }
+    requires depths { IsDepth from.now.fi.now.bit_depth }
+    requires depth { from.now.fi.now.bit_depth ≤ T.BITS }
+    requires reference { IsServed T.num from.now.fi.now reference p area.width area.height }
+    ensures { (value : PlanValue) → ServesPlan T.num value from.now.fi.now → has_reference value.header reference ≡ true
+        → plane.new ≡ painted_plane plane.old (visible_in area)
+        (λ r c _. T.pixel (single_motion value p reference mv (in_frame (rect_of from.now p) (visible_in area)) r c)) }
 {
-    let tile = whole_tile(plane.config());
     let mut region = plane.region_mut(visible_area(area.x, area.y, area.width, area.height));
     predict_inter_single(
         mode,
-        fi,
-        tile,
+        from.fi,
+        from.rect(p),
         p,
         first_sample(area),
         &mut region,
@@ -84,7 +72,7 @@ pub fn predict_single<T: Pixel>(
 /// Predicts a rectangle of plane `p` from two references of a plan, each with its vector. `buffer` is room to work in.
 pub fn predict_compound<T: Pixel>(
     plane: &mut Plane<T>,
-    fi: &FrameInvariants<T>,
+    from: &TileReferences<'_, T>,
     p: usize,
     mode: PredictionMode,
     area: StoredArea,
@@ -95,22 +83,23 @@ pub fn predict_compound<T: Pixel>(
     requires plane { p < 3 }
     requires mode { is_intra mode ≡ false }
     requires fits { InPlane (visible_in area) plane.old }
+    requires placed { IsPlaced (rect_of from.now p) (visible_in area) }
     requires wide { area.width ≤ 64 }
     requires high { area.height ≤ 64 }
-    requires depths { IsDepth fi.now.bit_depth }
-    requires depth { fi.now.bit_depth ≤ T.BITS }
-    requires first { IsServed T.num fi.now (reference_in references 0) p area.width area.height }
-    requires second { IsServed T.num fi.now (reference_in references 1) p area.width area.height }
-    ensures { (value : PlanValue) → ServesPlan T.num value fi.now
+    requires depths { IsDepth from.now.fi.now.bit_depth }
+    requires depth { from.now.fi.now.bit_depth ≤ T.BITS }
+    requires first { IsServed T.num from.now.fi.now (reference_in references 0) p area.width area.height }
+    requires second { IsServed T.num from.now.fi.now (reference_in references 1) p area.width area.height }
+    ensures { (value : PlanValue) → ServesPlan T.num value from.now.fi.now
         → has_reference value.header (reference_in references 0) ≡ true → has_reference value.header (reference_in references 1) ≡ true
-        → plane.new ≡ painted_plane plane.old (visible_in area) (λ r c _. T.pixel (compound_motion value p references mvs (visible_in area) r c)) }
+        → plane.new ≡ painted_plane plane.old (visible_in area)
+        (λ r c _. T.pixel (compound_motion value p references mvs (in_frame (rect_of from.now p) (visible_in area)) r c)) }
 {
-    let tile = whole_tile(plane.config());
     let mut region = plane.region_mut(visible_area(area.x, area.y, area.width, area.height));
     predict_inter_compound(
         mode,
-        fi,
-        tile,
+        from.fi,
+        from.rect(p),
         p,
         first_sample(area),
         &mut region,

@@ -6,7 +6,6 @@ use Rattle.std.proofs.lemmas.Grind.{fold-append}
 use Rattle.av1_blocks.proofs.Sides.{tx_width_range, tx_height_range}
 use Rattle.av1_blocks.specs.Transforms.{tx_width}
 use Rattle.av1_lists.specs.Counts.{counted}
-use Rattle.av1_frame.specs.declared.frame_invariants.FrameInvariants.{FrameInvariants}
 use Rattle.av1_frame.specs.declared.plane.Plane.{Plane}
 use Rattle.av1_frame.specs.declared.plane.PlaneConfig.{PlaneConfig}
 use Rattle.av1_frame.specs.Planes.{InPlane, painted_plane}
@@ -17,16 +16,16 @@ use Rattle.av1_blocks.specs.declared.mc.FilterMode.TheVariants.{REGULAR}
 use Rattle.av1_plan.specs.declared.header.Header.{Header}
 use Rattle.av1_plan.specs.declared.leaf.Triple.{Triple}
 use Rattle.av1_plan.specs.Geometry.{block_count, blocks_across, follows_av1, transform_block}
-use Rattle.av1_plan.specs.Plan.{PlanValue}
-use Rattle.av1_references.specs.References.{ServesPlan, leaf_area}
+use Rattle.av1_references.specs.declared.tile.TileReferences.{TileReferences}
+use Rattle.av1_references.specs.References.{leaf_area}
 use Rattle.av1_tile.specs.declared.block.BlockPlace.{BlockPlace}
 use Rattle.av1_tile.specs.declared.plane_block.PlaneBlock.{PlaneBlock}
 use Rattle.av1_tile.specs.declared.plane_block.Prediction.{Prediction}
 use Rattle.av1_tile.specs.declared.plane_block.Prediction.TheVariants as predictions
 use Rattle.av1_tile.specs.PlaneBlocks.{is_whole}
-use Rattle.av1_tile.specs.Reference.{added, block_residue, no_luma}
+use Rattle.av1_tile.specs.Reference.{Scene, added, block_residue, no_luma}
 use Rattle.av1_tile.specs.Steps.{Step, predict, add, block_steps, joined, own_prediction, plane_steps, steps_at, whole_steps}
-use Rattle.av1_tile.specs.Walk.{BlockFits, IsPlaceIn, IsPlaneOf, PredictionFits, Stores, area_at, edges_in, fast_in, has_edge, with_header}
+use Rattle.av1_tile.specs.Walk.{BlockFits, IsPlaceIn, IsPlaneOf, PredictionFits, ServesScene, Stores, area_at, edges_in, fast_in, has_edge, with_header}
 use Rattle.av1_tile.proofs.TransformBlocks.{block_is}
 use Rattle.av1_tile.proofs.WithinDepth.{BeginsIn, added_stores, own_stores, whole_stores}
 
@@ -68,9 +67,9 @@ module _ (h : Header) (block : PlaneBlock) (at : BlockPlace) where
       → after ≡ fold edges_in count (own_prediction block at.number (area_at block at)) → after ≡ fold edges_in count (steps_at h block triples at.number)
   block_counted count after triples found e = e ∙ two_steps edges_in count triples found
 
--- a plan of which nothing is asked
-no_plan : PlanValue
-no_plan = record {
+-- a scene of which nothing is asked
+no_scene : Scene
+no_scene = record {
   header = record {
     version = 1;
     width = 8;
@@ -84,49 +83,48 @@ no_plan = record {
     slots = [];
     mask = 0;
   };
-  references = [];
-  leaves = [];
+  motion = λ p kind a r c. 0;
 }
 
--- planes after the two steps of a block of plans with this header
+-- planes after the two steps of a block of scenes with this header
 module _ {T : Type 0} (num : T → ℕ) (pixel : ℕ → T) (law : (v : ℕ) → num (pixel v) ≡ v) (back : (x : T) → pixel (num x) ≡ x) (h : Header) (block : PlaneBlock)
     (at : BlockPlace) (place : IsPlaceIn h block at)
     (ac : List ℤ) (before between : Plane T)
-    (predicted : (value : PlanValue) →
+    (predicted : (value : Scene) →
     between ≡ fold (fast_in num pixel (with_header h value) block.plane (λ _. ac_at (tx_width block.area.tx_size) ac)) before
     (own_prediction block at.number (area_at block at))) where
   abbrev luma : PlaneBlock → ℕ → ℕ → ℤ
   luma = λ _. ac_at (tx_width block.area.tx_size) ac
 
   -- what a step does to the plane
-  abbrev turn : PlanValue → Plane T → Step → Plane T
+  abbrev turn : Scene → Plane T → Step → Plane T
   turn value = fast_in num pixel (with_header h value) block.plane luma
 
   -- between them the samples lie within the depth
   pub between_stores : Stores num h block.plane before → 8 ≤ h.depth → Stores num h block.plane between
   between_stores stores deep =
-      subst (Stores num h block.plane) (sym (predicted no_plan))
-      (own_stores num pixel law back (with_header h no_plan) block.plane luma before stores deep block at.number (area_at block at)
+      subst (Stores num h block.plane) (sym (predicted no_scene))
+      (own_stores num pixel law back (with_header h no_scene) block.plane luma before stores deep block at.number (area_at block at)
       (begins_in h block at place))
 
   -- the plane is laid out as before
   between_layout : between.plane_cfg ≡ before.plane_cfg
   unfolding fast_in
-  between_layout = ap (λ (p : Plane T). p.plane_cfg) (predicted no_plan) ∙ go (is_whole block.prediction)
+  between_layout = ap (λ (p : Plane T). p.plane_cfg) (predicted no_scene) ∙ go (is_whole block.prediction)
     where
-      go : (t : Bool) → (fold (turn no_plan) before (if t then [] else predict block at.number (area_at block at) ∷ [])).plane_cfg ≡ before.plane_cfg
+      go : (t : Bool) → (fold (turn no_scene) before (if t then [] else predict block at.number (area_at block at) ∷ [])).plane_cfg ≡ before.plane_cfg
       go true = refl
       go false = refl
 
   module _ (triples : List Triple) (after : Plane T)
       (painted : after ≡ painted_plane between (area_at block at)
       (λ r c v. pixel (added h.depth (num v) (block_residue (follows_av1 h) h.depth block triples at.number r c)))) where
-    added_is : (value : PlanValue) → after ≡ turn value between (add block triples at.number (area_at block at))
+    added_is : (value : Scene) → after ≡ turn value between (add block triples at.number (area_at block at))
     unfolding fast_in
     added_is value = painted
 
     -- after them they are the plane that has gone through the block's steps
-    pub block_walked : transform_block h block.plane block.area at.number ≡ Some (record { x = at.x; y = at.y }) → (value : PlanValue) →
+    pub block_walked : transform_block h block.plane block.area at.number ≡ Some (record { x = at.x; y = at.y }) → (value : Scene) →
         after ≡ fold (turn value) before (steps_at h block triples at.number)
     block_walked found value =
         added_is value ∙ ap (λ (p : Plane T). turn value p (add block triples at.number (area_at block at))) (predicted value)
@@ -135,8 +133,8 @@ module _ {T : Type 0} (num : T → ℕ) (pixel : ℕ → T) (law : (v : ℕ) →
     -- whose samples lie within the depth
     pub after_stores : Stores num h block.plane before → 8 ≤ h.depth → Stores num h block.plane after
     after_stores stores deep =
-        subst (Stores num h block.plane) (sym (added_is no_plan))
-        (added_stores num pixel law back (with_header h no_plan) block.plane luma between (between_stores stores deep) block triples at.number
+        subst (Stores num h block.plane) (sym (added_is no_scene))
+        (added_stores num pixel law back (with_header h no_scene) block.plane luma between (between_stores stores deep) block triples at.number
         (area_at block at))
 
     pub after_layout : after.plane_cfg ≡ before.plane_cfg
@@ -193,15 +191,15 @@ pub whole_inside : {T : Type 0} (h : Header) (block : PlaneBlock) (triples : Lis
     BlockFits plane.plane_cfg h block triples → InPlane (leaf_area block.area) plane
 whole_inside h block triples plane is fits = record { storage = is.whole; columns = omega (arith, fits.columns); rows = omega (arith, fits.rows) }
 
-module _ {T : Type 0} (num : T → ℕ) (pixel : ℕ → T) (law : (v : ℕ) → num (pixel v) ≡ v) (back : (x : T) → pixel (num x) ≡ x) (plan : PlanValue)
-    (fi : FrameInvariants T) (holds : ServesPlan num plan fi) (block : PlaneBlock) (below : block.plane < 3)
+module _ {T : Type 0} (num : T → ℕ) (pixel : ℕ → T) (law : (v : ℕ) → num (pixel v) ≡ v) (back : (x : T) → pixel (num x) ≡ x) (plan : Scene)
+    (from : TileReferences T) (holds : ServesScene num plan from) (block : PlaneBlock) (below : block.plane < 3)
     (fits : PredictionFits plan.header block.plane block.area block.prediction) (before between : Plane T)
     (predicted : between ≡ fold (fast_in num pixel plan block.plane (λ _. no_luma)) before (whole_steps block)) where
   -- the plane goes on storing its part of the frame
   pub whole_between : Stores num plan.header block.plane before → Stores num plan.header block.plane between
   whole_between stores =
       subst (Stores num plan.header block.plane) (sym predicted)
-      (whole_stores num pixel law back plan block.plane (λ _. no_luma) before stores fi holds below block fits)
+      (whole_stores num pixel law back plan block.plane (λ _. no_luma) before stores from holds below block fits)
 
   -- laid out as before
   pub whole_layout : between.plane_cfg ≡ before.plane_cfg

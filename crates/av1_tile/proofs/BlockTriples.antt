@@ -23,10 +23,9 @@ use Rattle.av1_plan.specs.declared.geometry.TransformBlock.{TransformBlock}
 use Rattle.av1_plan.specs.declared.header.Header.{Header}
 use Rattle.av1_plan.specs.declared.leaf.Triple.{Triple}
 use Rattle.av1_plan.specs.Geometry.{block_count, follows_av1, transform_block}
-use Rattle.av1_plan.specs.Plan.{PlanValue}
 use Rattle.av1_tile.specs.declared.plane_block.PlaneBlock.{PlaneBlock}
 use Rattle.av1_tile.specs.PlaneBlocks.{is_whole}
-use Rattle.av1_tile.specs.Reference.{added, block_residue, coefficients, with_triple}
+use Rattle.av1_tile.specs.Reference.{Scene, added, block_residue, coefficients, with_triple}
 use Rattle.av1_tile.specs.declared.predicted.PredictedPlanes.{PredictedPlanes}
 use Rattle.av1_tile.specs.Predicted.{Keeping, keeping_in, kept_in}
 use Rattle.av1_tile.specs.Steps.{Step, predict, add, block_area, block_steps, joined, steps_at}
@@ -101,7 +100,7 @@ module _ (block : PlaneBlock) (ts : List Triple) (whole : is_whole block.predict
   none_counted h count = none_taken edges_in h count (λ n a. refl)
 
   -- and add nothing
-  module _ {T : Type 0} (num : T → ℕ) (pixel : ℕ → T) (back : (x : T) → pixel (num x) ≡ x) (plan : PlanValue) (luma : PlaneBlock → ℕ → ℕ → ℤ)
+  module _ {T : Type 0} (num : T → ℕ) (pixel : ℕ → T) (back : (x : T) → pixel (num x) ≡ x) (plan : Scene) (luma : PlaneBlock → ℕ → ℕ → ℤ)
       (plane : Plane T) (none : length ts ≡ 0) (within : All (λ v. num v < 2 ^ plan.header.depth) plane.samples) where
     none_adds : (n : ℕ) (a : VisibleArea) → plane ≡ fast_in num pixel plan block.plane luma plane (add block ts n a)
     unfolding fast_in
@@ -190,7 +189,7 @@ alike_at step block own all n start (Some b) e = go (is_whole block.prediction)
     go true = e start a
     go false = e (step start (predict block n a)) a
 
-module _ {T : Type 0} (num : T → ℕ) (pixel : ℕ → T) (plan : PlanValue) (p : ℕ) (luma : PlaneBlock → ℕ → ℕ → ℤ) (h : Header) (block : PlaneBlock)
+module _ {T : Type 0} (num : T → ℕ) (pixel : ℕ → T) (plan : Scene) (p : ℕ) (luma : PlaneBlock → ℕ → ℕ → ℤ) (h : Header) (block : PlaneBlock)
     (all : List Triple) (n at end : ℕ) (is : AreOwn n all at end) where
   own_adds : (q : Plane T) (a : VisibleArea) → fast_in num pixel plan p luma q (add block (take (end - at) (drop at all)) n a) ≡
       fast_in num pixel plan p luma q (add block all n a)

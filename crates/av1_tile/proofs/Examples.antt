@@ -21,7 +21,7 @@ use Rattle.av1_plan.specs.Geometry.{block_count, block_at, has_block, transform_
 use Rattle.av1_plan.specs.Plan.{LeafValue, PlanValue}
 use Rattle.av1_tile.specs.Edge.{edge}
 use Rattle.av1_tile.specs.Output.{visible, planes_of}
-use Rattle.av1_tile.specs.Reference.{by_prediction, predicted, coefficients, block_residue, slow_in, slow_step, slow_walk}
+use Rattle.av1_tile.specs.Reference.{by_prediction, predicted, coefficients, block_residue, slow_in, slow_step, slow_walk, walk_of}
 use Rattle.av1_tile.specs.Steps.{joined, steps_at, steps_of}
 
 -- an 8x8 frame in 4:4:4 at depth 8
@@ -66,6 +66,6 @@ worked_planes : planes_of plan ≡ replicate 64 131 ++ replicate 128 128
 unfolding header leaf plan xdec ydec plane_width plane_height shown_columns shown_rows carries_chroma plane_place plane_size plane_tx_size plane_area
     blocks_across block_count
     block_at has_block transform_block is_inside edge by_prediction intra_predicted predicted joined steps_at steps_of coefficients block_residue slow_in
-    slow_step slow_walk visible planes_of clamp_value half_btf_with brev cos128 cosine_with odd_half_with group_sum_with inner_turn_with mirror_sum_with
+    slow_step slow_walk walk_of visible planes_of clamp_value half_btf_with brev cos128 cosine_with odd_half_with group_sum_with inner_turn_with mirror_sum_with
     outer_turn_with rounds_with network_with residue_by transformed_column column_network transformed_row row_input row_value int_wrap
 worked_planes = refl

@@ -18,7 +18,6 @@ use Rattle.av1_frame.proofs.Update.{get_or-update, length-update, update_is}
 use Rattle.av1_plan.specs.declared.header.Header.{Header}
 use Rattle.av1_plan.specs.declared.leaf.Triple.{Triple}
 use Rattle.av1_plan.specs.Geometry.{follows_av1, transform_block}
-use Rattle.av1_plan.specs.Plan.{PlanValue}
 use Rattle.av1_references.specs.References.{leaf_area}
 use Rattle.av1_tile.specs.declared.block.BlockPlace.{BlockPlace}
 use Rattle.av1_tile.specs.declared.plane_block.PlaneBlock.{PlaneBlock}
@@ -26,7 +25,7 @@ use Rattle.av1_tile.specs.declared.predicted.PredictedPlanes.{PredictedPlanes}
 use Rattle.av1_tile.specs.PlaneBlocks.{component, is_whole}
 use Rattle.av1_tile.specs.Predicted.{Keeping, copied, keeping_in, kept_in, rows_in, stored_in, with_rows}
 use Rattle.av1_references.specs.References.{visible_in}
-use Rattle.av1_tile.specs.Reference.{added, block_residue}
+use Rattle.av1_tile.specs.Reference.{Scene, added, block_residue}
 use Rattle.av1_tile.specs.Steps.{Step, predict, add, own_prediction, steps_at, whole_steps}
 use Rattle.av1_tile.specs.Walk.{area_at, fast_in}
 use Rattle.av1_tile.proofs.BlockSteps.{some_factor, two_steps}
@@ -104,7 +103,7 @@ paint_unseen width height a f s long past =
 
 -- ---- steps
 
-module _ {T : Type 0} (num : T → ℕ) (pixel : ℕ → T) (plan : PlanValue) (p : ℕ) (luma : PlaneBlock → ℕ → ℕ → ℤ) (plane after : Plane T)
+module _ {T : Type 0} (num : T → ℕ) (pixel : ℕ → T) (plan : Scene) (p : ℕ) (luma : PlaneBlock → ℕ → ℕ → ℤ) (plane after : Plane T)
     (kept next : PredictedPlanes T) where
   -- no step, and one
   no_step_kept : after ≡ plane → next ≡ kept → ◌≡◌ {A = Keeping (Plane T) T} (after, next) (plane, kept)
@@ -165,7 +164,7 @@ module _ {T : Type 0} (num : T → ℕ) (pixel : ℕ → T) (p : ℕ) (plane : P
   no_whole_kept own = ap (λ (t : Bool). taken (if t then predict block 0 (leaf_area block.area) ∷ [] else [])) (sym own)
 
 -- the two steps of a transform block, of which an addition keeps nothing more
-pub block_kept : {T : Type 0} (num : T → ℕ) (pixel : ℕ → T) (plan : PlanValue) (luma : PlaneBlock → ℕ → ℕ → ℤ) (h : Header) (block : PlaneBlock)
+pub block_kept : {T : Type 0} (num : T → ℕ) (pixel : ℕ → T) (plan : Scene) (luma : PlaneBlock → ℕ → ℕ → ℤ) (h : Header) (block : PlaneBlock)
     (at : BlockPlace) (triples : List Triple) (plane between after : Plane T) (kept next : PredictedPlanes T)
     → transform_block h block.plane block.area at.number ≡ Some (record { x = at.x; y = at.y })
     → between ≡ fold (fast_in num pixel plan block.plane luma) plane (own_prediction block at.number (area_at block at))

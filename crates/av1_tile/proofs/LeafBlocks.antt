@@ -16,7 +16,7 @@ use Rattle.av1_plan.specs.declared.leaf.LeafKind.{LeafKind}
 use Rattle.av1_plan.specs.declared.leaf.Triple.{Triple}
 use Rattle.av1_plan.specs.declared.leaf.LeafKind.TheVariants.{Intra, Single, Compound}
 use Rattle.av1_plan.specs.Geometry.{plane_area, xdec, ydec}
-use Rattle.av1_plan.specs.Plan.{LeafValue, PlanValue}
+use Rattle.av1_plan.specs.Plan.{LeafValue}
 use Rattle.av1_tile.specs.declared.plane_block.Nearby.{Nearby}
 use Rattle.av1_tile.specs.declared.plane_block.Parts.{Parts}
 use Rattle.av1_tile.specs.declared.plane_block.PlaneBlock.{PlaneBlock}
@@ -24,6 +24,7 @@ use Rattle.av1_tile.specs.declared.plane_block.Prediction.{Prediction}
 use Rattle.av1_tile.specs.Canvas.{Component, Y, U, V}
 use Rattle.av1_tile.specs.PlaneBlocks.{block_told, component, prediction_in, type_in}
 use Rattle.av1_tile.specs.Predicted.{Keeping, keeping_in}
+use Rattle.av1_tile.specs.Reference.{Scene}
 use Rattle.av1_tile.specs.Shared.{parts_at}
 use Rattle.av1_tile.specs.Steps.{plane_steps}
 use Rattle.av1_tile.specs.Walk.{BlockFits, KeepsPlane, Known, Movers, Stores, block_by, edges_in, fast_in, near_by, parameters_by, parts_by, with_mover}
@@ -132,24 +133,24 @@ module _ {T : Type 0} (num : T → ℕ) (pixel : ℕ → T) (h : Header) (known 
       after ≡ fold edges_in prepared (plane_steps h (block_by h known (component p) l) triples)
   counted_there prepared after e = e ∙ ap (λ (b : PlaneBlock). fold edges_in prepared (plane_steps h b triples)) is
 
-  pub walked_there : (luma : List ℤ) (plan : PlanValue) (before after : Plane T) →
-      after ≡ fold (fast_in num pixel plan block.plane (λ _. ac_at (tx_width block.area.tx_size) luma)) before (plane_steps h block triples)
+  pub walked_there : (luma : List ℤ) (scene : Scene) (before after : Plane T) →
+      after ≡ fold (fast_in num pixel scene block.plane (λ _. ac_at (tx_width block.area.tx_size) luma)) before (plane_steps h block triples)
       → let own = block_by h known (component p) l in
-      after ≡ fold (fast_in num pixel plan p (λ _. ac_at (tx_width own.area.tx_size) luma)) before (plane_steps h own triples)
-  walked_there luma plan before after e =
+      after ≡ fold (fast_in num pixel scene p (λ _. ac_at (tx_width own.area.tx_size) luma)) before (plane_steps h own triples)
+  walked_there luma scene before after e =
       let own = block_by h known (component p) l in
       e
-      ∙ ap (λ (b : PlaneBlock). fold (fast_in num pixel plan b.plane (λ _. ac_at (tx_width b.area.tx_size) luma)) before (plane_steps h b triples)) is
-      ∙ ap (λ (n : ℕ). fold (fast_in num pixel plan n (λ _. ac_at (tx_width own.area.tx_size) luma)) before (plane_steps h own triples))
+      ∙ ap (λ (b : PlaneBlock). fold (fast_in num pixel scene b.plane (λ _. ac_at (tx_width b.area.tx_size) luma)) before (plane_steps h b triples)) is
+      ∙ ap (λ (n : ℕ). fold (fast_in num pixel scene n (λ _. ac_at (tx_width own.area.tx_size) luma)) before (plane_steps h own triples))
       (number_component p few)
 
-  pub predicted_there : (luma : List ℤ) (plan : PlanValue) (start after : Keeping (Plane T) T) →
-      after ≡ fold (keeping_in num pixel plan block.plane (λ _. ac_at (tx_width block.area.tx_size) luma)) start (plane_steps h block triples)
+  pub predicted_there : (luma : List ℤ) (scene : Scene) (start after : Keeping (Plane T) T) →
+      after ≡ fold (keeping_in num pixel scene block.plane (λ _. ac_at (tx_width block.area.tx_size) luma)) start (plane_steps h block triples)
       → let own = block_by h known (component p) l in
-      after ≡ fold (keeping_in num pixel plan p (λ _. ac_at (tx_width own.area.tx_size) luma)) start (plane_steps h own triples)
-  predicted_there luma plan start after e =
+      after ≡ fold (keeping_in num pixel scene p (λ _. ac_at (tx_width own.area.tx_size) luma)) start (plane_steps h own triples)
+  predicted_there luma scene start after e =
       let own = block_by h known (component p) l in
       e
-      ∙ ap (λ (b : PlaneBlock). fold (keeping_in num pixel plan b.plane (λ _. ac_at (tx_width b.area.tx_size) luma)) start (plane_steps h b triples)) is
-      ∙ ap (λ (n : ℕ). fold (keeping_in num pixel plan n (λ _. ac_at (tx_width own.area.tx_size) luma)) start (plane_steps h own triples))
+      ∙ ap (λ (b : PlaneBlock). fold (keeping_in num pixel scene b.plane (λ _. ac_at (tx_width b.area.tx_size) luma)) start (plane_steps h b triples)) is
+      ∙ ap (λ (n : ℕ). fold (keeping_in num pixel scene n (λ _. ac_at (tx_width own.area.tx_size) luma)) start (plane_steps h own triples))
       (number_component p few)

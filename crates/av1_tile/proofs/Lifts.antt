@@ -14,7 +14,7 @@ use Rattle.av1_plan.specs.declared.geometry.TransformBlock.{TransformBlock}
 use Rattle.av1_plan.specs.declared.header.Header.{Header}
 use Rattle.av1_plan.specs.declared.leaf.Triple.{Triple}
 use Rattle.av1_plan.specs.Geometry.{carries_chroma, block_count, transform_block}
-use Rattle.av1_plan.specs.Plan.{LeafValue, PlanValue}
+use Rattle.av1_plan.specs.Plan.{LeafValue}
 use Rattle.av1_references.specs.References.{leaf_area}
 use Rattle.av1_tile.specs.declared.plane_block.PlaneBlock.{PlaneBlock}
 use Rattle.av1_tile.specs.declared.plane_block.Prediction.{Prediction}
@@ -24,7 +24,7 @@ use Rattle.av1_tile.specs.Canvas.{Component, Y, U, V}
 use Rattle.av1_tile.specs.declared.predicted.PredictedPlanes.{PredictedPlanes}
 use Rattle.av1_tile.specs.PlaneBlocks.{number, component, components_of, is_whole, triples_in}
 use Rattle.av1_tile.specs.Predicted.{Keeping, keeping_in, keeping_step, kept_in}
-use Rattle.av1_tile.specs.Reference.{by_prediction, luma_for}
+use Rattle.av1_tile.specs.Reference.{Scene, by_prediction, luma_for}
 use Rattle.av1_tile.specs.Steps.{Step, PlaneStep, predict, add, joined, block_area, block_steps, steps_at, whole_steps, plane_steps, in_component}
 use Rattle.av1_tile.specs.Steps.{component_steps, steps_of}
 use Rattle.av1_tile.specs.Walk.{edges_in, edges_after, fast_in, fast_step, placed_edge, plane_of, with_plane, SameLayout}
@@ -89,7 +89,7 @@ SameFor block (predictions.Parts parts) f g = ⊤
 abbrev pub SameLuma : PlaneBlock → (f g : PlaneBlock → ℕ → ℕ → ℤ) → Type 0
 SameLuma block f g = SameFor block block.prediction f g
 
-module _ {T : Type 0} (num : T → ℕ) (pixel : ℕ → T) (plan : PlanValue) (p : ℕ) (f g : PlaneBlock → ℕ → ℕ → ℤ) (block : PlaneBlock) where
+module _ {T : Type 0} (num : T → ℕ) (pixel : ℕ → T) (plan : Scene) (p : ℕ) (f g : PlaneBlock → ℕ → ℕ → ℤ) (block : PlaneBlock) where
   -- a leaf that is predicted over its whole area doesn't look at luma
   whole_same : (of : Prediction) → is_whole of ≡ true → (a : VisibleArea) (q : Plane T) (r c : ℕ)
       → by_prediction plan p of a (placed_edge plan.header p block 0 a num q) (f block) r c ≡
@@ -109,7 +109,7 @@ module _ {T : Type 0} (num : T → ℕ) (pixel : ℕ → T) (plan : PlanValue) (
   pub whole_steps_same : (q : Plane T) → fold (fast_in num pixel plan p f) q (whole_steps block) ≡ fold (fast_in num pixel plan p g) q (whole_steps block)
   whole_steps_same q = whole_alike (fast_in num pixel plan p f) (fast_in num pixel plan p g) block whole_one q
 
-module _ {T : Type 0} (num : T → ℕ) (pixel : ℕ → T) (plan : PlanValue) (p : ℕ) (f g : PlaneBlock → ℕ → ℕ → ℤ) (block : PlaneBlock)
+module _ {T : Type 0} (num : T → ℕ) (pixel : ℕ → T) (plan : Scene) (p : ℕ) (f g : PlaneBlock → ℕ → ℕ → ℤ) (block : PlaneBlock)
     (same : SameLuma block f g) where
   -- a transform block is predicted alike
   by_luma : (of : Prediction) → SameFor block of f g → (n : ℕ) (b : TransformBlock) (q : Plane T) (r c : ℕ) → r < (block_area block b).height →
@@ -152,7 +152,7 @@ number_component (suc zero) h = refl
 number_component (suc (suc zero)) h = refl
 number_component (suc (suc (suc p))) h = absurd (omega arith)
 
-module _ {T : Type 0} (num : T → ℕ) (pixel : ℕ → T) (plan : PlanValue) where
+module _ {T : Type 0} (num : T → ℕ) (pixel : ℕ → T) (plan : Scene) where
   -- the planes are those of the steps alone
   pub kept_walked : (s : Keeping (Planes T) T) (steps : List PlaneStep) →
       (fold (keeping_step num pixel plan) s steps).0 ≡ fold (fast_step num pixel plan) s.0 steps

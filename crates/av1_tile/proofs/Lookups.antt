@@ -27,7 +27,7 @@ use Rattle.av1_tile.specs.Edge.{sample_of}
 use Rattle.av1_tile.specs.Lookups.{EdgeIsThere, IsThere, KnowsSides, OutputIsThere, PredictionFinds, StepFinds, StepIsAnswered, StepsAreAnswered}
 use Rattle.av1_tile.specs.Lookups.{StepsFindSamples}
 use Rattle.av1_tile.specs.PlaneBlocks.{number, components_of, extent_of, is_whole, plane_block, triples_in}
-use Rattle.av1_tile.specs.Reference.{slow_walk}
+use Rattle.av1_tile.specs.Reference.{Scene, scene, slow_walk, walk_of}
 use Rattle.av1_tile.specs.Steps.{Step, predict, add, PlaneStep, block_area, block_steps, component_steps, in_component, joined, leaf_steps, plane_steps, steps}
 use Rattle.av1_tile.specs.Steps.{steps_after, steps_at, steps_of}
 use Rattle.av1_tile.specs.Walk.{answer_low, answer_right, has_edge}
@@ -201,7 +201,7 @@ edge_there extent written a right low knows =
 
 -- ---- a step
 
-module _ (plan : PlanValue) (before : List PlaneStep) (k : Component) where
+module _ (plan : Scene) (before : List PlaneStep) (k : Component) where
   prediction_finds : (block : PlaneBlock) (n : ℕ) (a : VisibleArea) (of : Prediction) → PredictionReady plan.header k before block n a of →
       PredictionFinds plan.header (walked plan before) k block a of
   prediction_finds block n a (predictions.Intra mode step filter) ready =
@@ -242,14 +242,14 @@ pub steps_find_samples : StepsFindSamples
 steps_find_samples plan spelled valid before later s cut =
     let ready = each_cut (StepReady plan.header) [] before s later (subst (Each (StepReady plan.header) []) cut (all_ready plan spelled valid).ready) in
     let adds = each_cut StepAddsTo [] before s later (subst (Each StepAddsTo []) cut (leaves_add plan.header [] plan.leaves [])) in
-    step_finds plan before s.component s.step ready adds
+    step_finds (scene plan) before s.component s.step ready adds
 
 pub steps_are_answered : StepsAreAnswered
 steps_are_answered plan spelled valid before later s cut =
-    step_answered plan before s.component s.step
+    step_answered (scene plan) before s.component s.step
     (each_cut (StepReady plan.header) [] before s later (subst (Each (StepReady plan.header) []) cut (all_ready plan spelled valid).ready))
 
 pub output_is_there : OutputIsThere
-unfolding slow_walk
+unfolding slow_walk walk_of
 output_is_there plan spelled valid k x y hx hy =
-    walk_written plan (steps plan.header plan.leaves) k x y ∙ (all_ready plan spelled valid).whole k x y hx hy
+    walk_written (scene plan) (steps plan.header plan.leaves) k x y ∙ (all_ready plan spelled valid).whole k x y hx hy

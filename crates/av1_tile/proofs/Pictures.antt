@@ -13,6 +13,7 @@ use Rattle.av1_frame.proofs.RowParts.{part_sample}
 use Rattle.av1_frame.specs.declared.frame_invariants.FrameInvariants.{FrameInvariants}
 use Rattle.av1_frame.specs.declared.plane.Plane.{Plane}
 use Rattle.av1_frame.specs.declared.plane.PlaneConfig.{PlaneConfig}
+use Rattle.av1_frame.specs.Areas.{VisibleArea}
 use Rattle.av1_frame.specs.Planes.{InPlane, IsWhole, place_at, sample_at}
 use Rattle.av1_frame.specs.Samples.{part}
 use Rattle.av1_frame.proofs.Planes.{run_in_storage}
@@ -20,6 +21,7 @@ use Rattle.av1_frame.proofs.Within.{filled_all}
 use Rattle.av1_order.specs.Plans.{coding_in}
 use Rattle.av1_order.specs.Turns.{IsCodedPlan}
 use Rattle.av1_plan.specs.declared.header.Header.{Header}
+use Rattle.av1_plan.specs.declared.leaf.LeafKind.{LeafKind}
 use Rattle.av1_plan.specs.declared.plan.Plan.{Plan}
 use Rattle.av1_plan.specs.Values.{plan_value}
 use Rattle.av1_plan.specs.Geometry.{xdec, ydec, plane_width, plane_height, shown_columns, shown_rows, carries_chroma}
@@ -39,8 +41,8 @@ use Rattle.av1_tile.specs.Output.{visible, planes_of}
 use Rattle.av1_tile.specs.PlaneBlocks.{component, shown_of, number}
 use Rattle.av1_tile.specs.declared.predicted.PredictedPlanes.{PredictedPlanes}
 use Rattle.av1_tile.specs.Predicted.{AreBlank, Keeping, ShowsPredictions, keeping_step}
-use Rattle.av1_tile.specs.Reference.{slow_walk}
-use Rattle.av1_tile.specs.Memory.{ShowsPlan}
+use Rattle.av1_tile.specs.Reference.{Scene, scene, slow_walk}
+use Rattle.av1_tile.specs.Memory.{ShowsPlan, ShowsScene}
 use Rattle.av1_tile.specs.State.{ShowsRows, edges_of, shown}
 use Rattle.av1_tile.specs.Steps.{steps}
 use Rattle.av1_tile.specs.Walk.{Told, Begins, IsPlaneOf, ShowsPart, Stores, StoresAll, HasRoom, HasRoomIn, SameLayout, edges_after, fast_step, plane_of}
@@ -152,32 +154,34 @@ module _ (plan : PlanValue) (spelled : ∥ IsSpelled grammar plan ∥₁) (valid
   same_steps : (s : IsSpelled grammar plan) (told : Told) → steps_by plan.header (at_start told) plan.leaves ≡ steps plan.header plan.leaves
   same_steps s told = steps_told plan.header plan.leaves (λ k. coded plan valid s (number k)) all_begin told
 
-  -- planes that have gone through its steps show the samples that it comes to
+  -- planes that have gone through its steps, whatever its leaves predict from references, show the samples that they come to
   pub plan_shows : {T : Type 0} (num : T → ℕ) (pixel : ℕ → T) (law : (v : ℕ) → num (pixel v) ≡ v) (back : (x : T) → pixel (num x) ≡ x) (p q : Planes T)
-      (told : Told) → StoresAll num plan.header p → HasRoom plan.header p → StoresAll num plan.header q
-      → q ≡ fold (fast_step num pixel plan) p (steps_by plan.header (at_start told) plan.leaves) → ShowsPlan num plan q
-  plan_shows num pixel law back p q told stores room after walked k x y hx hy =
+      (told : Told) (motion : ℕ → LeafKind → VisibleArea → ℕ → ℕ → ℕ) → let own : Scene = record { header = plan.header; motion = motion }
+      in StoresAll num plan.header p → HasRoom plan.header p → StoresAll num plan.header q
+      → q ≡ fold (fast_step num pixel own) p (steps_by plan.header (at_start told) plan.leaves) → ShowsScene num own plan.leaves q
+  plan_shows num pixel law back p q told motion stores room after walked k x y hx hy =
+      let own : Scene = record { header = plan.header; motion = motion } in
       let read = kept_frame plan spelled in
       let coded_x : x < plane_width plan.header (number k) = omega (arith, hx, (columns_shown plan.header (number k) read.width read.shown_width).1) in
       let coded_y : y < plane_height plan.header (number k) = omega (arith, hy, (rows_shown plan.header (number k) read.height read.shown_height).1) in
       ∥∥₁_elim spelled (hlevel (ℕ_set))
       (λ s. sym
       (ap sample_of
-      (samples_shown num pixel law back plan p q (plan_ready plan.header plan.leaves (λ k. coded plan valid s (number k)) (spelled_frame plan s)
+      (samples_shown num pixel law back own plan.leaves p q (plan_ready plan.header plan.leaves (λ k. coded plan valid s (number k)) (spelled_frame plan s)
       (λ i d within. (spelled_leaves plan s i d within).quarter))
       (record { plane = all_placed num plan.header p stores; room = room.y }) (all_placed num plan.header q after)
-      (walked ∙ ap (fold (fast_step num pixel plan) p) (same_steps s told)) k x y coded_x coded_y)))
+      (walked ∙ ap (fold (fast_step num pixel own) p) (same_steps s told)) k x y coded_x coded_y)))
 
   -- what they have kept beside is what its Predict steps say
   pub plan_predicts : {T : Type 0} (num : T → ℕ) (pixel : ℕ → T) (law : (v : ℕ) → num (pixel v) ≡ v) (back : (x : T) → pixel (num x) ≡ x) (p q : Planes T)
       (kept last : PredictedPlanes T) (told : Told) → StoresAll num plan.header p → HasRoom plan.header p → AreBlank pixel plan.header kept
-      → (q, last) ≡ fold (keeping_step num pixel plan) (p, kept) (steps_by plan.header (at_start told) plan.leaves) → ShowsPredictions num plan last
+      → (q, last) ≡ fold (keeping_step num pixel (scene plan)) (p, kept) (steps_by plan.header (at_start told) plan.leaves) → ShowsPredictions num plan last
   plan_predicts num pixel law back p q kept last told stores room empty walked k =
       ∥∥₁_elim spelled (hlevel (List-set ℕ_set))
       (λ s. predictions_shown num pixel law back plan p kept last (plan_ready plan.header plan.leaves (λ k. coded plan valid s (number k))
       (spelled_frame plan s) (λ i d within. (spelled_leaves plan s i d within).quarter))
       (record { plane = all_placed num plan.header p stores; room = room.y }) empty
-      (ap (λ (r : Keeping (Planes _) _). r.1) (walked ∙ ap (fold (keeping_step num pixel plan) (p, kept)) (same_steps s told))) k)
+      (ap (λ (r : Keeping (Planes _) _). r.1) (walked ∙ ap (fold (keeping_step num pixel (scene plan)) (p, kept)) (same_steps s told))) k)
 
   -- and the count of edges is that of its predictions
   pub plan_counts : (count after : ℕ) (told : Told) → after ≡ fold edges_after count (steps_by plan.header (at_start told) plan.leaves) →

@@ -1,6 +1,7 @@
 -- A plan that is kept apart from its header and its references.
-use Rattle.std.proofs.Common.{◌≡◌, ℕ, ◌*◌, ◌/◌, ◌≤◌, List, None, All, ap, refl, sym, subst, ◌∙◌, arith}
+use Rattle.std.proofs.Common.{◌≡◌, ℕ, zero, suc, ◌+◌, ◌*◌, ◌/◌, ◌≤◌, List, None, All, ap, refl, sym, subst, ◌∙◌, arith}
 use Rattle.std.specs.List.{fold}
+use Rattle.av1_frame.specs.Areas.{VisibleArea}
 use Rattle.av1_frame.specs.declared.frame_invariants.FrameInvariants.{FrameInvariants}
 use Rattle.av1_plan.specs.declared.header.Header.{Header}
 use Rattle.av1_plan.specs.declared.plan.Plan.{Plan}
@@ -9,27 +10,76 @@ use Rattle.av1_plan.specs.Plan.{LeafValue, PlanValue}
 use Rattle.av1_plan.specs.ReadPlans.{IsReadFrame}
 use Rattle.av1_plan.specs.Validity.{first_fault}
 use Rattle.av1_plan.proofs.ReadPlans.{kept_frame}
-use Rattle.av1_references.specs.References.{HoldsReferences, ServesPlan}
+use Rattle.av1_references.specs.References.{HoldsReferences, IsWholeFrame, ServesPlan, in_frame, rect_of}
+use Rattle.av1_references.specs.declared.tile.TileReferences.{TileReferences}
 use Rattle.av1_references.proofs.Served.{holds_serves}
 use Rattle.av1_tile.specs.declared.planes.Planes.{Planes}
-use Rattle.av1_tile.specs.Memory.{HasRoomFor, IsPlanOver, ShowsPlan, WalkRoom}
+use Rattle.av1_tile.specs.Memory.{HasRoomFor, IsPlanOver, IsTileOver, ShowsPlan, ShowsScene, WalkRoom}
 use Rattle.av1_tile.specs.declared.predicted.PredictedPlanes.{PredictedPlanes}
 use Rattle.av1_tile.specs.Predicted.{AreBlank, ShowsPredictions, keeping_step}
+use Rattle.av1_tile.specs.Reference.{Scene, kind_motion, scene, slow_walk}
 use Rattle.av1_tile.specs.State.{MadeFor, Picture, edges_of, with_settings}
-use Rattle.av1_tile.specs.Walk.{at_start, HasRoom, LeafFits, StoresAll, Told, edges_after, fast_step, steps_by, with_header}
+use Rattle.av1_tile.specs.Walk.{at_start, HasRoom, LeafFits, ServesScene, StoresAll, Told, edges_after, fast_step, steps_by, with_header}
 use Rattle.av1_tile.proofs.Layouts.{alike_same}
 use Rattle.av1_tile.proofs.Pictures.{plan_counts, plan_predicts, plan_shows}
 use Rattle.av1_tile.proofs.PlanFits.{plan_fits}
 
-module _ {T : Type 0} (num : T → ℕ) (h : Header) (leaves : List LeafValue) (fi : FrameInvariants T) (plan : PlanValue)
-    (is : IsPlanOver num h leaves fi plan) where
+-- ---- the tile that is a whole frame
+
+module _ {T : Type 0} (from : TileReferences T) (whole : IsWholeFrame from) where
+  -- it begins at the first sample of each plane
+  first_x : (p : ℕ) → (rect_of from p).x ≡ 0
+  first_x zero = whole.luma_x
+  first_x (suc p) = whole.chroma_x
+
+  first_y : (p : ℕ) → (rect_of from p).y ≡ 0
+  first_y zero = whole.luma_y
+  first_y (suc p) = whole.chroma_y
+
+  -- so its rectangles are the frame's
+  same_place : (p : ℕ) (a : VisibleArea) → a ≡ in_frame (rect_of from p) a
+  same_place p a =
+      let x : a.x ≡ (rect_of from p).x + a.x = omega (arith, first_x p) in
+      let y : a.y ≡ (rect_of from p).y + a.y = omega (arith, first_y p) in
+      ap (λ (n : ℕ). record a { x = n }) x ∙ ap (λ (n : ℕ). record a { x = (rect_of from p).x + a.x; y = n }) y
+
+  -- and its references serve the scene of the plan whose references they are
+  whole_serves : (num : T → ℕ) (plan : PlanValue) (fi : FrameInvariants T) → from.fi.now ≡ fi → ServesPlan num plan fi → ServesScene num (scene plan) from
+  whole_serves num plan fi own serves = record {
+    plan = plan;
+    serves = subst (ServesPlan num plan) (sym own) serves;
+    depth = refl;
+    xdec = λ p. refl;
+    ydec = λ p. refl;
+    has = λ reference. refl;
+    near_x = λ p. omega (arith, first_x p);
+    near_y = λ p. omega (arith, first_y p);
+    motion = λ p kind a r c. ap (λ (b : VisibleArea). kind_motion plan p kind b r c) (same_place p a);
+  }
+
+  -- a plan over a frame is one over that tile
+  pub whole_over : (num : T → ℕ) (h : Header) (leaves : List LeafValue) (fi : FrameInvariants T) (plan : PlanValue) → from.fi.now ≡ fi →
+      IsPlanOver num h leaves fi plan → IsTileOver num h leaves from (scene plan) plan
+  whole_over num h leaves fi plan own is = record {
+    spelled = is.spelled;
+    valid = is.valid;
+    header = is.header;
+    leaves = is.leaves;
+    same = is.header;
+    references = whole_serves num plan fi own is.references;
+  }
+
+-- ---- a plan that is walked as a scene
+
+module _ {T : Type 0} (num : T → ℕ) (h : Header) (leaves : List LeafValue) (from : TileReferences T) (seen : Scene) (plan : PlanValue)
+    (is : IsTileOver num h leaves from seen plan) where
   -- its frame was read
   pub over_frame : IsReadFrame h
   over_frame = subst IsReadFrame is.header (kept_frame plan is.spelled)
 
   -- its references are served
-  pub over_serves : ServesPlan num (with_header h plan) fi
-  over_serves = subst (λ (k : Header). ServesPlan num (with_header k plan) fi) is.header is.references
+  pub over_serves : ServesScene num (with_header h seen) from
+  over_serves = subst (λ (k : Header). ServesScene num (with_header k seen) from) is.same is.references
 
   -- its leaves fit planes with room for whole superblocks
   pub over_fits : (planes : Planes T) → HasRoom h planes → All (LeafFits h planes) leaves
@@ -40,26 +90,17 @@ module _ {T : Type 0} (num : T → ℕ) (h : Header) (leaves : List LeafValue) (
   -- planes that have gone through the steps of its leaves show what it comes to
   pub over_shows : (pixel : ℕ → T) (law : (v : ℕ) → num (pixel v) ≡ v) (back : (x : T) → pixel (num x) ≡ x) (p q : Planes T) (told : Told) → StoresAll num h p →
       HasRoom h p → StoresAll num h q
-      → q ≡ fold (fast_step num pixel (with_header h plan)) p (steps_by h (at_start told) leaves) → ShowsPlan num plan q
+      → q ≡ fold (fast_step num pixel (with_header h seen)) p (steps_by h (at_start told) leaves) → ShowsScene num seen leaves q
   over_shows pixel law back p q told stores room after walked =
-      let own : q ≡ fold (fast_step num pixel plan) p (steps_by plan.header (at_start told) plan.leaves) =
-      subst (λ (ls : List LeafValue). q ≡ fold (fast_step num pixel plan) p (steps_by plan.header (at_start told) ls)) (sym is.leaves)
-      (subst (λ (k : Header). q ≡ fold (fast_step num pixel (with_header k plan)) p (steps_by k (at_start told) leaves)) (sym is.header) walked) in
-      plan_shows plan is.spelled is.valid num pixel law back p q told (subst (λ (k : Header). StoresAll num k p) (sym is.header) stores)
+      let own : q ≡ fold (fast_step num pixel (with_header plan.header seen)) p (steps_by plan.header (at_start told) plan.leaves) =
+      subst (λ (ls : List LeafValue). q ≡ fold (fast_step num pixel (with_header plan.header seen)) p (steps_by plan.header (at_start told) ls)) (sym is.leaves)
+      (subst (λ (k : Header). q ≡ fold (fast_step num pixel (with_header k seen)) p (steps_by k (at_start told) leaves)) (sym is.header) walked) in
+      let shows : ShowsScene num (with_header plan.header seen) plan.leaves q =
+      plan_shows plan is.spelled is.valid num pixel law back p q told seen.motion (subst (λ (k : Header). StoresAll num k p) (sym is.header) stores)
       (subst (λ (k : Header). HasRoom k p) (sym is.header) room)
-      (subst (λ (k : Header). StoresAll num k q) (sym is.header) after) own
-
-  -- what they have kept beside is what is predicted of it
-  pub over_predicts : (pixel : ℕ → T) (law : (v : ℕ) → num (pixel v) ≡ v) (back : (x : T) → pixel (num x) ≡ x) (p q : Planes T)
-      (kept last : PredictedPlanes T) (told : Told) → StoresAll num h p → HasRoom h p → AreBlank pixel h kept
-      → (q, last) ≡ fold (keeping_step num pixel (with_header h plan)) (p, kept) (steps_by h (at_start told) leaves) → ShowsPredictions num plan last
-  over_predicts pixel law back p q kept last told stores room empty walked =
-      let own : (q, last) ≡ fold (keeping_step num pixel plan) (p, kept) (steps_by plan.header (at_start told) plan.leaves) =
-      subst (λ (ls : List LeafValue). (q, last) ≡ fold (keeping_step num pixel plan) (p, kept) (steps_by plan.header (at_start told) ls)) (sym is.leaves)
-      (subst (λ (k : Header). (q, last) ≡ fold (keeping_step num pixel (with_header k plan)) (p, kept) (steps_by k (at_start told) leaves))
-      (sym is.header) walked) in
-      plan_predicts plan is.spelled is.valid num pixel law back p q kept last told (subst (λ (k : Header). StoresAll num k p) (sym is.header) stores)
-      (subst (λ (k : Header). HasRoom k p) (sym is.header) room) (subst (λ (k : Header). AreBlank pixel k kept) (sym is.header) empty) own
+      (subst (λ (k : Header). StoresAll num k q) (sym is.header) after) own in
+      subst (λ (ls : List LeafValue). ShowsScene num seen ls q) is.leaves
+      (subst (λ (k : Header). ShowsScene num (with_header k seen) plan.leaves q) (is.header ∙ sym is.same) shows)
 
   -- and their edges are counted
   pub over_counts : (count after : ℕ) (told : Told) → after ≡ fold edges_after count (steps_by h (at_start told) leaves) → after ≡ edges_of count plan
@@ -67,6 +108,28 @@ module _ {T : Type 0} (num : T → ℕ) (h : Header) (leaves : List LeafValue) (
       plan_counts plan is.spelled is.valid count after told
       (counted ∙ ap (λ (k : Header). fold edges_after count (steps_by k (at_start told) leaves)) (sym is.header)
       ∙ ap (λ (ls : List LeafValue). fold edges_after count (steps_by plan.header (at_start told) ls)) (sym is.leaves))
+
+-- ---- a plan that is walked as itself
+
+module _ {T : Type 0} (num : T → ℕ) (h : Header) (leaves : List LeafValue) (fi : FrameInvariants T) (plan : PlanValue)
+    (is : IsPlanOver num h leaves fi plan) where
+  -- what its scene shows is what it comes to
+  pub over_plan : (q : Planes T) → ShowsScene num (scene plan) leaves q → ShowsPlan num plan q
+  unfolding slow_walk
+  over_plan q shows = subst (λ (ls : List LeafValue). ShowsScene num (scene plan) ls q) (sym is.leaves) shows
+
+  -- what has been kept beside is what is predicted of it
+  pub over_predicts : (pixel : ℕ → T) (law : (v : ℕ) → num (pixel v) ≡ v) (back : (x : T) → pixel (num x) ≡ x) (p q : Planes T)
+      (kept last : PredictedPlanes T) (told : Told) → StoresAll num h p → HasRoom h p → AreBlank pixel h kept
+      → (q, last) ≡ fold (keeping_step num pixel (with_header h (scene plan))) (p, kept) (steps_by h (at_start told) leaves) → ShowsPredictions num plan last
+  over_predicts pixel law back p q kept last told stores room empty walked =
+      let own : (q, last) ≡ fold (keeping_step num pixel (scene plan)) (p, kept) (steps_by plan.header (at_start told) plan.leaves) =
+      subst (λ (ls : List LeafValue). (q, last) ≡ fold (keeping_step num pixel (scene plan)) (p, kept) (steps_by plan.header (at_start told) ls))
+      (sym is.leaves)
+      (subst (λ (k : Header). (q, last) ≡ fold (keeping_step num pixel (with_header k (scene plan))) (p, kept) (steps_by k (at_start told) leaves))
+      (sym is.header) walked) in
+      plan_predicts plan is.spelled is.valid num pixel law back p q kept last told (subst (λ (k : Header). StoresAll num k p) (sym is.header) stores)
+      (subst (λ (k : Header). HasRoom k p) (sym is.header) room) (subst (λ (k : Header). AreBlank pixel k kept) (sym is.header) empty) own
 
 -- a plan in memory with these leaves, whose references frame settings hold
 pub read_over : {T : Type 0} (num : T → ℕ) (plan : Plan) (own : List LeafValue) (h : Header) (fi : FrameInvariants T) → own ≡ (plan_value plan).leaves →

@@ -12,13 +12,12 @@ use Rattle.av1_intra.specs.ChromaFromLuma.{ac_at}
 use Rattle.av1_intra.specs.declared.neighbours.IntraEdgeFilterParameters.{IntraEdgeFilterParameters}
 use Rattle.av1_intra.proofs.SameLuma.{ac_at_nil}
 use Rattle.av1_plan.specs.declared.header.Header.{Header}
-use Rattle.av1_plan.specs.Plan.{PlanValue}
 use Rattle.av1_references.specs.References.{leaf_area}
 use Rattle.av1_tile.specs.declared.plane_block.PlaneBlock.{PlaneBlock}
 use Rattle.av1_tile.specs.declared.plane_block.Prediction.{Prediction}
 use Rattle.av1_tile.specs.declared.plane_block.Prediction.TheVariants as predictions
 use Rattle.av1_tile.specs.PlaneBlocks.{extent_of, is_whole}
-use Rattle.av1_tile.specs.Reference.{by_mode, by_prediction, no_luma}
+use Rattle.av1_tile.specs.Reference.{Scene, by_mode, by_prediction, no_luma}
 use Rattle.av1_tile.specs.Steps.{predict, own_prediction, whole_steps}
 use Rattle.av1_tile.specs.Walk.{fast_in, placed_edge}
 
@@ -26,7 +25,7 @@ use Rattle.av1_tile.specs.Walk.{fast_in, placed_edge}
 no_luma_is : (w : ℕ) → ac_at w [] ≡ no_luma
 no_luma_is w = fun_ext (λ r. fun_ext (λ c. ac_at_nil w r c))
 
-module _ {T : Type 0} (num : T → ℕ) (pixel : ℕ → T) (plan : PlanValue) (h : Header) (is : h ≡ plan.header) (luma : PlaneBlock → ℕ → ℕ → ℤ) (block : PlaneBlock)
+module _ {T : Type 0} (num : T → ℕ) (pixel : ℕ → T) (plan : Scene) (h : Header) (is : h ≡ plan.header) (luma : PlaneBlock → ℕ → ℕ → ℤ) (block : PlaneBlock)
     (n : ℕ) (a : VisibleArea) (plane after : Plane T) where
   -- a transform block that is predicted from its edge is its own prediction
   own_is : is_whole block.prediction ≡ false →
@@ -79,7 +78,7 @@ module _ {T : Type 0} (num : T → ℕ) (pixel : ℕ → T) (plan : PlanValue) (
       ∙ own_is (ap is_whole e)
 
 -- a whole area that is predicted from references
-pub walked_whole : {T : Type 0} (num : T → ℕ) (pixel : ℕ → T) (value : PlanValue) (luma : PlaneBlock → ℕ → ℕ → ℤ) (block : PlaneBlock) (plane after : Plane T)
+pub walked_whole : {T : Type 0} (num : T → ℕ) (pixel : ℕ → T) (value : Scene) (luma : PlaneBlock → ℕ → ℕ → ℤ) (block : PlaneBlock) (plane after : Plane T)
     (of : Prediction) → block.prediction ≡ of → is_whole of ≡ true
     → after ≡
     painted_plane plane (leaf_area block.area)

@@ -28,7 +28,7 @@ use Rattle.av1_tile.specs.PlaneBlocks.{number, shown_of}
 use Rattle.av1_tile.specs.Predicted.{AreBlank, ShowsPredictions, copied, keeping_step, kept_in, predictions_in, rows_in}
 use Rattle.av1_tile.specs.Predicted.{slow_predictions}
 use Rattle.av1_tile.specs.Predicted.{slow_progress, stored_in, with_rows}
-use Rattle.av1_tile.specs.Reference.{predicted, slow_in, slow_step}
+use Rattle.av1_tile.specs.Reference.{Scene, predicted, scene, slow_in, slow_step}
 use Rattle.av1_tile.specs.SampleRows.{SampleRows}
 use Rattle.av1_tile.specs.Steps.{Step, predict, add, PlaneStep, steps}
 use Rattle.av1_tile.specs.Walk.{fast_step, plane_of}
@@ -150,7 +150,7 @@ module _ {T : Type 0} (num : T → ℕ) (pixel : ℕ → T) (law : (v : ℕ) →
   kept_with plane kept U block n a = refl
   kept_with plane kept V block n a = refl
 
-  kept_shows : (plan : PlanValue) (canvas predictions : Canvas) (j : Component) (step : Step) (next : Planes T) (kept : PredictedPlanes T) →
+  kept_shows : (plan : Scene) (canvas predictions : Canvas) (j : Component) (step : Step) (next : Planes T) (kept : PredictedPlanes T) →
       AllWhole plan.header next → AllAgree num next (slow_step plan canvas (record { component = j; step = step })) → AllShow num plan.header kept predictions
       → AllShow num plan.header (kept_in num pixel (number j) (plane_of j next) kept step)
       (with_written j (predictions_in plan canvas j step (predictions j)) predictions)
@@ -172,7 +172,7 @@ module _ {T : Type 0} (num : T → ℕ) (pixel : ℕ → T) (law : (v : ℕ) →
   kept_shows plan canvas predictions j (add block triples n a) next kept s t shows = same_with num plan.header kept predictions j shows
 
   -- all that is kept, after steps that find what they read
-  walk_shows : (plan : PlanValue) (before rest : List PlaneStep) (planes : Planes T) (kept : PredictedPlanes T) (canvas predictions : Canvas)
+  walk_shows : (plan : Scene) (before rest : List PlaneStep) (planes : Planes T) (kept : PredictedPlanes T) (canvas predictions : Canvas)
       → canvas ≡ walked plan before → Each (StepReady plan.header) before rest → AllWhole plan.header planes → AllAgree num planes (walked plan before)
       → AllShow num plan.header kept predictions
       → AllShow num plan.header (fold (keeping_step num pixel plan) (planes, kept) rest).1
@@ -241,11 +241,11 @@ module _ {T : Type 0} (num : T → ℕ) (pixel : ℕ → T) (law : (v : ℕ) →
 
   -- what a walk through a plan's steps has kept
   pub predictions_shown : (plan : PlanValue) (p : Planes T) (kept last : PredictedPlanes T) → AreReady plan.header plan.leaves → AllWhole plan.header p →
-      AreBlank pixel plan.header kept → last ≡ (fold (keeping_step num pixel plan) (p, kept) (steps plan.header plan.leaves)).1
+      AreBlank pixel plan.header kept → last ≡ (fold (keeping_step num pixel (scene plan)) (p, kept) (steps plan.header plan.leaves)).1
       → ShowsPredictions num plan last
   unfolding slow_predictions
   predictions_shown plan p kept last r s empty is k =
       let all = steps plan.header plan.leaves in
-      let shows = walk_shows plan [] all p kept blank blank refl r.ready s (λ c x y v m n w. cc) (blank_shows plan.header kept empty) in
+      let shows = walk_shows (scene plan) [] all p kept blank blank refl r.ready s (λ c x y v m n w. cc) (blank_shows plan.header kept empty) in
       rows_are plan.header k (rows_in k last) (slow_predictions plan k)
       (subst (λ (q : PredictedPlanes T). RowsShow num plan.header k (rows_in k q) (slow_predictions plan k)) (sym is) (shows k))

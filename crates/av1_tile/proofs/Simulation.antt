@@ -26,7 +26,7 @@ use Rattle.av1_intra.proofs.SameLuma.{leaf_difference_same, predicted_luma}
 use Rattle.av1_order.proofs.Plans.{halved_x, halved_y}
 use Rattle.av1_plan.specs.declared.header.Header.{Header}
 use Rattle.av1_plan.specs.Geometry.{follows_av1, plane_width, plane_height}
-use Rattle.av1_plan.specs.Plan.{PlanValue}
+use Rattle.av1_plan.specs.Plan.{LeafValue}
 use Rattle.av1_tile.specs.declared.extent.PlaneExtent.{PlaneExtent}
 use Rattle.av1_tile.specs.declared.plane_block.LumaBlock.{LumaBlock}
 use Rattle.av1_tile.specs.declared.plane_block.PlaneBlock.{PlaneBlock}
@@ -37,7 +37,7 @@ use Rattle.av1_tile.specs.Canvas.{Component, Y, U, V, Written, Canvas, is_same, 
 use Rattle.av1_tile.specs.Edge.{edge, sample_of}
 use Rattle.av1_tile.specs.Output.{plane_bytes, sample_bytes, visible}
 use Rattle.av1_tile.specs.PlaneBlocks.{number, extent_of, shown_of}
-use Rattle.av1_tile.specs.Reference.{added, block_residue, by_mode, by_prediction, luma_for, luma_of, predicted, slow_in, slow_step, slow_walk}
+use Rattle.av1_tile.specs.Reference.{Scene, added, block_residue, by_mode, by_prediction, luma_for, luma_of, predicted, slow_in, slow_step, walk_of}
 use Rattle.av1_tile.specs.Steps.{Step, predict, add, PlaneStep, steps}
 use Rattle.av1_tile.specs.Walk.{HasRoomIn, IsPlaneOf, answer_right, answer_low, placed_edge, fast_in, fast_step, plane_of, with_plane}
 use Rattle.av1_tile.proofs.Agreement.{Agrees, listed_same, stored_is, stored_place, written_is}
@@ -73,7 +73,7 @@ written_in V Y next canvas x y d h = sym (or-false (is_some (canvas V x y)))
 written_in V U next canvas x y d h = sym (or-false (is_some (canvas V x y)))
 
 -- what a step writes
-step_written : (plan : PlanValue) (canvas : Canvas) (k j : Component) (step : Step) (x y : ℕ) →
+step_written : (plan : Scene) (canvas : Canvas) (k j : Component) (step : Step) (x y : ℕ) →
     is_some (slow_step plan canvas (record { component = j; step = step }) k x y) ≡
     (is_some (canvas k x y) || draws k x y (record { component = j; step = step }))
 unfolding slow_step slow_in
@@ -83,7 +83,7 @@ step_written plan canvas k j (add block triples n a) x y =
     written_in k j (slow_in plan canvas j (add block triples n a)) canvas x y false (added_written (in_visible a x y) _ (canvas j x y))
     ∙ ap (λ b. is_some (canvas k x y) || b) (and-false (is_same k j))
 
-steps_written : (plan : PlanValue) (canvas : Canvas) (steps : List PlaneStep) (k : Component) (x y : ℕ) →
+steps_written : (plan : Scene) (canvas : Canvas) (steps : List PlaneStep) (k : Component) (x y : ℕ) →
     is_some (fold (slow_step plan) canvas steps k x y) ≡ (is_some (canvas k x y) || list_any (draws k x y) steps)
 steps_written plan canvas [] k x y = sym (or-false (is_some (canvas k x y)))
 steps_written plan canvas (s ∷ rest) k x y =
@@ -91,10 +91,10 @@ steps_written plan canvas (s ∷ rest) k x y =
     ∙ or_assoc (is_some (canvas k x y)) (draws k x y s) (list_any (draws k x y) rest)
 
 -- the canvas after some steps
-abbrev pub walked : PlanValue → List PlaneStep → Canvas
+abbrev pub walked : Scene → List PlaneStep → Canvas
 walked plan before = fold (slow_step plan) blank before
 
-pub walk_written : (plan : PlanValue) (before : List PlaneStep) (k : Component) (x y : ℕ) → is_some (walked plan before k x y) ≡ list_any (draws k x y) before
+pub walk_written : (plan : Scene) (before : List PlaneStep) (k : Component) (x y : ℕ) → is_some (walked plan before k x y) ≡ list_any (draws k x y) before
 walk_written plan before k x y = steps_written plan blank before k x y
 
 -- ---- one step
@@ -212,20 +212,20 @@ module _ {T : Type 0} (num : T → ℕ) (pixel : ℕ → T) (law : (v : ℕ) →
       (λ here u. let (row, column) = within a x y here in e (y - a.y) (x - a.x) v _ (written x y) row column (λ m t. h x y m hx hy t) u)
       (λ u. h x y v hx hy u) w
 
-  step_place : (plan : PlanValue) (j : Component) (luma : PlaneBlock → ℕ → ℕ → ℤ) (p : Plane T) (step : Step) → IsPlaneOf plan.header (number j) p →
+  step_place : (plan : Scene) (j : Component) (luma : PlaneBlock → ℕ → ℕ → ℤ) (p : Plane T) (step : Step) → IsPlaneOf plan.header (number j) p →
       IsPlaneOf plan.header (number j) (fast_in num pixel plan (number j) luma p step)
   unfolding fast_in
   step_place plan j luma p (predict block n a) s = painted_place plan.header (number j) p a _ s
   step_place plan j luma p (add block triples n a) s = painted_place plan.header (number j) p a _ s
 
-  step_cfg : (plan : PlanValue) (j : Component) (luma : PlaneBlock → ℕ → ℕ → ℤ) (p : Plane T) (step : Step) →
+  step_cfg : (plan : Scene) (j : Component) (luma : PlaneBlock → ℕ → ℕ → ℤ) (p : Plane T) (step : Step) →
       (fast_in num pixel plan (number j) luma p step).plane_cfg ≡ p.plane_cfg
   unfolding fast_in
   step_cfg plan j luma p (predict block n a) = refl
   step_cfg plan j luma p (add block triples n a) = refl
 
   -- the edge of the canvas is the one that is read by place
-  module _ (plan : PlanValue) (before : List PlaneStep) (k : Component) (block : PlaneBlock) (n : ℕ) (a : VisibleArea) (p : Plane T)
+  module _ (plan : Scene) (before : List PlaneStep) (k : Component) (block : PlaneBlock) (n : ℕ) (a : VisibleArea) (p : Plane T)
       (ready : EdgeReady plan.header k before block n a)
       (s : IsPlaneOf plan.header (number k) p) (t : Agrees num p (walked plan before k)) where
     edge_same : (mode : PredictionMode) (step : ℤ) →
@@ -275,7 +275,7 @@ module _ {T : Type 0} (num : T → ℕ) (pixel : ℕ → T) (law : (v : ℕ) →
   by_mode_luma extent filter mode param a edges f g r c e = predicted_luma _ _ _ _ f g _ r c e
 
   -- what is predicted by place is what the canvas predicts
-  prediction_same : (plan : PlanValue) (before : List PlaneStep) (k : Component) (block : PlaneBlock) (n : ℕ) (a : VisibleArea) (planes : Planes T)
+  prediction_same : (plan : Scene) (before : List PlaneStep) (k : Component) (block : PlaneBlock) (n : ℕ) (a : VisibleArea) (planes : Planes T)
       (p : Plane T) (of : Prediction) → PredictionReady plan.header k before block n a of
       → AllWhole plan.header planes → AllAgree num planes (walked plan before) → p ≡ plane_of k planes → (r c : ℕ) → r < a.height → c < a.width
       → by_prediction plan (number k) of a (placed_edge plan.header (number k) block n a num p) (luma_for plan.header (sample_at num planes.y) k block) r c
@@ -302,7 +302,7 @@ module _ {T : Type 0} (num : T → ℕ) (pixel : ℕ → T) (law : (v : ℕ) →
   prediction_same plan before k block n a planes p (predictions.Parts parts) ready s t is r c hr hc = refl
 
   -- a step that is ready, in its plane and on its canvas
-  plane_agrees : (plan : PlanValue) (before : List PlaneStep) (k : Component) (step : Step) (planes : Planes T) → StepReadyIn plan.header k before step →
+  plane_agrees : (plan : Scene) (before : List PlaneStep) (k : Component) (step : Step) (planes : Planes T) → StepReadyIn plan.header k before step →
       AllWhole plan.header planes → AllAgree num planes (walked plan before)
       → Agrees num (fast_in num pixel plan (number k) (luma_for plan.header (sample_at num planes.y) k) (plane_of k planes) step)
       (slow_in plan (walked plan before) k step)
@@ -317,7 +317,7 @@ module _ {T : Type 0} (num : T → ℕ) (pixel : ℕ → T) (law : (v : ℕ) →
       (λ r c m v o hr hc q w. law _ ∙ ap (λ (u : ℕ). added depth u (block_residue (follows_av1 plan.header) depth block triples n r c)) (law v)
       ∙ added_is (λ u. added depth u (block_residue (follows_av1 plan.header) depth block triples n r c)) o m v q w) (t k)
 
-  pub step_agrees : (plan : PlanValue) (before : List PlaneStep) (s : PlaneStep) (planes : Planes T) → StepReady plan.header before s →
+  pub step_agrees : (plan : Scene) (before : List PlaneStep) (s : PlaneStep) (planes : Planes T) → StepReady plan.header before s →
       AllWhole plan.header planes → AllAgree num planes (walked plan before) →
       AllAgree num (fast_step num pixel plan planes s) (slow_step plan (walked plan before) s)
   unfolding fast_step slow_step
@@ -327,14 +327,14 @@ module _ {T : Type 0} (num : T → ℕ) (pixel : ℕ → T) (law : (v : ℕ) →
       (fast_in num pixel plan (number k) (luma_for plan.header (sample_at num planes.y) k) (plane_of k planes) s.step)
       (slow_in plan (walked plan before) k s.step) k (plane_agrees plan before k s.step planes ready t a) a
 
-  pub step_whole : (plan : PlanValue) (planes : Planes T) (s : PlaneStep) → AllWhole plan.header planes →
+  pub step_whole : (plan : Scene) (planes : Planes T) (s : PlaneStep) → AllWhole plan.header planes →
       AllWhole plan.header (fast_step num pixel plan planes s)
   unfolding fast_step
   step_whole plan planes s t =
       whole_with plan.header planes s.component _ t (step_place plan s.component _ (plane_of s.component planes) s.step (t.plane s.component))
       (step_cfg plan s.component _ (plane_of s.component planes) s.step)
 
-  walk_agrees : (plan : PlanValue) (before rest : List PlaneStep) (planes : Planes T) → Each (StepReady plan.header) before rest → AllWhole plan.header planes →
+  walk_agrees : (plan : Scene) (before rest : List PlaneStep) (planes : Planes T) → Each (StepReady plan.header) before rest → AllWhole plan.header planes →
       AllAgree num planes (walked plan before) → AllAgree num (fold (fast_step num pixel plan) planes rest) (walked plan (before ++ rest))
   walk_agrees plan before [] planes e t a = subst (λ (l : List PlaneStep). AllAgree num planes (walked plan l)) (sym (append-nil before)) a
   walk_agrees plan before (s ∷ rest) planes e t a =
@@ -345,13 +345,13 @@ module _ {T : Type 0} (num : T → ℕ) (pixel : ℕ → T) (law : (v : ℕ) →
       (walk_agrees plan (before ++ s ∷ []) rest next e.1 (step_whole plan planes s t) one)
 
   -- after all steps each visible sample is that of the slow walk, whatever the planes held before
-  pub samples_shown : (plan : PlanValue) (p q : Planes T) → AreReady plan.header plan.leaves → AllWhole plan.header p →
-      ((k : Component) → IsPlaneOf plan.header (number k) (plane_of k q)) → q ≡ fold (fast_step num pixel plan) p (steps plan.header plan.leaves)
+  pub samples_shown : (plan : Scene) (leaves : List LeafValue) (p q : Planes T) → AreReady plan.header leaves → AllWhole plan.header p →
+      ((k : Component) → IsPlaneOf plan.header (number k) (plane_of k q)) → q ≡ fold (fast_step num pixel plan) p (steps plan.header leaves)
       → (k : Component) (x y : ℕ) → x < plane_width plan.header (number k) → y < plane_height plan.header (number k) →
-      slow_walk plan k x y ≡ Some (sample_at num (plane_of k q) x y)
-  unfolding slow_walk
-  samples_shown plan p q r s t e k x y hx hy =
-      let all = steps plan.header plan.leaves in
+      walk_of plan leaves k x y ≡ Some (sample_at num (plane_of k q) x y)
+  unfolding walk_of
+  samples_shown plan leaves p q r s t e k x y hx hy =
+      let all = steps plan.header leaves in
       let a : AllAgree num q (walked plan all) =
       subst (λ (z : Planes T). AllAgree num z (walked plan all)) (sym e) (walk_agrees plan [] all p r.ready s (λ c i j v m n w. cc)) in
       written_is num plan.header (number k) (plane_of k q) (walked plan all k) (t k) (a k) x y hx hy (walk_written plan all k x y ∙ r.whole k x y hx hy)

@@ -33,7 +33,7 @@ use Rattle.av1_tile.specs.Edge.{sample_of}
 use Rattle.av1_tile.specs.Output.{visible, planes_of}
 use Rattle.av1_tile.specs.PlaneBlocks.{number, plane_block}
 use Rattle.av1_tile.specs.Reference.{above, added, beside, block_residue, by_prediction, coefficients, kind_motion, parts_motion, predicted, slow_in}
-use Rattle.av1_tile.specs.Reference.{slow_step, slow_walk}
+use Rattle.av1_tile.specs.Reference.{scene, slow_step, slow_walk, walk_of}
 use Rattle.av1_tile.specs.Steps.{Step, predict, add, PlaneStep, steps_at, steps_of, component_steps, leaf_steps, steps_after, steps}
 use Rattle.av1_tile.specs.Versions.{AgreesIn, EarlierKeepFilter, EarlyAgree, ElsewhereAgree, VersionsShowTheSame}
 
@@ -93,7 +93,7 @@ module _ (n : ℕ) (plan : PlanValue) (agrees : AgreesIn n plan.header) where
   kind_same c (Compound mode references mvs) a r k = compound_same c references mvs a r k
 
   parts_same : (c : Component) (parts : Parts) (a : VisibleArea) (r k : ℕ) →
-      parts_motion (plan_in n plan) (number c) parts a r k ≡ parts_motion plan (number c) parts a r k
+      parts_motion (kind_motion (plan_in n plan) (number c)) parts a r k ≡ parts_motion (kind_motion plan (number c)) parts a r k
   parts_same c parts a r k =
       let kinds : kind_motion (plan_in n plan) (number c) ≡ kind_motion plan (number c) =
       fun_ext (λ kind. fun_ext (λ b. fun_ext (λ i. fun_ext (λ j. kind_same c kind b i j)))) in
@@ -101,7 +101,7 @@ module _ (n : ℕ) (plan : PlanValue) (agrees : AgreesIn n plan.header) where
       ℕ). above parts.low (beside parts.narrow (f parts.corner) (f parts.over)) (beside parts.narrow (f parts.side) (f parts.own)) a r k) kinds
 
   prediction_same : (c : Component) (prediction : Prediction) (a : VisibleArea) (edge : PredictionMode → ℤ → Edge) (luma : ℕ → ℕ → ℤ) (r k : ℕ)
-      → by_prediction (plan_in n plan) (number c) prediction a edge luma r k ≡ by_prediction plan (number c) prediction a edge luma r k
+      → by_prediction (scene (plan_in n plan)) (number c) prediction a edge luma r k ≡ by_prediction (scene plan) (number c) prediction a edge luma r k
   unfolding by_prediction plane_width plane_height xdec ydec
   prediction_same Y (predictions.Intra mode step filter) a edge luma r k = refl
   prediction_same U (predictions.Intra mode step filter) a edge luma r k = refl
@@ -114,7 +114,7 @@ module _ (n : ℕ) (plan : PlanValue) (agrees : AgreesIn n plan.header) where
   prediction_same c (predictions.Parts parts) a edge luma r k = parts_same c parts a r k
 
   predicted_same : (canvas : Canvas) (c : Component) (block : PlaneBlock) (a : VisibleArea) (r k : ℕ) →
-      predicted (plan_in n plan) canvas c block a r k ≡ predicted plan canvas c block a r k
+      predicted (scene (plan_in n plan)) canvas c block a r k ≡ predicted (scene plan) canvas c block a r k
   unfolding predicted plane_width plane_height shown_columns shown_rows xdec ydec
   predicted_same canvas Y block a r k = prediction_same Y block.prediction a _ _ r k
   predicted_same canvas U block a r k = prediction_same U block.prediction a _ _ r k
@@ -126,7 +126,7 @@ module _ (n : ℕ) (plan : PlanValue) (agrees : AgreesIn n plan.header) where
   unfolding block_residue
   residue_same block triples m r k = agrees.residue block.area.tx_size block.tx_type (coefficients block.area.tx_size m triples) r k
 
-  written_same : (canvas : Canvas) (c : Component) (s : Step) → slow_in (plan_in n plan) canvas c s ≡ slow_in plan canvas c s
+  written_same : (canvas : Canvas) (c : Component) (s : Step) → slow_in (scene (plan_in n plan)) canvas c s ≡ slow_in (scene plan) canvas c s
   unfolding slow_in
   written_same canvas c (predict block m a) =
       ap (λ (f : ℕ → ℕ → ℕ). drawn a (λ r k _. Some (f r k)) (canvas c)) (fun_ext (λ r. fun_ext (λ k. predicted_same canvas c block a r k)))
@@ -134,16 +134,16 @@ module _ (n : ℕ) (plan : PlanValue) (agrees : AgreesIn n plan.header) where
       ap (λ (f : ℕ → ℕ → ℤ). drawn a (λ r k o. option_map (λ v. added plan.header.depth v (f r k)) o) (canvas c))
       (fun_ext (λ r. fun_ext (λ k. residue_same block triples m r k)))
 
-  step_same : (canvas : Canvas) (s : PlaneStep) → slow_step (plan_in n plan) canvas s ≡ slow_step plan canvas s
+  step_same : (canvas : Canvas) (s : PlaneStep) → slow_step (scene (plan_in n plan)) canvas s ≡ slow_step (scene plan) canvas s
   unfolding slow_step
   step_same canvas s = ap (λ w. with_written s.component w canvas) (written_same canvas s.component s.step)
 
   walk_same : slow_walk (plan_in n plan) ≡ slow_walk plan
-  unfolding slow_walk
+  unfolding slow_walk walk_of
   walk_same =
       ap (λ (f : Canvas → PlaneStep → Canvas). fold f blank (steps (header_in n plan.header) plan.leaves))
       (fun_ext (λ canvas. fun_ext (λ s. step_same canvas s)))
-      ∙ ap (λ (ss : List PlaneStep). fold (slow_step plan) blank ss) (steps_same n plan.header [] plan.leaves)
+      ∙ ap (λ (ss : List PlaneStep). fold (slow_step (scene plan)) blank ss) (steps_same n plan.header [] plan.leaves)
 
 shown_same : (n : ℕ) (plan : PlanValue) (f : Component → ℕ → ℕ → ℕ) → visible (header_in n plan.header) f ≡ visible plan.header f
 unfolding visible shown_columns shown_rows xdec ydec
@@ -157,7 +157,7 @@ versions_show_the_same n plan agrees =
 
 -- ---- versions that agree
 
-not_third : (version : ℕ) → version ≤ 2 → (version == 3) ≡ false
+pub not_third : (version : ℕ) → version ≤ 2 → (version == 3) ≡ false
 not_third zero few = refl
 not_third (suc zero) few = refl
 not_third (suc (suc zero)) few = refl

@@ -1,6 +1,6 @@
 -- Every step leaves samples within the depth.
 use Rattle.std.proofs.Common.{ℕ, ◌+◌, ◌-◌, ◌/◌, ◌^◌, ◌<◌, ◌≤◌, ◌≡◌, ◌&&◌, Bool, true, false, cond, min, if◌then◌else◌, List, [], ◌∷◌, ℤ, arith, refl, Option}
-use Rattle.std.proofs.Common.{None}
+use Rattle.std.proofs.Common.{None, subst, sym, ◌∙◌}
 use Rattle.std.specs.Prelude.{nat_lt}
 use Rattle.std.specs.List.{fold}
 use Rattle.av1_blocks.specs.declared.predict.PredictionMode.{PredictionMode}
@@ -10,7 +10,6 @@ use Rattle.av1_blocks.specs.declared.predict.IntraParam.TheVariants.{AngleDelta,
 use Rattle.av1_edges.specs.Edges.{Edge}
 use Rattle.av1_edges.specs.Parts.{effective, step_of, needs_left, needs_above_right, needs_below_left, needs_corner, smooths_corner}
 use Rattle.av1_edges.specs.Sides.{above_at, base, corner_at, left_at, num_avail, where_needed}
-use Rattle.av1_frame.specs.declared.frame_invariants.FrameInvariants.{FrameInvariants}
 use Rattle.av1_frame.specs.declared.plane.Plane.{Plane}
 use Rattle.av1_frame.specs.Areas.{VisibleArea}
 use Rattle.av1_frame.specs.Planes.{sample_at, painted_plane}
@@ -20,8 +19,8 @@ use Rattle.av1_plan.specs.declared.header.Header.{Header}
 use Rattle.av1_plan.specs.declared.leaf.Triple.{Triple}
 use Rattle.av1_plan.specs.declared.geometry.PlaneArea.{PlaneArea}
 use Rattle.av1_plan.specs.Geometry.{plane_width, plane_height}
-use Rattle.av1_plan.specs.Plan.{PlanValue}
-use Rattle.av1_references.specs.References.{ServesPlan, leaf_area}
+use Rattle.av1_references.specs.declared.tile.TileReferences.{TileReferences}
+use Rattle.av1_references.specs.References.{in_frame, leaf_area, rect_of}
 use Rattle.av1_references.proofs.Motion.{compound_motion_within, held_motion_within}
 use Rattle.av1_plan.specs.declared.leaf.LeafKind.{LeafKind}
 use Rattle.av1_plan.specs.declared.leaf.LeafKind.TheVariants.{Intra, Single, Compound}
@@ -30,9 +29,10 @@ use Rattle.av1_tile.specs.declared.plane_block.PlaneBlock.{PlaneBlock}
 use Rattle.av1_tile.specs.declared.plane_block.Prediction.{Prediction}
 use Rattle.av1_tile.specs.declared.plane_block.Prediction.TheVariants as predictions
 use Rattle.av1_tile.specs.PlaneBlocks.{extent_of, is_whole}
-use Rattle.av1_tile.specs.Reference.{above, beside, by_mode, by_prediction, kind_motion, no_luma, parts_motion}
+use Rattle.av1_tile.specs.Reference.{Scene, above, beside, by_mode, by_prediction, kind_motion, no_luma, parts_motion}
 use Rattle.av1_tile.specs.Steps.{predict, add, own_prediction, whole_steps}
-use Rattle.av1_tile.specs.Walk.{IsPlaneOf, KindServes, PartsServe, Stores, PredictionFits, edge_by_place, answer_right, answer_low, placed_edge, fast_in}
+use Rattle.av1_tile.specs.Walk.{IsPlaneOf, KindServes, PartsServe, ServesScene, Stores, PredictionFits, edge_by_place, answer_right, answer_low}
+use Rattle.av1_tile.specs.Walk.{placed_edge, fast_in}
 use Rattle.av1_frame.proofs.Within.{chosen_below, clip_within, painted_numbers_below, sample_below, some_numbers}
 use Rattle.av1_edges.proofs.Within.{above_within, base_within, corner_within, left_within, smoothed_within, some_available, available_inside}
 use Rattle.av1_lists.proofs.Lists.{by_index-all}
@@ -99,7 +99,7 @@ module _ {T : Type 0} (num : T → ℕ) (h : Header) (p : ℕ) (plane : Plane T)
       predicted_within _ _ _ _ luma _ r c deep (edge_within h.edge_filter (answer_right h p block n a) (answer_low h p block n a) (effective mode a.x a.y)
       (step_of param))
 
-module _ {T : Type 0} (num : T → ℕ) (pixel : ℕ → T) (law : (v : ℕ) → num (pixel v) ≡ v) (back : (x : T) → pixel (num x) ≡ x) (plan : PlanValue) (p : ℕ)
+module _ {T : Type 0} (num : T → ℕ) (pixel : ℕ → T) (law : (v : ℕ) → num (pixel v) ≡ v) (back : (x : T) → pixel (num x) ≡ x) (plan : Scene) (p : ℕ)
     (luma : PlaneBlock → ℕ → ℕ → ℤ) (plane : Plane T) (stores : Stores num plan.header p plane) where
   -- what a prediction from the samples round a block gives does
   prediction_within : 8 ≤ plan.header.depth → (block : PlaneBlock) (n : ℕ) (a : VisibleArea) → BeginsIn plan.header p a → (of : Prediction) →
@@ -130,15 +130,23 @@ module _ {T : Type 0} (num : T → ℕ) (pixel : ℕ → T) (law : (v : ℕ) →
             (λ r c v hr hc l. prediction_within deep block n a is block.prediction e (luma block) r c);
       }
 
-  module _ (fi : FrameInvariants T) (holds : ServesPlan num plan fi) (below : p < 3) where
+  module _ (from : TileReferences T) (holds : ServesScene num plan from) (below : p < 3) where
     -- what leaves of a kind predict lies within the depth
     abbrev AreWithin : (VisibleArea → ℕ → ℕ → ℕ) → Type 0
     AreWithin f = (a : VisibleArea) (r c : ℕ) → f a r c < 2 ^ plan.header.depth
 
-    kind_within : (kind : LeafKind) → KindServes plan.header kind → AreWithin (kind_motion plan p kind)
-    kind_within (Intra mode step chroma) serves a r c = absurd serves
-    kind_within (Single mode reference mv) serves a r c = held_motion_within num plan fi reference p mv a r c holds serves.1.has below
-    kind_within (Compound mode references mvs) serves a r c = compound_motion_within plan p references mvs a r c
+    plan_within : (kind : LeafKind) → KindServes plan.header kind → (a : VisibleArea) (r c : ℕ) →
+        kind_motion holds.plan p kind a r c < 2 ^ holds.plan.header.depth
+    plan_within (Intra mode step chroma) serves a r c = absurd serves
+    plan_within (Single mode reference mv) serves a r c =
+        held_motion_within num holds.plan from.fi.now reference p mv a r c holds.serves (holds.has reference ∙ serves.1.has) below
+    plan_within (Compound mode references mvs) serves a r c = compound_motion_within holds.plan p references mvs a r c
+
+    kind_within : (kind : LeafKind) → KindServes plan.header kind → AreWithin (plan.motion p kind)
+    kind_within kind serves a r c =
+        let own = plan_within kind serves (in_frame (rect_of from p) a) r c in
+        subst (λ (n : ℕ). n < 2 ^ plan.header.depth) (sym (holds.motion p kind a r c))
+        (subst (λ (d : ℕ). kind_motion holds.plan p kind (in_frame (rect_of from p) a) r c < 2 ^ d) holds.depth own)
 
     -- and so do halves
     narrow_within : (narrow : Bool) (f g : VisibleArea → ℕ → ℕ → ℕ) → AreWithin f → AreWithin g → AreWithin (beside narrow f g)
@@ -153,7 +161,7 @@ module _ {T : Type 0} (num : T → ℕ) (pixel : ℕ → T) (law : (v : ℕ) →
         let n = a.height / 2 in
         chosen_below (nat_lt r n) _ _ _ (first (record a { height = n }) r c) (second (record a { y = a.y + n; height = a.height - n }) (r - n) c)
 
-    parts_within : (parts : Parts) → PartsServe plan.header parts → AreWithin (parts_motion plan p parts)
+    parts_within : (parts : Parts) → PartsServe plan.header parts → AreWithin (parts_motion (plan.motion p) parts)
     parts_within parts serve =
         low_within parts.low _ _ (narrow_within parts.narrow _ _ (kind_within parts.corner serve.corner) (kind_within parts.over serve.over))
         (narrow_within parts.narrow _ _ (kind_within parts.side serve.side) (kind_within parts.own serve.own))
@@ -166,8 +174,8 @@ module _ {T : Type 0} (num : T → ℕ) (pixel : ℕ → T) (law : (v : ℕ) →
     whole_within area (predictions.Intra mode step filter) fits e a edge f r c = absurd cc
     whole_within area (predictions.FromLuma alpha) fits e a edge f r c = absurd cc
     whole_within area (predictions.Single mode reference mv) fits e a edge f r c =
-        held_motion_within num plan fi reference p mv a r c holds fits.serves.1.has below
-    whole_within area (predictions.Compound mode references mvs) fits e a edge f r c = compound_motion_within plan p references mvs a r c
+        kind_within (Single mode reference mv) fits.serves a r c
+    whole_within area (predictions.Compound mode references mvs) fits e a edge f r c = kind_within (Compound mode references mvs) fits.serves a r c
     whole_within area (predictions.Parts parts) fits e a edge f r c = parts_within parts fits.serve a r c
 
     -- and a whole area is

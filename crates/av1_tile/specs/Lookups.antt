@@ -19,7 +19,7 @@ use Rattle.av1_tile.specs.declared.plane_block.Prediction.TheVariants as predict
 use Rattle.av1_tile.specs.Canvas.{Component, Y, Canvas, Written, blank}
 use Rattle.av1_tile.specs.Edge.{known_above, known_left}
 use Rattle.av1_tile.specs.PlaneBlocks.{number, extent_of}
-use Rattle.av1_tile.specs.Reference.{luma_of, slow_step, slow_walk}
+use Rattle.av1_tile.specs.Reference.{luma_of, scene, slow_step, slow_walk}
 use Rattle.av1_tile.specs.Steps.{Step, predict, add, PlaneStep, steps}
 use Rattle.av1_tile.specs.Walk.{answer_right, answer_low, has_edge}
 
@@ -60,7 +60,7 @@ StepFinds h canvas k (add block triples n a) = (x y : ℕ) → in_visible a x y 
 abbrev pub AtEachStep : (Header → Canvas → Component → Step → Type 0) → PlanValue → Type 0
 AtEachStep P plan =
     (before later : List PlaneStep) (s : PlaneStep) → steps plan.header plan.leaves ≡ before ++ s ∷ later →
-    P plan.header (fold (slow_step plan) blank before) s.component s.step
+    P plan.header (fold (slow_step (scene plan)) blank before) s.component s.step
 
 -- each step of a valid plan finds what it looks up
 abbrev pub StepsFindSamples : Type 0

@@ -7,13 +7,14 @@ use Rattle.av1_plan.specs.Grammar.{plan as grammar}
 use Rattle.av1_plan.specs.Plan.{LeafValue, PlanValue}
 use Rattle.av1_plan.specs.Spelling.{IsSpelled}
 use Rattle.av1_plan.specs.Validity.{first_fault}
+use Rattle.av1_references.specs.declared.tile.TileReferences.{TileReferences}
 use Rattle.av1_references.specs.References.{ServesPlan}
 use Rattle.av1_tile.specs.declared.planes.Planes.{Planes}
 use Rattle.av1_tile.specs.Canvas.{Component}
 use Rattle.av1_tile.specs.Edge.{sample_of}
 use Rattle.av1_tile.specs.PlaneBlocks.{number}
-use Rattle.av1_tile.specs.Reference.{slow_walk}
-use Rattle.av1_tile.specs.Walk.{samples_of}
+use Rattle.av1_tile.specs.Reference.{Scene, slow_walk, walk_of}
+use Rattle.av1_tile.specs.Walk.{ServesScene, samples_of}
 
 -- what callers see of the memory of a walk: how many cells of 4 by 4 luma samples it has a record for, and how many
 -- edges were prepared in it
@@ -33,6 +34,22 @@ pub record IsPlanOver {T : Type 0} (num : T → ℕ) (h : Header) (own : List Le
   pub header : plan.header ≡ h
   pub leaves : plan.leaves ≡ own
   pub references : ServesPlan num plan fi
+
+-- a valid plan with this header and these leaves, walked as a scene whose motion the references of a tile serve
+pub record IsTileOver {T : Type 0} (num : T → ℕ) (h : Header) (own : List LeafValue) (from : TileReferences T)
+    (scene : Scene) (plan : PlanValue) : Type 0 where
+  pub spelled : ∥ IsSpelled grammar plan ∥₁
+  pub valid : first_fault plan ≡ None
+  pub header : plan.header ≡ h
+  pub leaves : plan.leaves ≡ own
+  pub same : scene.header ≡ h
+  pub references : ServesScene num scene from
+
+-- planes show what a scene with these leaves comes to, at each sample that is shown
+abbrev pub ShowsScene : {T : Type 0} → (T → ℕ) → Scene → List LeafValue → Planes T → Type 0
+ShowsScene num scene leaves planes =
+    (k : Component) (x y : ℕ) → x < shown_columns scene.header (number k) → y < shown_rows scene.header (number k) →
+    samples_of num planes k x y ≡ sample_of (walk_of scene leaves k x y)
 
 -- planes show what a plan comes to, at each sample that is shown
 abbrev pub ShowsPlan : {T : Type 0} → (T → ℕ) → PlanValue → Planes T → Type 0

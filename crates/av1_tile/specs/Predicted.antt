@@ -19,7 +19,7 @@ use Rattle.av1_tile.specs.Canvas.{Component, Y, U, V, Written, Canvas, blank, dr
 use Rattle.av1_tile.specs.Edge.{sample_of}
 use Rattle.av1_tile.specs.Output.{by_rows, visible}
 use Rattle.av1_tile.specs.PlaneBlocks.{component, number, shown_of}
-use Rattle.av1_tile.specs.Reference.{predicted, slow_step}
+use Rattle.av1_tile.specs.Reference.{Scene, predicted, scene, slow_step}
 use Rattle.av1_tile.specs.SampleRows.{SampleRows}
 use Rattle.av1_tile.specs.Steps.{Step, predict, add, PlaneStep, steps}
 use Rattle.av1_tile.specs.Walk.{fast_in, fast_step, plane_of, with_header}
@@ -32,16 +32,16 @@ pub record Progress : Type 0 where
   pub predictions : Canvas
 
 -- what a step leaves of the predictions of its plane: a Predict step draws what it predicts, an Add step nothing
-unfoldable pub predictions_in : PlanValue → Canvas → Component → Step → Written → Written
-predictions_in plan canvas component (predict block n a) before =
-    drawn a (λ r c _. Some (predicted plan canvas component block a r c)) before
-predictions_in plan canvas component (add block triples n a) before = before
+unfoldable pub predictions_in : Scene → Canvas → Component → Step → Written → Written
+predictions_in scene canvas component (predict block n a) before =
+    drawn a (λ r c _. Some (predicted scene canvas component block a r c)) before
+predictions_in scene canvas component (add block triples n a) before = before
 
--- both canvases after a step of the plan
-unfoldable pub slow_progress : PlanValue → Progress → PlaneStep → Progress
-slow_progress plan p s = record {
-  canvas = slow_step plan p.canvas s;
-  predictions = with_written s.component (predictions_in plan p.canvas s.component s.step (p.predictions s.component))
+-- both canvases after a step
+unfoldable pub slow_progress : Scene → Progress → PlaneStep → Progress
+slow_progress scene p s = record {
+  canvas = slow_step scene p.canvas s;
+  predictions = with_written s.component (predictions_in scene p.canvas s.component s.step (p.predictions s.component))
       p.predictions;
 }
 
@@ -51,7 +51,7 @@ no_progress = record { canvas = blank; predictions = blank }
 
 -- what every Predict step of the plan has left
 unfoldable pub slow_predictions : PlanValue → Canvas
-slow_predictions plan = (fold (slow_progress plan) no_progress (steps plan.header plan.leaves)).predictions
+slow_predictions plan = (fold (slow_progress (scene plan)) no_progress (steps plan.header plan.leaves)).predictions
 
 -- the bytes of the predictions of what is shown of the planes
 unfoldable pub predictions_of : PlanValue → List ℕ
@@ -92,26 +92,27 @@ kept_in num pixel p plane kept (add block triples n a) = kept
 abbrev pub Keeping : (X T : Type 0) → Type 0
 Keeping X T = X × PredictedPlanes T
 
--- both after a step in plane p of a plan
-unfoldable pub keeping_in : {T : Type 0} → (T → ℕ) → (ℕ → T) → PlanValue → (p : ℕ) →
+-- both after a step in plane p of a scene
+unfoldable pub keeping_in : {T : Type 0} → (T → ℕ) → (ℕ → T) → Scene → (p : ℕ) →
     (luma : PlaneBlock → ℕ → ℕ → ℤ) → Keeping (Plane T) T → Step → Keeping (Plane T) T
-keeping_in num pixel plan p luma s step =
-    let plane = fast_in num pixel plan p luma s.0 step in (plane, kept_in num pixel p plane s.1 step)
+keeping_in num pixel scene p luma s step =
+    let plane = fast_in num pixel scene p luma s.0 step in (plane, kept_in num pixel p plane s.1 step)
 
--- what steps of a block make of both, in any plan with this header; `luma` is how far luma is from its mean, row by row
+-- what steps of a block make of both, in any scene with this header; `luma` is how far luma is from its mean, row by
+-- row
 abbrev pub WalksKeeping : {T : Type 0} → (T → ℕ) → (ℕ → T) → Header → PlaneBlock → (luma : List ℤ) → List Step →
     (before after : Keeping (Plane T) T) → Type 0
 WalksKeeping num pixel h block luma steps before after =
-    (value : PlanValue) →
+    (value : Scene) →
     after ≡
     fold (keeping_in num pixel (with_header h value) block.plane (λ _. ac_at (tx_width block.area.tx_size) luma))
     before steps
 
 -- both after a step in any plane
-unfoldable pub keeping_step : {T : Type 0} → (T → ℕ) → (ℕ → T) → PlanValue → Keeping (Planes T) T → PlaneStep →
+unfoldable pub keeping_step : {T : Type 0} → (T → ℕ) → (ℕ → T) → Scene → Keeping (Planes T) T → PlaneStep →
     Keeping (Planes T) T
-keeping_step num pixel plan s step =
-    let planes = fast_step num pixel plan s.0 step in
+keeping_step num pixel scene s step =
+    let planes = fast_step num pixel scene s.0 step in
     (planes, kept_in num pixel (number step.component) (plane_of step.component planes) s.1 step.step)
 
 -- ---- what callers see of it

@@ -26,7 +26,7 @@ use Rattle.av1_plan.specs.declared.leaf.LeafKind.{LeafKind}
 use Rattle.av1_plan.specs.declared.leaf.LeafKind.TheVariants.{Intra, Single, Compound}
 use Rattle.av1_plan.specs.declared.leaf.Triple.{Triple}
 use Rattle.av1_plan.specs.Geometry.{follows_av1, xdec, ydec, plane_width, plane_height}
-use Rattle.av1_plan.specs.Plan.{PlanValue}
+use Rattle.av1_plan.specs.Plan.{LeafValue, PlanValue}
 use Rattle.av1_references.specs.References.{single_motion, compound_motion}
 use Rattle.av1_tile.specs.declared.extent.PlaneExtent.{PlaneExtent}
 use Rattle.av1_tile.specs.declared.plane_block.LumaBlock.{LumaBlock}
@@ -62,11 +62,21 @@ by_mode extent filter mode param a edge luma r c =
 abbrev pub no_luma : ℕ → ℕ → ℤ
 no_luma r c = pos 0
 
+-- What is walked: the header of a frame, or of a tile as a frame of its own, and what leaves from references predict:
+-- `motion p kind a r c` is the sample at row r and column c of the rectangle a of plane p.
+pub record Scene : Type 0 where
+  pub header : Header
+  pub motion : (p : ℕ) → LeafKind → VisibleArea → (r c : ℕ) → ℕ
+
 -- what a leaf of this kind predicts of plane p from references; an intra leaf, which no part has, predicts nothing
 abbrev pub kind_motion : PlanValue → (p : ℕ) → LeafKind → VisibleArea → (r c : ℕ) → ℕ
 kind_motion plan p (Single mode reference mv) a r c = single_motion plan p reference mv a r c
 kind_motion plan p (Compound mode references mvs) a r c = compound_motion plan p references mvs a r c
 kind_motion plan p (Intra mode step chroma) a r c = 0
+
+-- the scene of a plan, whose motion reads the plan's own references
+abbrev pub scene : PlanValue → Scene
+scene plan = record { header = plan.header; motion = kind_motion plan }
 
 -- a rectangle that g predicts; or, where it has two columns of parts, f its left half and g the right one
 abbrev pub beside : (narrow : Bool) → (f g : VisibleArea → ℕ → ℕ → ℕ) → VisibleArea → (r c : ℕ) → ℕ
@@ -84,23 +94,24 @@ above true f g a r c =
     if nat_lt r n then f (record a { height = n }) r c
     else g (record a { y = a.y + n; height = a.height - n }) (r - n) c
 
--- a rectangle of plane p that is predicted in parts
-abbrev pub parts_motion : PlanValue → (p : ℕ) → Parts → VisibleArea → (r c : ℕ) → ℕ
-parts_motion plan p parts =
-    above parts.low (beside parts.narrow (kind_motion plan p parts.corner) (kind_motion plan p parts.over))
-    (beside parts.narrow (kind_motion plan p parts.side) (kind_motion plan p parts.own))
+-- a rectangle that is predicted in parts, by what each kind of leaf predicts
+abbrev pub parts_motion : (motion : LeafKind → VisibleArea → ℕ → ℕ → ℕ) → Parts → VisibleArea → (r c : ℕ) → ℕ
+parts_motion motion parts =
+    above parts.low (beside parts.narrow (motion parts.corner) (motion parts.over))
+    (beside parts.narrow (motion parts.side) (motion parts.own))
 
--- The sample that is predicted there, in plane p of a plan.
-unfoldable pub by_prediction : PlanValue → (p : ℕ) → Prediction → VisibleArea → (edge : PredictionMode → ℤ → Edge) →
+-- The sample that is predicted there, in plane p of a scene.
+unfoldable pub by_prediction : Scene → (p : ℕ) → Prediction → VisibleArea → (edge : PredictionMode → ℤ → Edge) →
     (luma : ℕ → ℕ → ℤ) → (r c : ℕ) → ℕ
-by_prediction plan p (predictions.Intra mode step filter) a edge luma r c =
-    by_mode (extent_of plan.header p) filter mode (AngleDelta step) a edge no_luma r c
-by_prediction plan p (predictions.FromLuma alpha) a edge luma r c =
-    by_mode (extent_of plan.header p) None UV_CFL_PRED (Alpha alpha) a edge luma r c
-by_prediction plan p (predictions.Single mode reference mv) a edge luma r c = single_motion plan p reference mv a r c
-by_prediction plan p (predictions.Compound mode references mvs) a edge luma r c =
-    compound_motion plan p references mvs a r c
-by_prediction plan p (predictions.Parts parts) a edge luma r c = parts_motion plan p parts a r c
+by_prediction scene p (predictions.Intra mode step filter) a edge luma r c =
+    by_mode (extent_of scene.header p) filter mode (AngleDelta step) a edge no_luma r c
+by_prediction scene p (predictions.FromLuma alpha) a edge luma r c =
+    by_mode (extent_of scene.header p) None UV_CFL_PRED (Alpha alpha) a edge luma r c
+by_prediction scene p (predictions.Single mode reference mv) a edge luma r c =
+    scene.motion p (Single mode reference mv) a r c
+by_prediction scene p (predictions.Compound mode references mvs) a edge luma r c =
+    scene.motion p (Compound mode references mvs) a r c
+by_prediction scene p (predictions.Parts parts) a edge luma r c = parts_motion (scene.motion p) parts a r c
 
 -- a leaf of a frame, as chroma from luma sees it
 abbrev pub luma_of : Header → LumaBlock → LumaLeaf
@@ -122,11 +133,11 @@ luma_for h luma Y = λ block. no_luma
 luma_for h luma component = λ block. leaf_difference luma (luma_of h block.leaf)
 
 -- the sample at row r and column c of the rectangle a of a block, from the samples that have been written
-unfoldable pub predicted : PlanValue → Canvas → Component → PlaneBlock → VisibleArea → (r c : ℕ) → ℕ
-predicted plan canvas component block a r c =
-    let h = plan.header in
+unfoldable pub predicted : Scene → Canvas → Component → PlaneBlock → VisibleArea → (r c : ℕ) → ℕ
+predicted scene canvas component block a r c =
+    let h = scene.header in
     let p = number component in
-    by_prediction plan p block.prediction a
+    by_prediction scene p block.prediction a
     (λ mode step. edge (extent_of h p) h.edge_filter (canvas component) mode step a)
     (luma_for h (λ x y. sample_of (canvas Y x y)) component block) r c
 
@@ -152,18 +163,22 @@ added depth v z = clip depth (pos v +ℤ z)
 -- ---- the walk
 
 -- what a step writes in its plane: each sample of its rectangle is predicted, or has its residue added
-unfoldable pub slow_in : PlanValue → Canvas → Component → Step → Written
-slow_in plan canvas component (predict block n a) =
-    drawn a (λ r c _. Some (predicted plan canvas component block a r c)) (canvas component)
-slow_in plan canvas component (add block triples n a) =
-    let h = plan.header in
+unfoldable pub slow_in : Scene → Canvas → Component → Step → Written
+slow_in scene canvas component (predict block n a) =
+    drawn a (λ r c _. Some (predicted scene canvas component block a r c)) (canvas component)
+slow_in scene canvas component (add block triples n a) =
+    let h = scene.header in
     drawn a (λ r c o. option_map (λ v. added h.depth v (block_residue (follows_av1 h) h.depth block triples n r c)) o)
     (canvas component)
 
--- the canvas after a step of the plan
-unfoldable pub slow_step : PlanValue → Canvas → PlaneStep → Canvas
-slow_step plan canvas s = with_written s.component (slow_in plan canvas s.component s.step) canvas
+-- the canvas after a step
+unfoldable pub slow_step : Scene → Canvas → PlaneStep → Canvas
+slow_step scene canvas s = with_written s.component (slow_in scene canvas s.component s.step) canvas
 
--- the canvas after every step of the plan
+-- the canvas after every step of these leaves
+unfoldable pub walk_of : Scene → List LeafValue → Canvas
+walk_of scene leaves = fold (slow_step scene) blank (steps scene.header leaves)
+
+-- and after every step of a plan
 unfoldable pub slow_walk : PlanValue → Canvas
-slow_walk plan = fold (slow_step plan) blank (steps plan.header plan.leaves)
+slow_walk plan = walk_of (scene plan) plan.leaves

@@ -7,7 +7,7 @@ use Rattle.av1_plan.specs.Plan.{PlanValue}
 use Rattle.av1_tile.specs.Canvas.{Component, Written, Canvas, blank, is_same}
 use Rattle.av1_tile.specs.Edge.{sample_of}
 use Rattle.av1_tile.specs.Predicted.{slow_predictions}
-use Rattle.av1_tile.specs.Reference.{slow_step, slow_walk}
+use Rattle.av1_tile.specs.Reference.{Scene, scene, slow_step, slow_walk}
 use Rattle.av1_tile.specs.Steps.{Step, predict, add, PlaneStep, steps}
 
 -- what has been written so far, and what Add steps have changed of each sample since it was predicted
@@ -22,10 +22,10 @@ residue_in before after (predict block n a) z x y = if in_visible a x y then pos
 residue_in before after (add block triples n a) z x y =
     z x y +ℤ (pos (sample_of (after x y)) -ℤ pos (sample_of (before x y)))
 
--- both after a step of the plan
-unfoldable pub slow_adding : PlanValue → Adding → PlaneStep → Adding
-slow_adding plan p s =
-    let after = slow_step plan p.canvas s in
+-- both after a step
+unfoldable pub slow_adding : Scene → Adding → PlaneStep → Adding
+slow_adding scene p s =
+    let after = slow_step scene p.canvas s in
     record {
       canvas = after;
       residue = λ k x y. if is_same k s.component then residue_in (p.canvas k) (after k) s.step (p.residue k) x y
@@ -38,7 +38,7 @@ nothing_added = record { canvas = blank; residue = λ k x y. pos 0 }
 
 -- what the Add steps of the plan change
 unfoldable pub slow_residue : PlanValue → Component → ℕ → ℕ → ℤ
-slow_residue plan = (fold (slow_adding plan) nothing_added (steps plan.header plan.leaves)).residue
+slow_residue plan = (fold (slow_adding (scene plan)) nothing_added (steps plan.header plan.leaves)).residue
 
 -- Each sample is what was predicted of it and its residue.
 abbrev pub SamplesAreSums : Type 0

@@ -46,7 +46,8 @@ use Rattle.av1_plan.specs.Geometry.{carries_chroma, block_count, blocks_across, 
 use Rattle.av1_plan.specs.Plan.{LeafValue, PlanValue}
 use Rattle.av1_plan.specs.ReadPlans.{IsOtherFrame, IsReadFrame}
 use Rattle.av1_plan.specs.Validity.{has_reference}
-use Rattle.av1_references.specs.References.{ServesPlan, leaf_area}
+use Rattle.av1_references.specs.declared.tile.TileReferences.{TileReferences}
+use Rattle.av1_references.specs.References.{ServesPlan, in_frame, leaf_area, rect_of}
 use Rattle.av1_tile.specs.declared.block.BlockPlace.{BlockPlace}
 use Rattle.av1_tile.specs.declared.block.EdgePrediction.{EdgePrediction}
 use Rattle.av1_tile.specs.declared.cells.CodedCells.{CodedCells}
@@ -64,7 +65,8 @@ use Rattle.av1_tile.specs.PlaneBlocks.{number, component, extent_of, block_told,
 use Rattle.av1_tile.specs.PlaneBlocks.{is_from_luma}
 use Rattle.av1_tile.specs.PlaneBlocks.{triples_in}
 use Rattle.av1_tile.specs.Shared.{moved, parts_at}
-use Rattle.av1_tile.specs.Reference.{by_mode, by_prediction, luma_for, luma_of, added, block_residue}
+use Rattle.av1_tile.specs.Reference.{Scene, by_mode, by_prediction, kind_motion, luma_for, luma_of, added}
+use Rattle.av1_tile.specs.Reference.{block_residue}
 use Rattle.av1_tile.specs.Steps.{Step, predict, add, PlaneStep, steps_of}
 
 -- ---- edges by place
@@ -110,23 +112,23 @@ module _ (h : Header) (p : ℕ) (block : PlaneBlock) (n : ℕ) (a : VisibleArea)
 
 -- ---- steps by place
 
--- a plan with this header in place of its own
-abbrev pub with_header : Header → PlanValue → PlanValue
-with_header h plan = record { header = h; references = plan.references; leaves = plan.leaves }
+-- a scene with this header in place of its own
+abbrev pub with_header : Header → Scene → Scene
+with_header h scene = record { header = h; motion = scene.motion }
 
--- What a step does to plane p of a plan; `luma` says how far luma is from its mean.
-unfoldable pub fast_in : {T : Type 0} → (T → ℕ) → (ℕ → T) → PlanValue → (p : ℕ) → (luma : PlaneBlock → ℕ → ℕ → ℤ) →
+-- What a step does to plane p of a scene; `luma` says how far luma is from its mean.
+unfoldable pub fast_in : {T : Type 0} → (T → ℕ) → (ℕ → T) → Scene → (p : ℕ) → (luma : PlaneBlock → ℕ → ℕ → ℤ) →
     Plane T → Step → Plane T
-fast_in num pixel plan p luma plane (predict block n a) =
+fast_in num pixel scene p luma plane (predict block n a) =
     painted_plane plane a
     (λ r c _.
-    pixel (by_prediction plan p block.prediction a (placed_edge plan.header p block n a num plane)
+    pixel (by_prediction scene p block.prediction a (placed_edge scene.header p block n a num plane)
     (luma block) r c))
-fast_in num pixel plan p luma plane (add block triples n a) =
+fast_in num pixel scene p luma plane (add block triples n a) =
     painted_plane plane a
     (λ r c v.
-    pixel (added plan.header.depth (num v)
-    (block_residue (follows_av1 plan.header) plan.header.depth block triples n r c)))
+    pixel (added scene.header.depth (num v)
+    (block_residue (follows_av1 scene.header) scene.header.depth block triples n r c)))
 
 abbrev pub plane_of : {T : Type 0} → Component → Planes T → Plane T
 plane_of Y planes = planes.y
@@ -144,10 +146,10 @@ with_plane U planes p = record planes { u = p }
 with_plane V planes p = record planes { v = p }
 
 -- What a step does to the planes.
-unfoldable pub fast_step : {T : Type 0} → (T → ℕ) → (ℕ → T) → PlanValue → Planes T → PlaneStep → Planes T
-fast_step num pixel plan planes s =
-    with_plane s.component planes (fast_in num pixel plan (number s.component)
-    (luma_for plan.header (sample_at num planes.y) s.component) (plane_of s.component planes) s.step)
+unfoldable pub fast_step : {T : Type 0} → (T → ℕ) → (ℕ → T) → Scene → Planes T → PlaneStep → Planes T
+fast_step num pixel scene planes s =
+    with_plane s.component planes (fast_in num pixel scene (number s.component)
+    (luma_for scene.header (sample_at num planes.y) s.component) (plane_of s.component planes) s.step)
 
 -- ---- edges that are prepared
 
@@ -514,15 +516,31 @@ abbrev pub steps_by : Header → Known → List LeafValue → List PlaneStep
 steps_by h known [] = []
 steps_by h known (leaf ∷ leaves) = leaf_steps_by h known leaf ++ steps_by h (with_known known leaf) leaves
 
+-- ---- the references
+
+-- What leaves from references predict of the scene is what the references of a tile have: those of a plan, read from
+-- the tile's place in the frame on. In what motion reads of a header that plan's frame and the scene agree.
+pub record ServesScene {T : Type 0} (num : T → ℕ) (scene : Scene) (from : TileReferences T) : Type 0 where
+  pub plan : PlanValue
+  pub serves : ServesPlan num plan from.fi.now
+  pub depth : plan.header.depth ≡ scene.header.depth
+  pub xdec : (p : ℕ) → xdec plan.header p ≡ xdec scene.header p
+  pub ydec : (p : ℕ) → ydec plan.header p ≡ ydec scene.header p
+  pub has : (reference : RefType) → has_reference plan.header reference ≡ has_reference scene.header reference
+  pub near_x : (p : ℕ) → (rect_of from p).x < 2 ^ 16
+  pub near_y : (p : ℕ) → (rect_of from p).y < 2 ^ 16
+  pub motion : (p : ℕ) (kind : LeafKind) (a : VisibleArea) (r c : ℕ) →
+      scene.motion p kind a r c ≡ kind_motion plan p kind (in_frame (rect_of from p) a) r c
+
 -- ---- the frame that is walked
 
 -- its header is one that can be read, of a depth that samples of so many bits have; the record is one of its cells, its
--- settings serve a plan with that header, and so do the leaves before
+-- references serve a scene with that header, and so do the leaves before
 pub record IsWalked {T : Type 0} (num : T → ℕ) (bits : ℕ) (frame : WalkedFrame T) : Type 0 where
   pub header : IsReadFrame frame.header.now
   pub depth : frame.header.now.depth ≤ bits
   pub cells : HasCells frame.header.now frame.cells.now
-  pub references : (value : PlanValue) × ServesPlan num (with_header frame.header.now value) frame.fi.now
+  pub references : (value : Scene) × ServesScene num (with_header frame.header.now value) frame.from.now
   pub movers : MoversServe frame.header.now (movers_of frame.earlier.now)
 
 -- plane p of a frame that can be read, of a depth that samples of so many bits have
@@ -547,12 +565,12 @@ pub record KeepsPlanes {T : Type 0} (num : T → ℕ) (h : Header) (before after
   pub stores : StoresAll num h after
   pub layout : SameLayout before after
 
--- what steps of a block make of its plane, in any plan with this header; `luma` is how far luma is from its mean, row
+-- what steps of a block make of its plane, in any scene with this header; `luma` is how far luma is from its mean, row
 -- by row
 abbrev pub Walks : {T : Type 0} → (T → ℕ) → (ℕ → T) → Header → PlaneBlock → (luma : List ℤ) → List Step →
     (before after : Plane T) → Type 0
 Walks num pixel h block luma steps before after =
-    (value : PlanValue) →
+    (value : Scene) →
     after ≡
     fold (fast_in num pixel (with_header h value) block.plane (λ _. ac_at (tx_width block.area.tx_size) luma))
     before steps

@@ -4,13 +4,11 @@ ghost use Rattle.std.specs.Prelude.{◌≡◌, ℕ, ◌<◌, length, []};
 ghost use Rattle.std.specs.List.{fold};
 ghost use Rattle.av1_frame.specs.Planes.{sample_at};
 ghost use Rattle.av1_intra.specs.ChromaFromLuma.{ac_at, chroma_block, leaf_difference};
-ghost use Rattle.av1_plan.specs.Plan.{PlanValue};
-ghost use Rattle.av1_references.specs.References.{ServesPlan};
 ghost use Rattle.av1_tile.specs.PlaneBlocks.{is_from_luma};
 ghost use Rattle.av1_tile.specs.Predicted.{keeping_step};
-ghost use Rattle.av1_tile.specs.Reference.{luma_of};
+ghost use Rattle.av1_tile.specs.Reference.{Scene, luma_of};
 ghost use Rattle.av1_tile.specs.Walk.{known_in, edges_after, leaf_steps_by, fast_step, leaf_with, luma_block, LeafFits, LumaFits, Stores};
-ghost use Rattle.av1_tile.specs.Walk.{IsWalked, KeepsPlanes, StoresAll, with_header};
+ghost use Rattle.av1_tile.specs.Walk.{IsWalked, KeepsPlanes, ServesScene, StoresAll, with_header};
 
 use crate::buffers::WalkBuffers;
 use crate::frame::WalkedFrame;
@@ -70,7 +68,7 @@ fn prepare_luma<T: Pixel>(luma: &mut [i16], plane: &Plane<T>, header: &Header, l
 pub fn reconstruct_leaf<T: Pixel>(
     planes: &mut Planes<T>,
     buffers: &mut WalkBuffers<T>,
-    frame: &WalkedFrame<'_, T>,
+    frame: &WalkedFrame<'_, '_, T>,
     leaf: &Leaf,
     y: &[Triple],
     u: &[Triple],
@@ -80,13 +78,13 @@ pub fn reconstruct_leaf<T: Pixel>(
     requires stores { StoresAll T.num frame.now.header.now planes.old }
     requires fits { LeafFits frame.now.header.now planes.old (leaf_with leaf.now y.now u.now v.now) }
     ensures walked { let h = frame.now.header.now in let l = leaf_with leaf.now y.now u.now v.now in
-        (value : PlanValue) → ServesPlan T.num (with_header h value) frame.now.fi.now
+        (value : Scene) → ServesScene T.num (with_header h value) frame.now.from.now
         → planes.new ≡ fold (fast_step T.num T.pixel (with_header h value)) planes.old (leaf_steps_by h (known_in frame.now) l) }
     ensures counted { let l = leaf_with leaf.now y.now u.now v.now in buffers.new.edges.prepared ≡
         fold edges_after buffers.old.edges.prepared (leaf_steps_by frame.now.header.now (known_in frame.now) l) }
     ensures kept { KeepsPlanes T.num frame.now.header.now planes.old planes.new }
     ensures predictions { let h = frame.now.header.now in let l = leaf_with leaf.now y.now u.now v.now in
-        (value : PlanValue) → ServesPlan T.num (with_header h value) frame.now.fi.now → (planes.new, buffers.new.kept) ≡
+        (value : Scene) → ServesScene T.num (with_header h value) frame.now.from.now → (planes.new, buffers.new.kept) ≡
         fold (keeping_step T.num T.pixel (with_header h value)) (planes.old, buffers.old.kept) (leaf_steps_by h (known_in frame.now) l) }
 {
     let header = frame.header;

@@ -9,6 +9,7 @@ use crate::tile::reconstruct_leaves;
 use av1_blocks::OutOfMemory;
 use av1_frame::{FrameInvariants, Pixel};
 use av1_plan::{Header, Leaves};
+use av1_references::TileReferences;
 use std::alloc::Global;
 use std::marker::Model;
 
@@ -33,7 +34,8 @@ impl<T: Pixel> WalkMemory<T> {
     ghost use Rattle.std.specs.Prelude.{◌≡◌, ◌≤◌, ◌*◌, ◌/◌, IfOk, nat_le};
     ghost use Rattle.av1_plan.specs.Values.{leaves_value};
     ghost use Rattle.av1_plan.specs.Plan.{PlanValue};
-    ghost use Rattle.av1_tile.specs.Memory.{HasRoomFor, IsPlanOver, ShowsPlan};
+    ghost use Rattle.av1_tile.specs.Memory.{HasRoomFor, IsPlanOver, IsTileOver, ShowsPlan, ShowsScene};
+    ghost use Rattle.av1_tile.specs.Reference.{Scene};
     ghost use Rattle.av1_tile.specs.State.{edges_of};
     ghost use Rattle.av1_tile.specs.Walk.{HasRoom, SameLayout, StoresAll};
 
@@ -87,12 +89,41 @@ impl<T: Pixel> WalkMemory<T> {
         ensures layout { SameLayout planes.old planes.new }
         ensures cells { self.new.cells ≡ self.old.cells }
     {
+        self.reconstruct_tile(planes, &TileReferences::whole(fi, header), header, leaves);
+    }
+
+    /// Reconstructs the leaves of a tile that is walked as a frame of its own, with the header `header`, but predicted
+    /// from the references of its frame, read from its place there on. The visible samples of the planes are then those
+    /// of the slow definition, whatever they were before.
+    ///
+    /// The planes store a frame with the tile's header, with room for whole superblocks. They go on doing so, laid out
+    /// as before.
+    pub fn reconstruct_tile(
+        &mut self,
+        planes: &mut Planes<T>,
+        from: &TileReferences<'_, T>,
+        header: &Header,
+        leaves: &Leaves,
+    )
+        requires tile { (scene : Scene) × ((plan : PlanValue) × IsTileOver T.num header.now (leaves_value leaves.now) from.now scene plan) }
+        requires depth { header.now.depth ≤ T.BITS }
+        requires room { HasRoomFor header.now self.old }
+        requires stores { StoresAll T.num header.now planes.old }
+        requires superblocks { HasRoom header.now planes.old }
+        ensures shown { (scene : Scene) (plan : PlanValue) → IsTileOver T.num header.now (leaves_value leaves.now) from.now scene plan →
+            ShowsScene T.num scene (leaves_value leaves.now) planes.new }
+        ensures edges { (scene : Scene) (plan : PlanValue) → IsTileOver T.num header.now (leaves_value leaves.now) from.now scene plan →
+            self.new.edges ≡ edges_of self.old.edges plan }
+        ensures stores { StoresAll T.num header.now planes.new }
+        ensures layout { SameLayout planes.old planes.new }
+        ensures cells { self.new.cells ≡ self.old.cells }
+    {
         self.cells.lay_out(header);
         reconstruct_leaves(
             planes,
             &mut self.cells,
             &mut self.buffers,
-            fi,
+            from,
             header,
             leaves,
         );

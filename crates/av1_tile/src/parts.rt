@@ -4,16 +4,15 @@
 
 ghost use Rattle.std.specs.Prelude.{◌≡◌, ◌<◌, ◌≤◌};
 ghost use Rattle.av1_frame.specs.Planes.{InPlane, painted_plane};
-ghost use Rattle.av1_plan.specs.Plan.{PlanValue};
-ghost use Rattle.av1_references.specs.References.{ServesPlan, visible_in};
-ghost use Rattle.av1_tile.specs.Reference.{beside, kind_motion, parts_motion};
-ghost use Rattle.av1_tile.specs.Walk.{KindFits, PartsFit};
+ghost use Rattle.av1_references.specs.References.{IsPlaced, rect_of, visible_in};
+ghost use Rattle.av1_tile.specs.Reference.{Scene, beside, parts_motion};
+ghost use Rattle.av1_tile.specs.Walk.{KindFits, PartsFit, ServesScene};
 
 use crate::plane_block::Parts;
-use av1_frame::{FrameInvariants, Pixel, Plane, StoredArea};
+use av1_frame::{Pixel, Plane, StoredArea};
 use av1_inter::InterCompoundBuffers;
 use av1_plan::LeafKind;
-use av1_references::{predict_compound, predict_single};
+use av1_references::{TileReferences, predict_compound, predict_single};
 
 /// The leaves of one row of parts: in two columns where it is narrow, else the right one alone.
 #[derive(Clone, Copy)]
@@ -23,23 +22,24 @@ struct PartRow {
     right: LeafKind,
 }
 
-/// Predicts a rectangle of plane `p` as a leaf from references says. The frame settings hold the references of a plan
-/// in which that can be done.
+/// Predicts a rectangle of plane `p` as a leaf from references says. The references serve a scene in which that
+/// can be done.
 #[inline(always)]
 pub fn predict_kind<T: Pixel>(
     plane: &mut Plane<T>,
     compound: &mut InterCompoundBuffers,
-    fi: &FrameInvariants<T>,
+    from: &TileReferences<'_, T>,
     p: usize,
     kind: LeafKind,
     area: StoredArea,
 )
     requires plane { p < 3 }
-    requires depth { fi.now.bit_depth ≤ T.BITS }
+    requires depth { from.now.fi.now.bit_depth ≤ T.BITS }
     requires fits { InPlane (visible_in area) plane.old }
-    requires references { (value : PlanValue) × (ServesPlan T.num value fi.now × KindFits value.header p (visible_in area) kind) }
-    ensures { (value : PlanValue) → ServesPlan T.num value fi.now → KindFits value.header p (visible_in area) kind
-        → plane.new ≡ painted_plane plane.old (visible_in area) (λ r c _. T.pixel (kind_motion value p kind (visible_in area) r c)) }
+    requires placed { IsPlaced (rect_of from.now p) (visible_in area) }
+    requires references { (value : Scene) × (ServesScene T.num value from.now × KindFits value.header p (visible_in area) kind) }
+    ensures { (value : Scene) → ServesScene T.num value from.now → KindFits value.header p (visible_in area) kind
+        → plane.new ≡ painted_plane plane.old (visible_in area) (λ r c _. T.pixel (value.motion p kind (visible_in area) r c)) }
 {
     match kind {
         LeafKind::Single {
@@ -47,14 +47,14 @@ pub fn predict_kind<T: Pixel>(
             reference,
             mv,
         } => {
-            predict_single(plane, fi, p, mode, area, reference, mv);
+            predict_single(plane, from, p, mode, area, reference, mv);
         }
         LeafKind::Compound {
             mode,
             references,
             mvs,
         } => {
-            predict_compound(plane, fi, p, mode, area, references, mvs, compound);
+            predict_compound(plane, from, p, mode, area, references, mvs, compound);
         }
         LeafKind::Intra { .. } => {}
     }
@@ -65,23 +65,24 @@ pub fn predict_kind<T: Pixel>(
 fn predict_row<T: Pixel>(
     plane: &mut Plane<T>,
     compound: &mut InterCompoundBuffers,
-    fi: &FrameInvariants<T>,
+    from: &TileReferences<'_, T>,
     p: usize,
     row: PartRow,
     area: StoredArea,
 )
     requires plane { p < 3 }
-    requires depth { fi.now.bit_depth ≤ T.BITS }
+    requires depth { from.now.fi.now.bit_depth ≤ T.BITS }
     requires fits { InPlane (visible_in area) plane.old }
-    requires references { (value : PlanValue) × (ServesPlan T.num value fi.now
+    requires placed { IsPlaced (rect_of from.now p) (visible_in area) }
+    requires references { (value : Scene) × (ServesScene T.num value from.now
         × (KindFits value.header p (visible_in area) row.left × KindFits value.header p (visible_in area) row.right)) }
-    ensures { (value : PlanValue) → ServesPlan T.num value fi.now
+    ensures { (value : Scene) → ServesScene T.num value from.now
         → KindFits value.header p (visible_in area) row.left → KindFits value.header p (visible_in area) row.right
         → plane.new ≡ painted_plane plane.old (visible_in area)
-        (λ r c _. T.pixel (beside row.narrow (kind_motion value p row.left) (kind_motion value p row.right) (visible_in area) r c)) }
+        (λ r c _. T.pixel (beside row.narrow (value.motion p row.left) (value.motion p row.right) (visible_in area) r c)) }
 {
     if !row.narrow {
-        predict_kind(plane, compound, fi, p, row.right, area);
+        predict_kind(plane, compound, from, p, row.right, area);
         return;
     }
     let width = area.width / 2;
@@ -91,8 +92,8 @@ fn predict_row<T: Pixel>(
         width: area.width - width,
         ..area
     };
-    predict_kind(plane, compound, fi, p, row.left, left);
-    predict_kind(plane, compound, fi, p, row.right, right);
+    predict_kind(plane, compound, from, p, row.left, left);
+    predict_kind(plane, compound, from, p, row.right, right);
 }
 
 /// Predicts a rectangle of plane `p` that leaves from references share, part by part.
@@ -100,17 +101,18 @@ fn predict_row<T: Pixel>(
 pub fn predict_parts<T: Pixel>(
     plane: &mut Plane<T>,
     compound: &mut InterCompoundBuffers,
-    fi: &FrameInvariants<T>,
+    from: &TileReferences<'_, T>,
     p: usize,
     parts: Parts,
     area: StoredArea,
 )
     requires plane { p < 3 }
-    requires depth { fi.now.bit_depth ≤ T.BITS }
+    requires depth { from.now.fi.now.bit_depth ≤ T.BITS }
     requires fits { InPlane (visible_in area) plane.old }
-    requires references { (value : PlanValue) × (ServesPlan T.num value fi.now × PartsFit value.header p (visible_in area) parts) }
-    ensures { (value : PlanValue) → ServesPlan T.num value fi.now → PartsFit value.header p (visible_in area) parts
-        → plane.new ≡ painted_plane plane.old (visible_in area) (λ r c _. T.pixel (parts_motion value p parts (visible_in area) r c)) }
+    requires placed { IsPlaced (rect_of from.now p) (visible_in area) }
+    requires references { (value : Scene) × (ServesScene T.num value from.now × PartsFit value.header p (visible_in area) parts) }
+    ensures { (value : Scene) → ServesScene T.num value from.now → PartsFit value.header p (visible_in area) parts
+        → plane.new ≡ painted_plane plane.old (visible_in area) (λ r c _. T.pixel (parts_motion (value.motion p) parts (visible_in area) r c)) }
 {
     let narrow = parts.narrow;
     let upper = PartRow {
@@ -124,7 +126,7 @@ pub fn predict_parts<T: Pixel>(
         right: parts.own,
     };
     if !parts.low {
-        predict_row(plane, compound, fi, p, lower, area);
+        predict_row(plane, compound, from, p, lower, area);
         return;
     }
     let height = area.height / 2;
@@ -134,6 +136,6 @@ pub fn predict_parts<T: Pixel>(
         height: area.height - height,
         ..area
     };
-    predict_row(plane, compound, fi, p, upper, first);
-    predict_row(plane, compound, fi, p, lower, second);
+    predict_row(plane, compound, from, p, upper, first);
+    predict_row(plane, compound, from, p, lower, second);
 }

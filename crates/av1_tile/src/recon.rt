@@ -18,7 +18,7 @@ use crate::tile::reconstruct_leaves;
 use av1_blocks::OutOfMemory;
 use av1_frame::Pixel;
 use av1_plan::Plan;
-use av1_references::frame_invariants;
+use av1_references::{TileReferences, frame_invariants};
 use std::alloc::Global;
 
 /// Reconstructs a plan: predicts its leaves in coding order, and adds the residues of their transform blocks. The
@@ -80,7 +80,8 @@ pub fn reconstruct_with_predictions<T: Pixel>(
     let mut cells = CodedCells::new(alloc, header)?;
     let mut buffers = keeping_buffers(alloc, plan)?;
     let leaves = plan.leaves_with_triples();
-    reconstruct_leaves(&mut planes, &mut cells, &mut buffers, &fi, header, leaves);
+    let from = TileReferences::whole(&fi, header);
+    reconstruct_leaves(&mut planes, &mut cells, &mut buffers, &from, header, leaves);
     let WalkBuffers { kept, .. } = buffers;
     Ok(PredictedTile {
         planes,

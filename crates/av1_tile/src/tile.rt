@@ -3,34 +3,35 @@
 ghost use Rattle.std.specs.Prelude.{◌≡◌, ◌<◌, All, length};
 ghost use Rattle.std.specs.List.{fold};
 ghost use Rattle.av1_plan.specs.Values.{leaves_value};
-ghost use Rattle.av1_plan.specs.Plan.{PlanValue};
-ghost use Rattle.av1_references.specs.References.{ServesPlan};
 ghost use Rattle.av1_tile.specs.Predicted.{keeping_step};
-ghost use Rattle.av1_tile.specs.Walk.{at_start, cell_at, edges_after, fast_step, steps_by, HasCells, HoldsPlanes, KeepsPlanes, LeafFits, with_header};
+ghost use Rattle.av1_tile.specs.Reference.{Scene};
+ghost use Rattle.av1_tile.specs.Walk.{at_start, cell_at, edges_after, fast_step, steps_by, HasCells, HoldsPlanes, KeepsPlanes, LeafFits, ServesScene};
+ghost use Rattle.av1_tile.specs.Walk.{with_header};
 
 use crate::buffers::WalkBuffers;
 use crate::cells::CodedCells;
 use crate::frame::WalkedFrame;
 use crate::leaf::reconstruct_leaf;
 use crate::planes::Planes;
-use av1_frame::{FrameInvariants, Pixel};
+use av1_frame::Pixel;
 use av1_plan::{Header, Leaves};
+use av1_references::TileReferences;
 
 /// These leaves, in coding order, in a frame with this header. Each is noted in `cells` once it is
 /// reconstructed.
-pub fn reconstruct_leaves<T: Pixel>(
+pub fn reconstruct_leaves<'a, T: Pixel>(
     planes: &mut Planes<T>,
     cells: &mut CodedCells,
     buffers: &mut WalkBuffers<T>,
-    fi: &FrameInvariants<T>,
+    from: &'a TileReferences<'a, T>,
     header: &Header,
     leaves: &Leaves,
 )
     requires held { HoldsPlanes T.num T.BITS header.now planes.old }
     requires cells { HasCells header.now cells.old }
     requires fits { All (LeafFits header.now planes.old) (leaves_value leaves.now) }
-    requires references { (value : PlanValue) × ServesPlan T.num (with_header header.now value) fi.now }
-    ensures walked { (value : PlanValue) → ServesPlan T.num (with_header header.now value) fi.now
+    requires references { (value : Scene) × ServesScene T.num (with_header header.now value) from.now }
+    ensures walked { (value : Scene) → ServesScene T.num (with_header header.now value) from.now
         → planes.new ≡
         fold (fast_step T.num T.pixel (with_header header.now value)) planes.old
         (steps_by header.now (at_start (cell_at cells.old)) (leaves_value leaves.now)) }
@@ -39,7 +40,7 @@ pub fn reconstruct_leaves<T: Pixel>(
     ensures kept { KeepsPlanes T.num header.now planes.old planes.new }
     ensures cells { HasCells header.now cells.new }
     ensures count { length cells.new.cells.items ≡ length cells.old.cells.items }
-    ensures predictions { (value : PlanValue) → ServesPlan T.num (with_header header.now value) fi.now → (planes.new, buffers.new.kept) ≡
+    ensures predictions { (value : Scene) → ServesScene T.num (with_header header.now value) from.now → (planes.new, buffers.new.kept) ≡
         fold (keeping_step T.num T.pixel (with_header header.now value)) (planes.old, buffers.old.kept)
         (steps_by header.now (at_start (cell_at cells.old)) (leaves_value leaves.now)) }
 {
@@ -47,7 +48,7 @@ pub fn reconstruct_leaves<T: Pixel>(
         let leaf = &leaves.leaves()[index];
         let frame = WalkedFrame {
             header,
-            fi,
+            from,
             cells: &*cells,
             earlier: &leaves.leaves()[..index],
         };

@@ -1,23 +1,22 @@
 //! The walk: over the transform blocks of a leaf's block in a plane, and over the planes that a leaf covers.
 
-ghost use Rattle.std.specs.Prelude.{◌≡◌, ◌≢◌, ℕ, ◌+◌, ◌*◌, ◌<◌, ◌≤◌, ◌||◌, length, slice_index_or, [], IfSome, IfNone, Some, None, true, false};
+ghost use Rattle.std.specs.Prelude.{◌≡◌, ◌≢◌, ℕ, ◌+◌, ◌*◌, ◌^◌, ◌<◌, ◌≤◌, ◌||◌, length, slice_index_or, [], IfSome, IfNone, Some, None, true, false};
 ghost use Rattle.std.specs.List.{fold};
 ghost use Rattle.av1_blocks.specs.Chroma.{is_low, is_narrow};
 ghost use Rattle.av1_blocks.specs.Transforms.{tx_width};
 ghost use Rattle.av1_frame.specs.Planes.{InPlane};
 ghost use Rattle.av1_intra.specs.ChromaFromLuma.{ac_at};
 ghost use Rattle.av1_order.specs.Plans.{is_inter};
-ghost use Rattle.av1_plan.specs.Plan.{PlanValue};
-ghost use Rattle.av1_references.specs.References.{ServesPlan, leaf_area};
+ghost use Rattle.av1_references.specs.References.{leaf_area};
 ghost use Rattle.av1_plan.specs.Geometry.{blocks_across, block_count, transform_block, xdec, ydec};
 ghost use Rattle.av1_plan.specs.ReadPlans.{IsReadFrame};
 ghost use Rattle.av1_plan.specs.declared.leaf.Triple.{Triple};
 ghost use Rattle.av1_tile.specs.PlaneBlocks.{component, is_whole};
 ghost use Rattle.av1_tile.specs.Predicted.{WalksKeeping, keeping_in, kept_in, stored_in};
-ghost use Rattle.av1_tile.specs.Reference.{no_luma};
+ghost use Rattle.av1_tile.specs.Reference.{Scene, no_luma};
 ghost use Rattle.av1_tile.specs.Steps.{own_prediction, whole_steps, plane_steps, steps_at, joined};
 ghost use Rattle.av1_tile.specs.Walk.{area_at, Begins, edges_in, fast_in, leaf_with, BlockFits, HasCells, IsPlaceIn};
-ghost use Rattle.av1_tile.specs.Walk.{block_in, HoldsPlane, IsWalked, KeepsPlane, PredictionFits, Stores, Walks, with_header};
+ghost use Rattle.av1_tile.specs.Walk.{block_in, HoldsPlane, IsWalked, KeepsPlane, PredictionFits, ServesScene, Stores, Walks, with_header};
 
 use crate::block::{BlockPlace, EdgePrediction, add_block, predict_from_edge};
 use crate::buffers::WalkBuffers;
@@ -27,9 +26,10 @@ use crate::plane_block::{Nearby, PlaneBlock, Prediction};
 use crate::predicted::PredictedPlanes;
 use crate::shared::{is_shared, parts_in};
 use av1_blocks::{IntraParam, PredictionMode};
-use av1_frame::{FrameInvariants, Pixel, Plane, StoredArea};
+use av1_frame::{Pixel, Plane, StoredArea};
 use av1_inter::InterCompoundBuffers;
 use av1_plan::{Header, Leaf, LeafKind, PlaneArea, Triple};
+use av1_references::TileReferences;
 
 /// Where the block of number `index` begins, of blocks with sides of `side` samples from `start` on.
 fn block_start(start: u16, index: usize, side: usize) -> usize
@@ -152,7 +152,9 @@ fn keep_block<T: Pixel>(
 
 /// The rectangle of a leaf's whole area in a plane.
 fn whole_area(area: PlaneArea) -> StoredArea
-    ensures { result ≡ stored_in (leaf_area area) }
+    ensures value { result ≡ stored_in (leaf_area area) }
+    ensures columns { result.x + result.width < 2 ^ 17 }
+    ensures rows { result.y + result.height < 2 ^ 17 }
 {
     StoredArea {
         x: usize::from(area.x),
@@ -274,21 +276,21 @@ fn is_only_predicted(prediction: Prediction, triples: &[Triple]) -> bool
     is_whole(prediction) && triples.is_empty()
 }
 
-/// Predicts a leaf's whole area in a plane, where it is predicted from references. The frame settings hold the
-/// references of a plan in which that can be done.
+/// Predicts a leaf's whole area in a plane, where it is predicted from references. These serve a scene in which that
+/// can be done.
 #[inline(always)]
 fn predict_whole<T: Pixel>(
     plane: &mut Plane<T>,
     compound: &mut InterCompoundBuffers,
-    fi: &FrameInvariants<T>,
+    from: &TileReferences<'_, T>,
     block: &PlaneBlock,
 )
     requires plane { block.now.plane < 3 }
-    requires depth { fi.now.bit_depth ≤ T.BITS }
+    requires depth { from.now.fi.now.bit_depth ≤ T.BITS }
     requires fits { InPlane (leaf_area block.now.area) plane.old }
-    requires references { (value : PlanValue) ×
-        (ServesPlan T.num value fi.now × PredictionFits value.header block.now.plane block.now.area block.now.prediction) }
-    ensures { (value : PlanValue) → ServesPlan T.num value fi.now → PredictionFits value.header block.now.plane block.now.area block.now.prediction
+    requires references { (value : Scene) ×
+        (ServesScene T.num value from.now × PredictionFits value.header block.now.plane block.now.area block.now.prediction) }
+    ensures { (value : Scene) → ServesScene T.num value from.now → PredictionFits value.header block.now.plane block.now.area block.now.prediction
         → plane.new ≡ fold (fast_in T.num T.pixel value block.now.plane (λ _. no_luma)) plane.old (whole_steps block.now) }
 {
     let p = block.plane;
@@ -303,7 +305,7 @@ fn predict_whole<T: Pixel>(
                 reference,
                 mv,
             };
-            predict_kind(plane, compound, fi, p, kind, whole_area(block.area));
+            predict_kind(plane, compound, from, p, kind, whole_area(block.area));
         }
         Prediction::Compound {
             mode,
@@ -315,10 +317,10 @@ fn predict_whole<T: Pixel>(
                 references,
                 mvs,
             };
-            predict_kind(plane, compound, fi, p, kind, whole_area(block.area));
+            predict_kind(plane, compound, from, p, kind, whole_area(block.area));
         }
         Prediction::Parts(parts) => {
-            predict_parts(plane, compound, fi, p, parts, whole_area(block.area));
+            predict_parts(plane, compound, from, p, parts, whole_area(block.area));
         }
         Prediction::Intra { .. } | Prediction::FromLuma { .. } => {}
     }
@@ -330,7 +332,7 @@ fn predict_whole<T: Pixel>(
 fn reconstruct_plane_block<T: Pixel>(
     plane: &mut Plane<T>,
     buffers: &mut WalkBuffers<T>,
-    frame: &WalkedFrame<'_, T>,
+    frame: &WalkedFrame<'_, '_, T>,
     block: &PlaneBlock,
     triples: &[Triple],
 )
@@ -339,7 +341,7 @@ fn reconstruct_plane_block<T: Pixel>(
     requires stores { Stores T.num frame.now.header.now block.now.plane plane.old }
     requires fits { BlockFits plane.old.plane_cfg frame.now.header.now block.now triples.now }
     ensures walked { let h = frame.now.header.now in
-        (value : PlanValue) → ServesPlan T.num (with_header h value) frame.now.fi.now
+        (value : Scene) → ServesScene T.num (with_header h value) frame.now.from.now
         → plane.new ≡
         fold (fast_in T.num T.pixel (with_header h value) block.now.plane (λ _. ac_at (tx_width block.now.area.tx_size) buffers.old.luma.items))
         plane.old (plane_steps h block.now triples.now) }
@@ -347,11 +349,11 @@ fn reconstruct_plane_block<T: Pixel>(
     ensures luma { buffers.new.luma.items ≡ buffers.old.luma.items }
     ensures kept { KeepsPlane T.num frame.now.header.now block.now.plane plane.old plane.new }
     ensures predictions { let h = frame.now.header.now in
-        (value : PlanValue) → ServesPlan T.num (with_header h value) frame.now.fi.now → (plane.new, buffers.new.kept) ≡
+        (value : Scene) → ServesScene T.num (with_header h value) frame.now.from.now → (plane.new, buffers.new.kept) ≡
         fold (keeping_in T.num T.pixel (with_header h value) block.now.plane (λ _. ac_at (tx_width block.now.area.tx_size) buffers.old.luma.items))
         (plane.old, buffers.old.kept) (plane_steps h block.now triples.now) }
 {
-    predict_whole(plane, &mut buffers.compound, frame.fi, block);
+    predict_whole(plane, &mut buffers.compound, frame.from, block);
     keep_whole(&mut buffers.kept, plane, block);
     if is_only_predicted(block.prediction, triples) {
         return;
@@ -371,7 +373,7 @@ fn is_from_references(kind: LeafKind) -> bool
 
 /// The block in plane `p` of a leaf from references, where the leaves before it may share it.
 #[inline(never)]
-fn shared_block<T>(frame: &WalkedFrame<'_, T>, leaf: &Leaf, p: usize) -> PlaneBlock
+fn shared_block<T>(frame: &WalkedFrame<'_, '_, T>, leaf: &Leaf, p: usize) -> PlaneBlock
     requires plane { p < 3 }
     requires kind { is_inter leaf.now.kind ≡ true }
     ensures { result ≡ block_in frame.now p leaf.now }
@@ -385,7 +387,7 @@ fn shared_block<T>(frame: &WalkedFrame<'_, T>, leaf: &Leaf, p: usize) -> PlaneBl
 
 /// The block in plane `p` of a leaf from references that shares it with none. It has no edge.
 #[inline(always)]
-fn moved_block<T>(frame: &WalkedFrame<'_, T>, leaf: &Leaf, p: usize) -> PlaneBlock
+fn moved_block<T>(frame: &WalkedFrame<'_, '_, T>, leaf: &Leaf, p: usize) -> PlaneBlock
     requires plane { p < 3 }
     requires kind { is_inter leaf.now.kind ≡ true }
     requires alone { (is_narrow leaf.now.size (xdec frame.now.header.now p) || is_low leaf.now.size (ydec frame.now.header.now p)) ≡ false }
@@ -400,7 +402,7 @@ fn moved_block<T>(frame: &WalkedFrame<'_, T>, leaf: &Leaf, p: usize) -> PlaneBlo
 
 /// The block in plane `p` of an intra leaf, which has no parts.
 #[inline(always)]
-fn intra_block<T>(frame: &WalkedFrame<'_, T>, leaf: &Leaf, p: usize) -> PlaneBlock
+fn intra_block<T>(frame: &WalkedFrame<'_, '_, T>, leaf: &Leaf, p: usize) -> PlaneBlock
     requires frame { IsReadFrame frame.now.header.now }
     requires plane { p < 3 }
     requires cells { HasCells frame.now.header.now frame.now.cells.now }
@@ -421,7 +423,7 @@ fn intra_block<T>(frame: &WalkedFrame<'_, T>, leaf: &Leaf, p: usize) -> PlaneBlo
 pub fn reconstruct_leaf_in<T: Pixel>(
     plane: &mut Plane<T>,
     buffers: &mut WalkBuffers<T>,
-    frame: &WalkedFrame<'_, T>,
+    frame: &WalkedFrame<'_, '_, T>,
     leaf: &Leaf,
     p: usize,
     triples: &[Triple],
@@ -432,7 +434,7 @@ pub fn reconstruct_leaf_in<T: Pixel>(
     requires begins { Begins frame.now.header.now (component p) (leaf_with leaf.now [] [] []) }
     requires fits { BlockFits plane.old.plane_cfg frame.now.header.now (block_in frame.now p leaf.now) triples.now }
     ensures walked { let h = frame.now.header.now in let block = block_in frame.now p leaf.now in
-        (value : PlanValue) → ServesPlan T.num (with_header h value) frame.now.fi.now
+        (value : Scene) → ServesScene T.num (with_header h value) frame.now.from.now
         → plane.new ≡ fold (fast_in T.num T.pixel (with_header h value) p (λ _. ac_at (tx_width block.area.tx_size) buffers.old.luma.items)) plane.old
         (plane_steps h block triples.now) }
     ensures counted { buffers.new.edges.prepared ≡
@@ -440,7 +442,7 @@ pub fn reconstruct_leaf_in<T: Pixel>(
     ensures luma { buffers.new.luma.items ≡ buffers.old.luma.items }
     ensures kept { KeepsPlane T.num frame.now.header.now p plane.old plane.new }
     ensures predictions { let h = frame.now.header.now in let block = block_in frame.now p leaf.now in
-        (value : PlanValue) → ServesPlan T.num (with_header h value) frame.now.fi.now → (plane.new, buffers.new.kept) ≡
+        (value : Scene) → ServesScene T.num (with_header h value) frame.now.from.now → (plane.new, buffers.new.kept) ≡
         fold (keeping_in T.num T.pixel (with_header h value) p (λ _. ac_at (tx_width block.area.tx_size) buffers.old.luma.items))
         (plane.old, buffers.old.kept) (plane_steps h block triples.now) }
 {

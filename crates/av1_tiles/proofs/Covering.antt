@@ -11,37 +11,42 @@ pub record Lies (xs : List ℕ) (d x : ℕ) : Type 0 where
   pub k : ℕ
   pub within : k + 1 < length xs
   pub from : slice_index xs k / 2 ^ d ≤ x
-  pub below : x - slice_index xs k / 2 ^ d < (slice_index xs (k + 1) - slice_index xs k) / 2 ^ d
+  pub below : x - slice_index xs k / 2 ^ d < (slice_index xs (k + 1) - slice_index xs k + d) / 2 ^ d
 
-between : (a b d x : ℕ) → d ≤ 1 → a % 64 ≡ 0 → a < b → a / 2 ^ d ≤ x → x < b / 2 ^ d → x - a / 2 ^ d < (b - a) / 2 ^ d
+between : (a b d x : ℕ) → d ≤ 1 → a % 64 ≡ 0 → a < b → (a + d) / 2 ^ d ≤ x → x < (b + d) / 2 ^ d → x - a / 2 ^ d < (b - a + d) / 2 ^ d
 between a b zero x small whole rise from below = omega (arith, whole, rise, from, below)
 between a b (suc zero) x small whole rise from below = omega (arith, whole, rise, from, below)
 between a b (suc (suc d)) x small whole rise from below = absurd (omega (arith, small))
 
-not_below : (a d x : ℕ) → d ≤ 1 → a ≡ 0 → x < a / 2 ^ d → ⊥
+starts_at : (a d x : ℕ) → d ≤ 1 → (a + d) / 2 ^ d ≤ x → a / 2 ^ d ≤ x
+starts_at a zero x small from = omega (arith, from)
+starts_at a (suc zero) x small from = omega (arith, from)
+starts_at a (suc (suc d)) x small from = absurd (omega (arith, small))
+
+not_below : (a d x : ℕ) → d ≤ 1 → a ≡ 0 → x < (a + d) / 2 ^ d → ⊥
 not_below a zero x small none below = absurd (omega (arith, none, below))
 not_below a (suc zero) x small none below = absurd (omega (arith, none, below))
 not_below a (suc (suc d)) x small none below = absurd (omega (arith, small))
 
-lies_before : (side : ℕ) (xs : List ℕ) → AreBounds side xs → (d x n : ℕ) → d ≤ 1 → n < length xs → x < slice_index xs n / 2 ^ d → Lies xs d x
+lies_before : (side : ℕ) (xs : List ℕ) → AreBounds side xs → (d x n : ℕ) → d ≤ 1 → n < length xs → x < (slice_index xs n + d) / 2 ^ d → Lies xs d x
 lies_before side xs are d x zero small lt below = absurd (not_below (slice_index xs 0) d x small are.first below)
-lies_before side xs are d x (suc n) small lt below = elim (cases_lt x (slice_index xs n / 2 ^ d)) [
+lies_before side xs are d x (suc n) small lt below = elim (cases_lt x ((slice_index xs n + d) / 2 ^ d)) [
   | inl earlier ↦ lies_before side xs are d x n small (omega (arith, lt)) earlier
   | inr from ↦ (
       let next : suc n ≡ n + 1 = omega arith in
-      let under : x < slice_index xs (n + 1) / 2 ^ d = subst (λ (m : ℕ). x < slice_index xs m / 2 ^ d) next below in
+      let under : x < (slice_index xs (n + 1) + d) / 2 ^ d = subst (λ (m : ℕ). x < (slice_index xs m + d) / 2 ^ d) next below in
       let place : n + 1 < length xs = omega (arith, lt) in
       record {
         k = n;
         within = place;
-        from = from;
+        from = starts_at (slice_index xs n) d x small from;
         below = between (slice_index xs n) (slice_index xs (n + 1)) d x small (are.whole n place) (are.rising n place) from under;
       })
 ]
 
-pub lies : (side : ℕ) (xs : List ℕ) → AreBounds side xs → (d x : ℕ) → d ≤ 1 → x < side / 2 ^ d → Lies xs d x
+pub lies : (side : ℕ) (xs : List ℕ) → AreBounds side xs → (d x : ℕ) → d ≤ 1 → x < (side + d) / 2 ^ d → Lies xs d x
 lies side xs are d x small below =
-    lies_before side xs are d x (length xs - 1) small (omega (arith, are.some)) (subst (λ (m : ℕ). x < m / 2 ^ d) (sym are.last) below)
+    lies_before side xs are d x (length xs - 1) small (omega (arith, are.some)) (subst (λ (m : ℕ). x < (m + d) / 2 ^ d) (sym are.last) below)
 
 -- ---- the tile at a column and a row of tiles
 

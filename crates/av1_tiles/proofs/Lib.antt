@@ -14,4 +14,5 @@ pub mod Refusals
 pub mod Outcomes
 pub mod Grids
 pub mod Texts
+pub mod Seen
 pub mod Answering

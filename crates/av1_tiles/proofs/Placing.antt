@@ -1,5 +1,5 @@
 -- The planes of a frame into which a tile's were placed.
-use Rattle.std.proofs.Common.{◌≡◌, ℕ, zero, suc, ◌+◌, ◌-◌, ◌/◌, ◌^◌, ◌<◌, ◌≤◌, ◌⊎◌, inl, inr, false, List, length, sym, ap, subst, ◌∙◌, arith, slice_index}
+use Rattle.std.proofs.Common.{◌≡◌, ℕ, zero, suc, ◌+◌, ◌-◌, ◌/◌, ◌%◌, ◌^◌, ◌<◌, ◌≤◌, ◌⊎◌, inl, inr, false, List, length, sym, ap, subst, ◌∙◌, arith, slice_index}
 use Rattle.std.proofs.lemmas.Bool.Decides.{nat_tests}
 use Rattle.av1_lists.specs.Lists.{by_index}
 use Rattle.av1_lists.proofs.Lists.{get_or-by_index}
@@ -37,11 +37,11 @@ ends_before side xs are k m lt within =
     subst (λ (n : ℕ). slice_index xs (k + 1) ≤ slice_index xs n) e (bounds_rise side xs are (k + 1) (m - (k + 1)) (omega (arith, e, within))) in
     omega (arith, rise, later)
 
--- in a halved plane too
-pub halved_before : (x w z d : ℕ) → d ≤ 1 → x + w ≤ z → x / 2 ^ d + w / 2 ^ d ≤ z / 2 ^ d
-halved_before x w z zero le h = omega (arith, h)
-halved_before x w z (suc zero) le h = omega (arith, h)
-halved_before x w z (suc (suc d)) le h = absurd (omega (arith, le))
+-- in a halved plane too, where both begin with a superblock
+pub halved_before : (x w z d : ℕ) → d ≤ 1 → x % 64 ≡ 0 → z % 64 ≡ 0 → x + w ≤ z → x / 2 ^ d + (w + d) / 2 ^ d ≤ z / 2 ^ d
+halved_before x w z zero le first second h = omega (arith, h)
+halved_before x w z (suc zero) le first second h = omega (arith, first, second, h)
+halved_before x w z (suc (suc d)) le first second h = absurd (omega (arith, le))
 
 -- a column or row before a rectangle, or behind it, isn't in it
 pub outside : (a : VisibleArea) (x y : ℕ) → ((x < a.x) ⊎ (a.x + a.width ≤ x)) ⊎ ((y < a.y) ⊎ (a.y + a.height ≤ y)) → in_visible a x y ≡ false

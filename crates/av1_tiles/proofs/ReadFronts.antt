@@ -1,6 +1,7 @@
 -- What holds of what stands before the parts, where it was read.
-use Rattle.std.proofs.Common.{◌≡◌, ℕ, ◌-◌, ◌*◌, ◌≤◌, length, Ok, subst, arith, lit≤}
-use Rattle.std.specs.Prelude.{vec_len}
+use Rattle.std.proofs.Common.{◌≡◌, ◌==◌, ℕ, ◌-◌, ◌*◌, ◌≤◌, Bool, true, false, if◌then◌else◌, length, Ok, subst, arith, lit≤}
+use Rattle.std.specs.Prelude.{codes, vec_len}
+use Rattle.std.specs.Int.{w32, from_le_bytes}
 use Rattle.av1_plan.specs.Format.{four, Input, read}
 use Rattle.av1_plan.specs.Grammar.{where_, frame, references}
 use Rattle.av1_plan.specs.ReadPlans.{IsReadFrame}
@@ -14,52 +15,77 @@ use Rattle.av1_plan.proofs.Versions.{frame_version}
 use Rattle.av1_tiles.specs.declared.file.Front.{Front}
 use Rattle.av1_tiles.specs.Bounds.{AreBounds, IsReadFront}
 use Rattle.av1_tiles.specs.File.{front_value}
-use Rattle.av1_tiles.specs.Grammar.{is_magic, bounds, FrontValue, front}
+use Rattle.av1_tiles.specs.Grammar.{is_magic, version_of, plan_version, bounds, FrontValue, front}
 use Rattle.av1_tiles.proofs.Starts.{bounds_are}
 
+-- the letters name the second or the third version of plans
+named_version : (letters : ℕ) → (2 ≤ version_of letters) × (version_of letters ≤ 3)
+named_version letters = go (letters == from_le_bytes w32 (codes "RTL2"))
+  where
+    go : (b : Bool) → (2 ≤ (if b then 3 else 2)) × ((if b then 3 else 2) ≤ 3)
+    go true = (lit≤ tt, lit≤ tt)
+    go false = (lit≤ tt, lit≤ tt)
+
+spelled_version : (n : ℕ) → IsSpelled plan_version n → (2 ≤ n) × (n ≤ 3)
+unfolding plan_version
+spelled_version n s =
+    let (letters, _, s1) = spelled_asks (where_ four is_magic) _ n s in
+    subst (λ (m : ℕ). (2 ≤ m) × (m ≤ 3)) (spelled_done _ n s1) (named_version letters)
+
 record HasPieces (v : FrontValue) : Type 0 where
-  header : IsSpelled (frame 2) v.header
+  version : ℕ
+  least : 2 ≤ version
+  most : version ≤ 3
+  header : IsSpelled (frame version) v.header
   references : IsSpelled (references v.header) v.references
-  columns : IsSpelled (bounds v.header.width) v.columns
-  rows : IsSpelled (bounds v.header.height) v.rows
+  columns : IsSpelled (bounds v.header.shown_width) v.columns
+  rows : IsSpelled (bounds v.header.shown_height) v.rows
 
 pieces : (v : FrontValue) → IsSpelled front v → HasPieces v
 unfolding front
 pieces v s =
-    let (letters, _, s1) = spelled_asks (where_ four is_magic) _ v s in
-    let (h, h_spelled, s2) = spelled_bind (frame 2) _ v s1 in
+    let (n, n_spelled, s1) = spelled_bind plan_version _ v s in
+    let (h, h_spelled, s2) = spelled_bind (frame n) _ v s1 in
     let (slots, slots_spelled, s3) = spelled_bind (references h) _ v s2 in
-    let (columns, columns_spelled, s4) = spelled_bind (bounds h.width) _ v s3 in
-    let (rows, rows_spelled, s5) = spelled_bind (bounds h.height) _ v s4 in
+    let (columns, columns_spelled, s4) = spelled_bind (bounds h.shown_width) _ v s3 in
+    let (rows, rows_spelled, s5) = spelled_bind (bounds h.shown_height) _ v s4 in
     let whole : HasPieces (record { header = h; references = slots; columns = columns; rows = rows }) =
-    record { header = h_spelled; references = slots_spelled; columns = columns_spelled; rows = rows_spelled } in
+    record {
+      version = n;
+      least = (spelled_version n n_spelled).0;
+      most = (spelled_version n n_spelled).1;
+      header = h_spelled;
+      references = slots_spelled;
+      columns = columns_spelled;
+      rows = rows_spelled;
+    } in
     subst HasPieces (spelled_done _ v s5) whole
 
 pub front_frame : (v : FrontValue) → IsSpelled front v → IsReadFrame v.header
-front_frame v s = frame_is 2 v.header (lit≤ tt) (lit≤ tt) (pieces v s).header
+front_frame v s = let p = pieces v s in frame_is p.version v.header (omega (arith, p.least)) p.most p.header
 
 -- the bounds of the columns and rows of tiles
 pub record HasBounds (v : FrontValue) : Type 0 where
-  pub columns : AreBounds v.header.width v.columns
-  pub rows : AreBounds v.header.height v.rows
+  pub columns : AreBounds v.header.shown_width v.columns
+  pub rows : AreBounds v.header.shown_height v.rows
 
 pub front_bounds : (v : FrontValue) → IsSpelled front v → HasBounds v
 front_bounds v s =
     let p = pieces v s in
-    let is = frame_is 2 v.header (lit≤ tt) (lit≤ tt) p.header in
+    let is = front_frame v s in
     record {
-      columns = bounds_are v.header.width v.columns (omega (arith, is.width.least)) p.columns;
-      rows = bounds_are v.header.height v.rows (omega (arith, is.height.least)) p.rows;
+      columns = bounds_are v.header.shown_width v.columns (omega (arith, is.shown_width.some)) p.columns;
+      rows = bounds_are v.header.shown_height v.rows (omega (arith, is.shown_height.some)) p.rows;
     }
 
 front_is : (f : Front) → length f.references.items ≡ 8 → IsSpelled front (front_value f) → IsReadFront f
 front_is f eight s =
     let p = pieces (front_value f) s in
-    let is = frame_is 2 f.header (lit≤ tt) (lit≤ tt) p.header in
+    let is = front_frame (front_value f) s in
     let bounds = front_bounds (front_value f) s in
     record {
       frame = is;
-      version = frame_version 2 p.header.values f.header p.header.spells;
+      version = omega (arith, frame_version p.version p.header.values f.header p.header.spells, p.least);
       eight = eight;
       slots = stored_are f.header f.references.items eight p.references;
       columns = bounds.columns;

@@ -1,5 +1,5 @@
 -- The rectangle of a plane's samples is a plane of the tile.
-use Rattle.std.proofs.Common.{◌≡◌, ℕ, zero, suc, ◌+◌, ◌*◌, ◌/◌, ◌%◌, ◌^◌, ◌<◌, ◌≤◌, List, ◌++◌, length, drop, All, refl, sym, ap, subst, ◌∙◌, arith}
+use Rattle.std.proofs.Common.{◌≡◌, ℕ, zero, suc, ◌+◌, ◌*◌, ◌/◌, ◌^◌, ◌<◌, ◌≤◌, List, ◌++◌, length, drop, All, refl, sym, ap, subst, ◌∙◌, arith}
 use Rattle.std.specs.List.{flat_map, range_with_len}
 use Rattle.std.proofs.lemmas.Grind.{flat_map-append}
 use Rattle.std.proofs.lemmas.List.{append-nil, length-append, length-take-le, length-drop}
@@ -88,12 +88,12 @@ ydec_small h (suc p) = small (h.sampling == 0)
     small true = omega arith
     small false = omega arith
 
-same_xdec : (h : Header) (a : TileArea) (p : ℕ) → xdec (tile_header h a) p ≡ xdec h p
+pub same_xdec : (h : Header) (a : TileArea) (p : ℕ) → xdec (tile_header h a) p ≡ xdec h p
 unfolding xdec
 same_xdec h a zero = refl
 same_xdec h a (suc p) = refl
 
-same_ydec : (h : Header) (a : TileArea) (p : ℕ) → ydec (tile_header h a) p ≡ ydec h p
+pub same_ydec : (h : Header) (a : TileArea) (p : ℕ) → ydec (tile_header h a) p ≡ ydec h p
 unfolding ydec
 same_ydec h a zero = refl
 same_ydec h a (suc p) = refl
@@ -147,19 +147,11 @@ few_by h tile a p y dec height frame is tile_is y_is dec_is height_is =
     let within = rows_within h a p is in
     rw (y_is, dec_is, height_is, tile_is) (omega (arith, within, rows_few h p, frame.shown_height.within, frame.height.most))
 
--- a side of a tile is even
-even_side : (w d : ℕ) → d ≤ 1 → w % 8 ≡ 0 → (w + d) / 2 ^ d ≡ w / 2 ^ d
-even_side w zero le whole = omega arith
-even_side w (suc zero) le whole = omega (arith, whole)
-even_side w (suc (suc d)) le whole = absurd (omega (arith, le))
-
 -- the sides of a tile's plane
-pub tile_width : (h : Header) (a : TileArea) (p : ℕ) → a.width % 8 ≡ 0 → shown_columns (tile_header h a) p ≡ a.width / 2 ^ xdec h p
+pub tile_width : (h : Header) (a : TileArea) (p : ℕ) → shown_columns (tile_header h a) p ≡ (a.width + xdec h p) / 2 ^ xdec h p
 unfolding shown_columns
-tile_width h a p whole =
-    ap (λ (d : ℕ). (a.width + d) / 2 ^ d) (same_xdec h a p) ∙ even_side a.width (xdec h p) (xdec_small h p) whole
+tile_width h a p = ap (λ (d : ℕ). (a.width + d) / 2 ^ d) (same_xdec h a p)
 
-pub tile_height : (h : Header) (a : TileArea) (p : ℕ) → a.height % 8 ≡ 0 → shown_rows (tile_header h a) p ≡ a.height / 2 ^ ydec h p
+pub tile_height : (h : Header) (a : TileArea) (p : ℕ) → shown_rows (tile_header h a) p ≡ (a.height + ydec h p) / 2 ^ ydec h p
 unfolding shown_rows
-tile_height h a p whole =
-    ap (λ (d : ℕ). (a.height + d) / 2 ^ d) (same_ydec h a p) ∙ even_side a.height (ydec h p) (ydec_small h p) whole
+tile_height h a p = ap (λ (d : ℕ). (a.height + d) / 2 ^ d) (same_ydec h a p)

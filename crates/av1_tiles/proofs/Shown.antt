@@ -12,8 +12,7 @@ use Rattle.av1_tile.specs.declared.planes.Planes.{Planes}
 use Rattle.av1_tile.specs.Canvas.{Component, Y, U, V}
 use Rattle.av1_tile.specs.Edge.{sample_of}
 use Rattle.av1_tile.specs.PlaneBlocks.{number, component}
-use Rattle.av1_tile.specs.Reference.{slow_walk}
-use Rattle.av1_tile.specs.Memory.{ShowsPlan}
+use Rattle.av1_tile.specs.Memory.{ShowsScene}
 use Rattle.av1_tile.specs.Walk.{AreFrame, IsPlaneOf, plane_of, samples_of}
 use Rattle.av1_tile.proofs.Agreement.{listed_same}
 use Rattle.av1_tiles.specs.declared.area.TileArea.{TileArea}
@@ -23,7 +22,7 @@ use Rattle.av1_tiles.specs.Bounds.{IsReadFront, IsReadFile}
 use Rattle.av1_tiles.specs.File.{front_value, file_value}
 use Rattle.av1_tiles.specs.Grammar.{FrontValue, FileValue, count_tiles}
 use Rattle.av1_tiles.specs.Joined.{row_in, tile_rectangle, ShowsTile}
-use Rattle.av1_tiles.specs.Tiles.{IsTileArea, tile_area, tile_header, corner_column, corner_row}
+use Rattle.av1_tiles.specs.Tiles.{IsTileArea, tile_area, tile_header, tile_scene, tile_walk, corner_column, corner_row}
 use Rattle.av1_tiles.specs.Validity.{IsTile}
 use Rattle.av1_tiles.proofs.Isolation.{tile_header_is}
 use Rattle.av1_tiles.proofs.Placing.{outside, placed_fits, placed_sample}
@@ -40,15 +39,16 @@ frame_plane h planes are Y = are.y
 frame_plane h planes are U = are.u
 frame_plane h planes are V = are.v
 
--- the samples of the tile that was placed are those of its plan
+-- the samples of the tile that was placed are those that it comes to
 pub shows_own : {T : Type 0} (num : T → ℕ) (pixel : ℕ → T) → ((v : T) → pixel (num v) ≡ v) → ((v : ℕ) → num (pixel v) ≡ v) →
     (f : FrontValue) (i : ℕ) (plan : PlanValue) (own : Header) (q old new : Planes T)
-    → AreFrame f.header old → IsTileArea f.header (tile_area f i) → ShowsPlan num plan q → own ≡ plan.header →
+    → AreFrame f.header old → IsTileArea f.header (tile_area f i) → ShowsScene num (tile_scene f i plan) plan.leaves q → own ≡ plan.header →
     tile_header f.header (tile_area f i) ≡ plan.header
     → ((c : Component) →
     plane_of c new ≡ painted_plane (plane_of c old) (tile_rectangle f.header (tile_area f i) (number c))
     (λ r k _. pixel (slice_index (row_in num own q (number c) r) k)))
     → ShowsTile f i plan (samples_of num new)
+unfolding tile_walk
 shows_own num pixel back there f i plan own q old new are area shows same header placed c x y lx ly =
     let p = number c in
     let a = tile_rectangle f.header (tile_area f i) p in
@@ -56,13 +56,13 @@ shows_own num pixel back there f i plan own q old new are area shows same header
     placed_fits f.header (tile_header f.header (tile_area f i)) (tile_area f i) p _ _ (plane_of c old) (frame_plane f.header old are c) area refl refl refl
     in
     let inside : y < shown_rows plan.header p = subst (λ (h : Header). y < shown_rows h p) header ly in
-    let row : row_in num own q p y ≡ by_index a.width (λ x. sample_of (slow_walk plan c x y)) =
+    let row : row_in num own q p y ≡ by_index a.width (λ x. sample_of (tile_walk f i plan c x y)) =
     ap (λ (h : Header). by_index (shown_columns h p) (λ x. samples_of num q (component p) x y)) same
     ∙ ap (λ (k : Component). by_index (shown_columns plan.header p) (λ x. samples_of num q k x y)) (same_component c)
-    ∙ listed_same (shown_columns plan.header p) (λ x. samples_of num q c x y) (λ x. sample_of (slow_walk plan c x y)) (λ x hx. shows c x y hx inside)
-    ∙ ap (λ (h : Header). by_index (shown_columns h p) (λ x. sample_of (slow_walk plan c x y))) (sym header) in
+    ∙ listed_same (shown_columns plan.header p) (λ x. samples_of num q c x y) (λ x. sample_of (tile_walk f i plan c x y)) (λ x hx. shows c x y hx inside)
+    ∙ ap (λ (h : Header). by_index (shown_columns h p) (λ x. sample_of (tile_walk f i plan c x y))) (sym header) in
     ap (λ (q : Plane _). sample_at num q (a.x + x) (a.y + y)) (placed c)
-    ∙ placed_sample num pixel back there (plane_of c old) a (λ r. row_in num own q p r) (λ x y. sample_of (slow_walk plan c x y)) fits x y lx ly row
+    ∙ placed_sample num pixel back there (plane_of c old) a (λ r. row_in num own q p r) (λ x y. sample_of (tile_walk f i plan c x y)) fits x y lx ly row
 
 apart_by : (start count place width : ℕ) → width ≡ count → IsApart start count place → IsApart start width place
 apart_by start count place width same apart = subst (λ (n : ℕ). IsApart start n place) (sym same) apart
@@ -84,13 +84,12 @@ shows_other num pixel back f read i j lt_i lt_j differ plan old new g are placed
     let plane = plane_of c old in
     let is = frame_plane h old are c in
     let area = area_is f read j lt_j in
-    let first = area_is f read i lt_i in
-    let in_x : x < other.width / 2 ^ xdec h p = subst (λ (n : ℕ). x < n) (tile_width h other p area.width.whole) lx in
-    let in_y : y < other.height / 2 ^ ydec h p = subst (λ (n : ℕ). y < n) (tile_height h other p area.height.whole) ly in
+    let in_x : x < (other.width + xdec h p) / 2 ^ xdec h p = subst (λ (n : ℕ). x < n) (tile_width h other p) lx in
+    let in_y : y < (other.height + ydec h p) / 2 ^ ydec h p = subst (λ (n : ℕ). y < n) (tile_height h other p) ly in
     let out : in_visible a column row ≡ false =
     outside a column row (elim (tiles_apart f read i j lt_i lt_j differ (xdec h p) (ydec h p) x y (xdec_small h p) (ydec_small h p) in_x in_y) [
-      | inl columns ↦ inl (apart_by (corner_column h one p) (one.width / 2 ^ xdec h p) column a.width (tile_width h one p first.width.whole) columns)
-      | inr rows ↦ inr (apart_by (corner_row h one p) (one.height / 2 ^ ydec h p) row a.height (tile_height h one p first.height.whole) rows)
+      | inl columns ↦ inl (apart_by (corner_column h one p) ((one.width + xdec h p) / 2 ^ xdec h p) column a.width (tile_width h one p) columns)
+      | inr rows ↦ inr (apart_by (corner_row h one p) ((one.height + ydec h p) / 2 ^ ydec h p) row a.height (tile_height h one p) rows)
     ]) in
     ap (λ (q : Plane _). sample_at num q column row) (placed c)
     ∙ sample_at_outside num pixel back plane a (g c) column row is.whole
@@ -107,7 +106,7 @@ IsPut f i old new =
 pub tile_put : {T : Type 0} (num : T → ℕ) (pixel : ℕ → T) → ((v : T) → pixel (num v) ≡ v) → ((v : ℕ) → num (pixel v) ≡ v) → (file : TileFile) →
     IsReadFile file → (i : ℕ) → i < count_tiles (front_value file.front) → (plan : PlanValue) → IsTile (file_value file) i plan
     → (own : Header) (q : Planes T) (area : TileArea) (old new : Planes T) → area ≡ tile_area (front_value file.front) i → AreFrame file.front.header old →
-    ShowsPlan num plan q → own ≡ plan.header
+    ShowsScene num (tile_scene (front_value file.front) i plan) plan.leaves q → own ≡ plan.header
     → ((c : Component) →
     plane_of c new ≡ painted_plane (plane_of c old) (tile_rectangle file.front.header area (number c))
     (λ r k _. pixel (slice_index (row_in num own q (number c) r) k)))

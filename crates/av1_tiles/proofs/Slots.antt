@@ -1,5 +1,5 @@
 -- The slots of a tile, cut one after the other.
-use Rattle.std.proofs.Common.{◌≡◌, ℕ, zero, suc, ◌+◌, ◌<◌, List, [], ◌∷◌, ◌++◌, length, map, get_or, Option, Some, None, false, inl, inr, refl, sym, ap, subst}
+use Rattle.std.proofs.Common.{◌≡◌, ℕ, ◌+◌, ◌<◌, List, [], ◌∷◌, ◌++◌, length, map, get_or, Option, Some, None, false, inl, inr, refl, sym, ap, subst}
 use Rattle.std.proofs.Common.{◌∙◌, arith, slice_index_or}
 use Rattle.std.specs.Prelude.{option_map}
 use Rattle.std.proofs.lemmas.Bool.{cases_lt}
@@ -11,6 +11,7 @@ use Rattle.av1_plan.specs.declared.planes.SlotPlanes.{SlotPlanes}
 use Rattle.av1_plan.specs.Geometry.{has_slot}
 use Rattle.av1_plan.specs.Plan.{slot_value, slot_values}
 use Rattle.av1_plan.specs.ReadPlans.{ArePlane, IsStoredSlot, AreStoredSlots}
+use Rattle.av1_references.proofs.Slots.{same_item}
 use Rattle.av1_tiles.specs.declared.area.TileArea.{TileArea}
 use Rattle.av1_plan.specs.Grammar.{plan_behind}
 use Rattle.av1_tiles.specs.declared.file.Front.{Front}
@@ -85,12 +86,6 @@ all_values h a from n to count are =
     (λ s lt. get_or-map (option_map (tile_planes h a)) (slot_values from) s None None (omega (arith, lt, count, length-map from slot_value))
     ∙ ap (option_map (tile_planes h a)) (get_or-map slot_value from s None None (omega (arith, lt, count)))) in
     first ∙ sym second
-
--- an item that is there, whatever stands for one that isn't
-pub same_item : {A : Type 0} (xs : List A) (k : ℕ) (d e : A) → k < length xs → get_or xs k d ≡ get_or xs k e
-same_item [] k d e lt = absurd (omega (arith, lt))
-same_item (x ∷ xs) zero d e lt = refl
-same_item (x ∷ xs) (suc k) d e lt = same_item xs k d e (omega (arith, lt))
 
 pub cut_by : (h : Header) (a : TileArea) (from : List (Option SlotPlanes)) (slot : ℕ) (o to : Option SlotPlanes) → slot < length from → o ≡ get_or from slot o →
     IsStoredSlot (tile_header h a) slot to → slot_value to ≡ option_map (tile_planes h a) (slot_value o)

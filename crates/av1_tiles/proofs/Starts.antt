@@ -2,9 +2,11 @@
 use Rattle.std.proofs.Common.{◌≡◌, ℕ, zero, suc, ◌+◌, ◌-◌, ◌%◌, ◌<◌, ◌≤◌, List, [], ◌∷◌, ◌++◌, length, Ok, refl, sym, ap, subst, ◌∙◌, arith, inl, inr}
 use Rattle.std.specs.Prelude.{slice_index, ◌&&◌, ◌==◌, nat_lt}
 use Rattle.std.proofs.lemmas.Bool.{and_parts, cases_lt, eqb-true, ltb-true}
+use Rattle.av1_plan.specs.declared.header.Header.{Header}
 use Rattle.av1_plan.specs.Format.{IsAdmitted, done, ◌>>=◌, Input, on_ok, read_field, read, add}
+use Rattle.av1_plan.specs.Geometry.{coded_side}
 use Rattle.av1_plan.specs.Grammar.{byte_from}
-use Rattle.av1_plan.specs.ReadPlans.{IsSide}
+use Rattle.av1_plan.specs.ReadPlans.{IsReadFrame, IsShown, IsSide}
 use Rattle.av1_plan.specs.Spelling.{IsSpelled}
 use Rattle.av1_plan.proofs.Formats.{add_asks, add_done, add_behind, on_ok_same}
 use Rattle.av1_plan.proofs.Lists.{read_empty}
@@ -12,6 +14,7 @@ use Rattle.av1_plan.proofs.Pieces.{spelled_done, spelled_asks, spelled_bind}
 use Rattle.av1_plan.proofs.ReadFrames.{range_is}
 use Rattle.av1_tiles.specs.Bounds.{AreBounds}
 use Rattle.av1_tiles.specs.Grammar.{start_after, starts, bounds}
+use Rattle.av1_tiles.specs.Tiles.{IsTileArea, area_between}
 
 -- a start lies behind the one before, in the frame
 record IsStart (side previous v : ℕ) : Type 0 where
@@ -119,13 +122,48 @@ eighths side xs multiple are k lt = elim (cases_lt (k + 1) (length xs)) [
       subst (λ (n : ℕ). n % 8 ≡ 0) (sym value) multiple)
 ]
 
-pub side_between : (side : ℕ) (xs : List ℕ) → IsSide side → AreBounds side xs → (k : ℕ) → k + 1 < length xs → IsSide (slice_index xs (k + 1) - slice_index xs k)
-side_between side xs is are k lt =
-    let first = eighths side xs is.whole are k (omega (arith, lt)) in
-    let second = eighths side xs is.whole are (k + 1) lt in
+-- what is shown between two, of what is coded there
+shown_between : (version side : ℕ) (xs : List ℕ) → (version ≤ 2 → side % 8 ≡ 0) → AreBounds side xs → (k : ℕ) → k + 1 < length xs →
+    IsShown version (slice_index xs (k + 1) - slice_index xs k) (coded_side (slice_index xs (k + 1) - slice_index xs k))
+shown_between version side xs whole are k lt =
+    let rise = are.rising k lt in
+    record {
+      some = omega (arith, rise);
+      within = omega arith;
+      near = omega arith;
+      whole = λ early.
+          let first = eighths side xs (whole early) are k (omega (arith, lt)) in
+          let second = eighths side xs (whole early) are (k + 1) lt in
+          omega (arith, first, second, rise);
+    }
+
+coded_between : (side : ℕ) (xs : List ℕ) → side ≤ 2048 → AreBounds side xs → (k : ℕ) → k + 1 < length xs →
+    IsSide (coded_side (slice_index xs (k + 1) - slice_index xs k))
+coded_between side xs few are k lt =
     let rise = are.rising k lt in
     let most = are.within (k + 1) lt in
-    record { whole = omega (arith, first, second, rise); least = omega (arith, first, second, rise); most = omega (arith, most, is.most) }
+    record { whole = omega arith; least = omega (arith, rise); most = omega (arith, most, few) }
+
+-- the rectangle between two columns and two rows
+pub area_of : (h : Header) (columns rows : List ℕ) (k r : ℕ) → IsReadFrame h → AreBounds h.shown_width columns → AreBounds h.shown_height rows →
+    k + 1 < length columns → r + 1 < length rows → IsTileArea h (area_between columns rows k r)
+area_of h columns rows k r read wide high column row = record {
+  columns = omega (arith, wide.rising k column, wide.within (k + 1) column);
+  rows = omega (arith, high.rising r row, high.within (r + 1) row);
+  frame = record {
+    least_version = read.least_version;
+    most_version = read.most_version;
+    width = coded_between h.shown_width columns (omega (arith, read.shown_width.within, read.width.most)) wide k column;
+    height = coded_between h.shown_height rows (omega (arith, read.shown_height.within, read.height.most)) high r row;
+    shown_width = shown_between h.version h.shown_width columns (λ early. omega (arith, read.shown_width.whole early, read.width.whole)) wide k column;
+    shown_height = shown_between h.version h.shown_height rows (λ early. omega (arith, read.shown_height.whole early, read.height.whole)) high r row;
+    depth = read.depth;
+    sampling = read.sampling;
+    filter = read.filter;
+    slots = read.slots;
+    mask = read.mask;
+  };
+}
 
 -- ---- reading
 

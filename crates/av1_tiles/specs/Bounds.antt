@@ -21,11 +21,11 @@ pub record AreBounds (side : ℕ) (bounds : List ℕ) : Type 0 where
 -- what stands before the parts, where it was read
 pub record IsReadFront (f : Front) : Type 0 where
   pub frame : IsReadFrame f.header
-  pub version : f.header.version ≡ 2
+  pub version : 2 ≤ f.header.version
   pub eight : length f.references.items ≡ 8
   pub slots : AreStoredSlots f.header f.references.items 8
-  pub columns : AreBounds f.header.width f.columns.items
-  pub rows : AreBounds f.header.height f.rows.items
+  pub columns : AreBounds f.header.shown_width f.columns.items
+  pub rows : AreBounds f.header.shown_height f.rows.items
 
 -- a grid of tiles that was read: a part for each tile
 pub record IsReadFile (f : TileFile) : Type 0 where

@@ -1,7 +1,7 @@
 -- The format of a grid of tiles: the frame as a plan has it, where the columns and rows of tiles begin, and a part for
 -- each tile in raster order. Numbers are little-endian.
 use Rattle.std.specs.Prelude.{codes, zero, suc, ◌*◌, ◌-◌, ◌%◌, ◌&&◌, nat_lt, ℕ, Bool, ◌==◌, List, [], ◌∷◌, ◌++◌, length}
-use Rattle.std.specs.Prelude.{Option, Ok}
+use Rattle.std.specs.Prelude.{Option, Ok, ◌||◌, if◌then◌else◌}
 use Rattle.std.specs.Int.{w32, from_le_bytes}
 use Rattle.av1_plan.specs.Format.{two, four, Kind, Format, done, ◌>>=◌, field, Input, Reading, on_ok, read, read_part}
 use Rattle.av1_plan.specs.Format.{start, ended}
@@ -10,9 +10,18 @@ use Rattle.av1_plan.specs.declared.header.Header.{Header}
 
 -- ---- what stands before the parts
 
--- the four letters at the front
+-- the four letters at the front: those of one of the two versions
 abbrev pub is_magic : ℕ → Bool
-is_magic v = v == from_le_bytes w32 (codes "RTL1")
+is_magic v = v == from_le_bytes w32 (codes "RTL1") || v == from_le_bytes w32 (codes "RTL2")
+
+-- the version of plans that the tiles have, by these letters
+abbrev pub version_of : ℕ → ℕ
+version_of letters = if letters == from_le_bytes w32 (codes "RTL2") then 3 else 2
+
+unfoldable pub plan_version : Format ℕ
+plan_version = do
+  letters ← field (where_ four is_magic)
+  done (version_of letters)
 
 -- the start of a column or row of tiles: a multiple of 64 behind the start before it, and in the frame
 abbrev pub start_after : (side previous : ℕ) → Kind
@@ -43,11 +52,11 @@ pub record FrontValue : Type 0 where
 
 unfoldable pub front : Format FrontValue
 front = do
-  letters ← field (where_ four is_magic)
-  header ← frame 2
+  version ← plan_version
+  header ← frame version
   references ← references header
-  columns ← bounds header.width
-  rows ← bounds header.height
+  columns ← bounds header.shown_width
+  rows ← bounds header.shown_height
   done (record { header = header; references = references; columns = columns; rows = rows })
 
 -- how many tiles lie between so many bounds

@@ -1,5 +1,5 @@
 -- The frame that its tiles come to.
-use Rattle.std.specs.Prelude.{◌≡◌, ℕ, ◌+◌, ◌<◌, List}
+use Rattle.std.specs.Prelude.{◌≡◌, ℕ, ◌+◌, ◌<◌, ◌≤◌, List}
 use Rattle.av1_lists.specs.Lists.{by_index}
 use Rattle.av1_frame.specs.Areas.{VisibleArea}
 use Rattle.av1_plan.specs.declared.header.Header.{Header}
@@ -9,11 +9,11 @@ use Rattle.av1_tile.specs.declared.planes.Planes.{Planes}
 use Rattle.av1_tile.specs.Canvas.{Component}
 use Rattle.av1_tile.specs.PlaneBlocks.{component, number}
 use Rattle.av1_tile.specs.Edge.{sample_of}
-use Rattle.av1_tile.specs.Reference.{slow_walk}
+use Rattle.av1_tile.specs.Reference.{kind_motion, slow_walk}
 use Rattle.av1_tile.specs.Walk.{samples_of}
 use Rattle.av1_tiles.specs.declared.area.TileArea.{TileArea}
 use Rattle.av1_tiles.specs.Grammar.{FrontValue, FileValue, count_tiles}
-use Rattle.av1_tiles.specs.Tiles.{tile_area, tile_header, corner_column, corner_row}
+use Rattle.av1_tiles.specs.Tiles.{tile_area, tile_header, tile_motion, tile_walk, corner_column, corner_row}
 use Rattle.av1_tiles.specs.Validity.{AreTiles}
 
 -- the rectangle of a plane from column x of row y on that has the sides of what is shown of plane p of a frame
@@ -35,14 +35,14 @@ tile_columns f i p = shown_columns (tile_header f.header (tile_area f i)) p
 abbrev pub tile_rows : FrontValue → (i p : ℕ) → ℕ
 tile_rows f i p = shown_rows (tile_header f.header (tile_area f i)) p
 
--- at the samples of tile i the frame is what the tile's plan comes to, counted from the tile's corner in each plane
+-- at the samples of tile i the frame is what the tile comes to, counted from the tile's corner in each plane
 abbrev pub ShowsTile : FrontValue → (i : ℕ) → PlanValue → (Component → ℕ → ℕ → ℕ) → Type 0
 ShowsTile f i plan frame =
     (component : Component) (x y : ℕ) → x < tile_columns f i (number component) → y < tile_rows f i (number component)
     → frame component (corner_column f.header (tile_area f i) (number component) + x)
-    (corner_row f.header (tile_area f i) (number component) + y) ≡ sample_of (slow_walk plan component x y)
+    (corner_row f.header (tile_area f i) (number component) + y) ≡ sample_of (tile_walk f i plan component x y)
 
--- the joined planes: each sample is that of its tile's plan, less the tile's corner
+-- the joined planes: each sample is that of its tile, less the tile's corner
 abbrev pub IsJoined : FileValue → (ℕ → PlanValue) → (Component → ℕ → ℕ → ℕ) → Type 0
 IsJoined f plans frame = (i : ℕ) → i < count_tiles f.front → ShowsTile f.front i (plans i) frame
 
@@ -50,13 +50,14 @@ IsJoined f plans frame = (i : ℕ) → i < count_tiles f.front → ShowsTile f.f
 abbrev pub ComesTo : FileValue → (Component → ℕ → ℕ → ℕ) → Type 0
 ComesTo f frame = (plans : ℕ → PlanValue) × AreTiles f plans × IsJoined f plans frame
 
--- Isolation: where tile i of two grids has the same plan and the same corners, their joined planes agree at each sample
--- of it.
+-- Isolation: where tile i of two grids has the same plan and the same corners, and is predicted from the same, their
+-- joined planes agree at each sample of it.
 abbrev pub TilesAreIsolated : Type 0
 TilesAreIsolated =
     (f g : FileValue) (plans_f plans_g : ℕ → PlanValue) (frame_f frame_g : Component → ℕ → ℕ → ℕ) (i : ℕ)
     → AreTiles f plans_f → AreTiles g plans_g → IsJoined f plans_f frame_f → IsJoined g plans_g frame_g →
     i < count_tiles f.front → i < count_tiles g.front → plans_f i ≡ plans_g i
+    → tile_motion f.front i (plans_f i) ≡ tile_motion g.front i (plans_g i)
     → ((component : Component) →
     corner_column f.front.header (tile_area f.front i) (number component) ≡
     corner_column g.front.header (tile_area g.front i) (number component))
@@ -68,3 +69,9 @@ TilesAreIsolated =
     → let column = corner_column f.front.header (tile_area f.front i) (number component) + x in
     let row = corner_row f.front.header (tile_area f.front i) (number component) + y in
     frame_f component column row ≡ frame_g component column row
+
+-- Up to the second version of plans tiles are predicted from their plans alone, so that there the same plan is enough.
+abbrev pub PlansAreAll : Type 0
+PlansAreAll =
+    (f : FrontValue) (i : ℕ) (plan : PlanValue) → f.header.version ≤ 2 →
+    (tile_motion f i plan ≡ kind_motion plan) × (tile_walk f i plan ≡ slow_walk plan)

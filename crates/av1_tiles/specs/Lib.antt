@@ -10,3 +10,4 @@ pub mod Refusals
 pub mod Outcomes
 pub mod Tasks
 pub mod Texts
+pub mod Seen

@@ -1,13 +1,19 @@
--- The plan of each tile: the tile's sides, its rectangle of each reference plane, and the leaves that its part spells.
+-- The plan of each tile: the tile's sides, its rectangle of each reference plane, and the leaves that its part spells;
+-- and what these are predicted from.
 use Rattle.std.specs.Prelude.{ℕ, ◌+◌, ◌*◌, ◌-◌, ◌/◌, ◌%◌, ◌^◌, ◌≤◌, List, [], ◌∷◌, length, take, drop, map, Option}
-use Rattle.std.specs.Prelude.{option_map, slice_index, slice_index_or}
+use Rattle.std.specs.Prelude.{option_map, slice_index, slice_index_or, if◌then◌else◌}
 use Rattle.std.specs.List.{flat_map, range_with_len}
+use Rattle.av1_frame.specs.Areas.{VisibleArea}
 use Rattle.av1_plan.specs.declared.header.Header.{Header}
+use Rattle.av1_plan.specs.declared.leaf.LeafKind.{LeafKind}
 use Rattle.av1_plan.specs.Format.{Format}
-use Rattle.av1_plan.specs.Geometry.{xdec, ydec, shown_columns, shown_rows}
+use Rattle.av1_plan.specs.Geometry.{coded_side, follows_av1, xdec, ydec, shown_columns, shown_rows}
 use Rattle.av1_plan.specs.Grammar.{plan_behind}
 use Rattle.av1_plan.specs.Plan.{PlanValue}
-use Rattle.av1_plan.specs.ReadPlans.{IsSide}
+use Rattle.av1_plan.specs.ReadPlans.{IsReadFrame}
+use Rattle.av1_references.specs.References.{frame_with, shifted}
+use Rattle.av1_tile.specs.Canvas.{Canvas}
+use Rattle.av1_tile.specs.Reference.{Scene, kind_motion, walk_of}
 use Rattle.av1_tiles.specs.declared.area.TileArea.{TileArea}
 use Rattle.av1_tiles.specs.Grammar.{FrontValue, FileValue}
 
@@ -28,19 +34,12 @@ area_between columns rows k r = record {
 unfoldable pub tile_area : FrontValue → ℕ → TileArea
 tile_area f i = area_between f.columns f.rows (i % across f) (i / across f)
 
--- a rectangle of the frame whose sides are those of a frame
-pub record IsTileArea (h : Header) (a : TileArea) : Type 0 where
-  pub columns : a.x + a.width ≤ h.shown_width
-  pub rows : a.y + a.height ≤ h.shown_height
-  pub width : IsSide a.width
-  pub height : IsSide a.height
-
--- a tile as a frame of its own, of which all is shown
+-- a tile as a frame of its own, of which these sides are shown
 abbrev pub tile_header : Header → TileArea → Header
 tile_header h a = record {
   version = h.version;
-  width = a.width;
-  height = a.height;
+  width = coded_side a.width;
+  height = coded_side a.height;
   shown_width = a.width;
   shown_height = a.height;
   depth = h.depth;
@@ -50,6 +49,12 @@ tile_header h a = record {
   slots = h.slots;
   mask = h.mask;
 }
+
+-- a rectangle of what is shown of the frame, with which a tile is a frame of its own
+pub record IsTileArea (h : Header) (a : TileArea) : Type 0 where
+  pub columns : a.x + a.width ≤ h.shown_width
+  pub rows : a.y + a.height ≤ h.shown_height
+  pub frame : IsReadFrame (tile_header h a)
 
 -- the column and the row of plane p at which a rectangle of luma begins
 abbrev pub corner_column : Header → TileArea → ℕ → ℕ
@@ -86,3 +91,23 @@ tile_plan f i =
 -- the part of tile i
 abbrev pub part_of : FileValue → ℕ → List ℕ
 part_of f i = slice_index_or f.parts i []
+
+-- ---- what a tile is predicted from
+
+-- What leaves from references predict of tile i. In the third version of plans it is what they would predict in the
+-- frame: motion reads the whole of each reference from the tile's place there on, as AV1's does. Before it motion reads
+-- the references of the tile's own plan, which are the tile's rectangle.
+abbrev pub tile_motion : FrontValue → ℕ → PlanValue → (p : ℕ) → LeafKind → VisibleArea → (r c : ℕ) → ℕ
+tile_motion f i plan p kind a =
+    let h = f.header in
+    let t = tile_area f i in
+    let in_frame = shifted (corner_column h t p) (corner_row h t p) a in
+    if follows_av1 h then kind_motion (frame_with h f.references) p kind in_frame else kind_motion plan p kind a
+
+-- tile i as it is walked
+abbrev pub tile_scene : FrontValue → ℕ → PlanValue → Scene
+tile_scene f i plan = record { header = plan.header; motion = tile_motion f i plan }
+
+-- the samples that tile i comes to
+unfoldable pub tile_walk : FrontValue → ℕ → PlanValue → Canvas
+tile_walk f i plan = walk_of (tile_scene f i plan) plan.leaves

@@ -6,7 +6,7 @@ ghost use Rattle.av1_plan.specs.Grammar.{where_};
 ghost use Rattle.av1_plan.specs.Reading.{Gives, input, Fits, Moves};
 ghost use Rattle.av1_tiles.specs.Bounds.{IsReadFile};
 ghost use Rattle.av1_tiles.specs.File.{front_value, file_value};
-ghost use Rattle.av1_tiles.specs.Grammar.{is_magic, front, read_parts, read_file};
+ghost use Rattle.av1_tiles.specs.Grammar.{is_magic, plan_version, front, read_parts, read_file};
 
 use crate::bounds::bounds;
 use crate::file::{Front, TileFile};
@@ -22,11 +22,26 @@ fn magic(reader: &mut Reader<'_>) -> Result<u32, PlanError>
 {
     let at = reader.at;
     let value = reader.any_u32()?;
-    if value == u32::from_le_bytes(*b"RTL1") {
+    if value == u32::from_le_bytes(*b"RTL1") || value == u32::from_le_bytes(*b"RTL2") {
         Ok(value)
     } else {
         Err(PlanError::Malformed { at })
     }
+}
+
+/// The version of plans that the tiles have, by the four letters at the front.
+#[tactic(auto, unfolding(crate::specs::Grammar::plan_version))]
+fn plan_version(reader: &mut Reader<'_>) -> Result<u8, PlanError>
+    requires { Fits reader.old }
+    ensures read { Gives (λ x. (x, input reader.new)) result (read plan_version (input reader.old)) }
+    ensures moves { Moves reader.old reader.new }
+{
+    let letters = magic(reader)?;
+    Ok(if letters == u32::from_le_bytes(*b"RTL2") {
+        3
+    } else {
+        2
+    })
 }
 
 /// What stands before the parts of the tiles.
@@ -37,11 +52,11 @@ fn front(alloc: Global, reader: &mut Reader<'_>) -> Result<Front, PlanError>
     ensures eight { IfOk result (λ x. vec_len x.references ≡ 8) }
     ensures moves { Moves reader.old reader.new }
 {
-    magic(reader)?;
-    let header = reader.frame(2)?;
+    let version = plan_version(reader)?;
+    let header = reader.frame(version)?;
     let references = reader.references(alloc, &header)?;
-    let columns = bounds(alloc, reader, header.width)?;
-    let rows = bounds(alloc, reader, header.height)?;
+    let columns = bounds(alloc, reader, header.shown_width)?;
+    let rows = bounds(alloc, reader, header.shown_height)?;
     Ok(Front {
         header,
         references,

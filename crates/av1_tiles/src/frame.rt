@@ -7,27 +7,29 @@ ghost use Rattle.av1_frame.specs.Samples.{paint_row};
 ghost use Rattle.av1_plan.specs.Geometry.{shown_columns, shown_rows};
 ghost use Rattle.av1_plan.specs.Values.{plan_value};
 ghost use Rattle.av1_plan.specs.Validity.{first_fault};
-ghost use Rattle.av1_tile.specs.Memory.{HasRoomFor, ShowsPlan};
+ghost use Rattle.av1_tile.specs.Memory.{HasRoomFor, ShowsPlan, ShowsScene};
+ghost use Rattle.av1_tile.specs.Reference.{Scene};
 ghost use Rattle.av1_plan.specs.ReadPlans.{IsReadFrame};
 ghost use Rattle.av1_tile.specs.Canvas.{Component};
 ghost use Rattle.av1_tile.specs.PlaneBlocks.{number};
-ghost use Rattle.av1_tile.specs.Walk.{AreFrame, IsPlaneOf, plane_of, samples_of};
+ghost use Rattle.av1_tile.specs.Walk.{AreFrame, IsPlaneOf, ServesScene, plane_of, samples_of};
 ghost use Rattle.av1_plan.specs.Plan.{PlanValue};
 ghost use Rattle.av1_tiles.specs.Bounds.{IsReadFile};
 ghost use Rattle.av1_tiles.specs.File.{front_value, file_value};
 ghost use Rattle.av1_tiles.specs.Grammar.{count_tiles};
 ghost use Rattle.av1_tiles.specs.Validity.{IsTile, RefusesTile};
 ghost use Rattle.av1_tiles.specs.Joined.{placed, row_in, tile_rectangle, ShowsTile};
-ghost use Rattle.av1_tiles.specs.Tiles.{IsTileArea, tile_header, corner_column, corner_row};
+ghost use Rattle.av1_tiles.specs.Tiles.{IsTileArea, tile_header, tile_scene, corner_column, corner_row};
+ghost use Rattle.av1_tiles.specs.Seen.{IsAtTile, SeesFront};
 
 use crate::area::TileArea;
 use crate::error::TileError;
 use crate::file::TileFile;
 use crate::tile::{read_tile, tile_area};
 use av1_blocks::OutOfMemory;
-use av1_frame::{Pixel, Plane, PlaneRegionMut, copy_row, visible_area};
+use av1_frame::{FrameInvariants, Pixel, Plane, PlaneRegionMut, TileRect, copy_row, visible_area};
 use av1_plan::{Header, Plan};
-use av1_references::frame_invariants;
+use av1_references::{TileReferences, frame_invariants};
 use av1_tile::{Planes, WalkMemory};
 use std::alloc::Global;
 
@@ -171,18 +173,111 @@ pub fn reconstruct_alone<T: Pixel>(
     Ok(TilePicture { header, planes })
 }
 
-/// Reconstructs one tile in this memory, and puts it into the planes of its frame. At an error the planes are as they
-/// were before.
+/// The references of a tile that motion reads as a whole, from the tile's place in its frame on.
+fn references_of<'a, T>(
+    fi: &'a FrameInvariants<T>,
+    header: &Header,
+    area: TileArea,
+) -> TileReferences<'a, T>
+    requires frame { IsReadFrame header.now }
+    requires area { IsTileArea header.now area }
+    ensures frame { result.fi.now ≡ fi.now }
+    ensures place { IsAtTile header.now area result }
+{
+    TileReferences {
+        fi,
+        luma: rect_in(header, area, 0),
+        chroma: rect_in(header, area, 1),
+    }
+}
+
+/// A tile's rectangle of plane `p` of its frame.
+fn rect_in(header: &Header, area: TileArea, p: usize) -> TileRect
+    requires frame { IsReadFrame header.now }
+    requires area { IsTileArea header.now area }
+    ensures column { result.x ≡ corner_column header.now area p }
+    ensures row { result.y ≡ corner_row header.now area p }
+{
+    let (x, y) = corner(header, area, p);
+    let (xdec, ydec) = (header.xdec(p), header.ydec(p));
+    TileRect {
+        x,
+        y,
+        width: (usize::from(area.width) + xdec) >> xdec,
+        height: (usize::from(area.height) + ydec) >> ydec,
+    }
+}
+
+/// The picture that a tile with this valid plan comes to, reconstructed in this memory, where motion reads the
+/// references of its frame. An error is running out of memory.
+fn reconstruct_in_frame<T: Pixel>(
+    alloc: Global,
+    plan: &Plan,
+    from: &TileReferences<'_, T>,
+    memory: &mut WalkMemory<T>,
+) -> Result<TilePicture<T>, OutOfMemory>
+    requires valid { first_fault (plan_value plan.now) ≡ None }
+    requires depth { (plan_value plan.now).header.depth ≤ T.BITS }
+    requires room { HasRoomFor (plan_value plan.now).header memory.old }
+    requires serves { (scene : Scene) × (ServesScene T.num scene from.now × (scene.header ≡ (plan_value plan.now).header)) }
+    ensures header { IfOk result (λ tile. tile.header ≡ (plan_value plan.now).header) }
+    ensures frame { IfOk result (λ tile. AreFrame tile.header tile.planes) }
+    ensures shown { IfOk result (λ tile. (scene : Scene) → ServesScene T.num scene from.now → scene.header ≡ (plan_value plan.now).header →
+        ShowsScene T.num scene (plan_value plan.now).leaves tile.planes) }
+    ensures cells { memory.new.cells ≡ memory.old.cells }
+{
+    let header = *plan.header();
+    let mut planes = Planes::new(alloc, &header, 0)?;
+    memory.reconstruct_tile(&mut planes, from, &header, plan.leaves_with_triples());
+    Ok(TilePicture { header, planes })
+}
+
+/// The picture that tile number `index` comes to, with its valid plan, reconstructed in this memory: `seen` has the
+/// references of the whole frame where motion reads these. An error is running out of memory.
+fn reconstruct_picture<T: Pixel>(
+    alloc: Global,
+    plan: &Plan,
+    file: &TileFile<'_>,
+    index: usize,
+    seen: &Option<FrameInvariants<T>>,
+    memory: &mut WalkMemory<T>,
+) -> Result<TilePicture<T>, OutOfMemory>
+    requires read { IsReadFile file.now }
+    requires tile { index < count_tiles (front_value file.now.front) }
+    requires depth { file.now.front.header.depth ≤ T.BITS }
+    requires plan { IsTile (file_value file.now) index (plan_value plan.now) }
+    requires seen { SeesFront T.num file.now.front seen.now }
+    requires room { HasRoomFor (plan_value plan.now).header memory.old }
+    ensures header { IfOk result (λ tile. tile.header ≡ (plan_value plan.now).header) }
+    ensures frame { IfOk result (λ tile. AreFrame tile.header tile.planes) }
+    ensures shown { IfOk result (λ tile.
+        ShowsScene T.num (tile_scene (front_value file.now.front) index (plan_value plan.now)) (plan_value plan.now).leaves tile.planes) }
+    ensures cells { memory.new.cells ≡ memory.old.cells }
+{
+    match seen {
+        Some(fi) => {
+            let header = &file.front.header;
+            let from = references_of(fi, header, tile_area(&file.front, index));
+            reconstruct_in_frame(alloc, plan, &from, memory)
+        }
+        None => reconstruct_alone(alloc, plan, memory),
+    }
+}
+
+/// Reconstructs one tile in this memory, and puts it into the planes of its frame. `seen` has the references of the
+/// whole frame where motion reads these. At an error the planes are as they were before.
 pub fn reconstruct_in<T: Pixel>(
     alloc: Global,
     planes: &mut Planes<T>,
     file: &TileFile<'_>,
     index: usize,
+    seen: &Option<FrameInvariants<T>>,
     memory: &mut WalkMemory<T>,
 ) -> Result<(), TileError>
     requires read { IsReadFile file.now }
     requires tile { index < count_tiles (front_value file.now.front) }
     requires depth { file.now.front.header.depth ≤ T.BITS }
+    requires seen { SeesFront T.num file.now.front seen.now }
     requires planes { AreFrame file.now.front.header planes.old }
     requires room { HasRoomFor file.now.front.header memory.old }
     // Its own samples are those of its plan, and those of all other tiles stay.
@@ -197,7 +292,7 @@ pub fn reconstruct_in<T: Pixel>(
     ensures refused { IfErr result (λ e. RefusesTile (file_value file.now) index e) }
 {
     let plan = read_tile(alloc, file, index)?;
-    let tile = reconstruct_alone(alloc, &plan, memory)?;
+    let tile = reconstruct_picture(alloc, &plan, file, index, seen, memory)?;
     place_tile(
         planes,
         &file.front.header,

@@ -2,18 +2,21 @@
 
 ghost use Rattle.std.specs.Prelude.{◌≡◌, ◌≤◌, ◌<◌, IfOk, IfErr};
 ghost use Rattle.av1_tile.specs.Walk.{AreFrame, samples_of};
-ghost use Rattle.av1_tiles.specs.Bounds.{IsReadFile};
+ghost use Rattle.av1_tiles.specs.Bounds.{IsReadFile, IsReadFront};
 ghost use Rattle.av1_tiles.specs.Errors.{tile_error};
 ghost use Rattle.av1_tiles.specs.File.{file_value};
 ghost use Rattle.av1_tiles.specs.Frames.{IsFrame, samples_in};
 ghost use Rattle.av1_tiles.specs.Joined.{ComesTo};
 ghost use Rattle.av1_tiles.specs.Refusals.{RefusesTiles};
+ghost use Rattle.av1_tiles.specs.Seen.{SeesFront};
 
 use crate::error::{TileError, TilesError};
-use crate::file::TileFile;
+use crate::file::{Front, TileFile};
 use crate::frame::reconstruct_in;
-use av1_frame::Pixel;
+use av1_blocks::OutOfMemory;
+use av1_frame::{FrameInvariants, Pixel};
 use av1_plan::Header;
+use av1_references::stored_references;
 use av1_tile::{Planes, WalkMemory};
 use std::alloc::Global;
 
@@ -49,6 +52,22 @@ fn tile_error(tile: usize, error: TileError) -> TilesError
     }
 }
 
+/// The references of the whole frame, where the motion of its tiles reads these. An error is running out of memory.
+fn seen_references<T: Pixel>(
+    alloc: Global,
+    front: &Front,
+) -> Result<Option<FrameInvariants<T>>, OutOfMemory>
+    requires read { IsReadFront front.now }
+    requires depth { front.now.header.depth ≤ T.BITS }
+    ensures { IfOk result (SeesFront T.num front.now) }
+{
+    if !front.header.follows_av1() {
+        return Ok(None);
+    }
+    let fi = stored_references(alloc, &front.header, &front.references)?;
+    Ok(Some(fi))
+}
+
 /// The planes that the tiles of a grid come to: each tile is reconstructed from its own part, one after the other in
 /// raster order, and put into its rectangle of each plane. The planes of the frame, and the memory that tiles are
 /// reconstructed in, are taken once for all of them.
@@ -63,10 +82,11 @@ pub fn join_tiles<T: Pixel>(alloc: Global, file: &TileFile<'_>) -> Result<Planes
     ensures joined { IfOk result (λ planes. ComesTo (file_value file.now) (samples_of T.num planes)) }
     ensures refused { IfErr result (λ e. RefusesTiles (file_value file.now) e) }
 {
+    let seen = seen_references(alloc, &file.front)?;
     let mut planes = Planes::new(alloc, &file.front.header, 0)?;
     let mut memory = WalkMemory::new(alloc, &file.front.header)?;
     for index in 0..file.parts.len() {
-        if let Err(error) = reconstruct_in(alloc, &mut planes, file, index, &mut memory) {
+        if let Err(error) = reconstruct_in(alloc, &mut planes, file, index, &seen, &mut memory) {
             return Err(tile_error(index, error));
         }
     }

@@ -2,12 +2,15 @@
 //!
 //! The format has the settings and the reference samples of a frame, where its tiles begin, and a part for each tile. A
 //! tile's plan has the tile's sides, its rectangle of each reference, and the leaves that its part spells by the plan
-//! grammar, so that a tile is reconstructed as a frame of its own, and its planes are put into those of the frame.
+//! grammar, so that a tile is reconstructed as a frame of its own, and its planes are put into those of the frame. In
+//! plans of the third version its motion reads the whole of each reference all the same, from the tile's place in the
+//! frame on, as AV1's does (`tile_motion`); before it its rectangle of them alone.
 //! [`reconstruct_tiles`] is the whole path: it reads a source to its end, reads the grid, reconstructs its tiles one
 //! after the other in raster order, and writes the planes of the frame, Y, U and V row by row.
 //!
-//! It stands on `av1_plan` for the fields of plans, on `av1_tile` for the samples of a tile, on `av1_streams` for
-//! sources and sinks, and on `av1_recon` for the writing of planes.
+//! It stands on `av1_plan` for the fields of plans, on `av1_references` for what its tiles are predicted from, on
+//! `av1_tile` for the samples of a tile, on `av1_streams` for sources and sinks, and on `av1_recon` for the writing of
+//! planes.
 //!
 //! Promised: the outcome of bytes is one definition, `HasOutcome` (`specs/Outcomes.antt`), and each answer of
 //! [`reconstruct_tiles`] is read off it: Ok only where the bytes are a grid of valid tiles, and then exactly the bytes

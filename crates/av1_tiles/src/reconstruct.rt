@@ -18,9 +18,9 @@ use av1_recon::write_frame;
 use av1_streams::{Sink, Source, WriteFault, read_plan_bytes};
 use std::alloc::Global;
 
-/// Reads a grid of tiles from the source to its end, reconstructs each tile from its own part alone, and appends the
-/// visible planes of the frame that they come to to the sink: Y, U and V, each row by row, one byte a sample at depth
-/// 8, else two, the low one first.
+/// Reads a grid of tiles from the source to its end, reconstructs each tile by itself, and appends the visible planes
+/// of the frame that they come to to the sink: Y, U and V, each row by row, one byte a sample at depth 8, else two, the
+/// low one first.
 ///
 /// # Errors
 ///

@@ -16,12 +16,11 @@ ghost use Rattle.av1_tiles.specs.Tiles.{part_of};
 use crate::area::TileArea;
 use crate::error::TileError;
 use crate::file::{Front, TileFile};
-use av1_plan::{Header, Plan, PlanError, SlotPlanes, check_plan, parse_plan_behind};
+use av1_plan::{Header, Plan, PlanError, SlotPlanes, check_plan, coded_side, parse_plan_behind};
 use av1_recon::PlanRefusal;
 use std::alloc::{AllocError, Global};
 
 /// The rectangle between the bounds from a column and a row of tiles on.
-#[tactic(auto, using(av1_plan::proofs::Shown::all_shown))]
 fn area_between(
     header: &Header,
     columns: &[u16],
@@ -30,9 +29,8 @@ fn area_between(
     row: usize,
 ) -> TileArea
     requires frame { IsReadFrame header.now }
-    requires early { header.now.version ≤ 2 }
-    requires columns { AreBounds header.now.width columns.now }
-    requires rows { AreBounds header.now.height rows.now }
+    requires columns { AreBounds header.now.shown_width columns.now }
+    requires rows { AreBounds header.now.shown_height rows.now }
     requires column { column + 1 < length columns.now }
     requires row { row + 1 < length rows.now }
     ensures value { result ≡ area_between columns.now rows.now column row }
@@ -68,12 +66,13 @@ pub fn tile_area(front: &Front, index: usize) -> TileArea
 
 /// A tile as a frame of its own.
 fn tile_header(header: &Header, area: TileArea) -> Header
+    requires area { IsTileArea header.now area }
     ensures { result ≡ tile_header header.now area }
 {
     Header {
         version: header.version,
-        width: area.width,
-        height: area.height,
+        width: coded_side(area.width),
+        height: coded_side(area.height),
         shown_width: area.width,
         shown_height: area.height,
         depth: header.depth,

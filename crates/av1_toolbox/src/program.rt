@@ -33,8 +33,8 @@ const NO_TOOL: u8 = 1;
 /// Does what the one word after the program's name asks for, and gives the exit status. `tiles` reads a grid of tiles
 /// from `source` and writes the planes of its frame to `out`; `trace` reads a plan and another encoder's planes, and
 /// writes a line on each leaf and plane that differs, or `same`; `sequence` reads a sequence of frames and writes the
-/// planes of each as soon as it is accepted; `bare` reads a plan and writes it without its coefficients. All other
-/// words are no tool's name.
+/// planes of each that is shown as soon as it is accepted; `bare` reads a plan and writes it without its coefficients.
+/// All other words are no tool's name.
 ///
 /// | status | where | line on `err` |
 /// |---|---|---|
@@ -48,9 +48,9 @@ const NO_TOOL: u8 = 1;
 ///
 /// Of a part that is refused, `bare` says `invalid leaf N: K`; `tiles` `tile T malformed at N` and `tile T invalid leaf
 /// N: K`; `trace` `plan malformed at N` and `plan invalid leaf N: K`; `sequence` `frame F too large`, `frame F
-/// malformed at N` and `frame F invalid leaf N: K`. K is as in [`av1_recon::run`]. Of a sequence the planes of the
-/// frames before the one that is refused stand on `out`. Where a write to `err` failed a prefix of the line stands, and
-/// the status stays.
+/// malformed at N`, `frame F invalid leaf N: K` and `frame F empty slot`. K is as in [`av1_recon::run`]. Of a sequence
+/// the planes that are shown before the entry that is refused stand on `out`. Where a write to `err` failed a prefix of
+/// the line stands, and the status stays.
 pub fn run_tools<R: Source, W: Sink, E: Sink>(
     alloc: Global,
     words: &[String],

@@ -6,8 +6,8 @@ function readFile(bytes) {
   const letters = String.fromCharCode(...bytes.subarray(0, 4));
   if (letters === 'RSQ1') return sequenceOf(bytes, 2);
   if (letters === 'RSQ2') return sequenceOf(bytes, 3);
-  const isGrid = letters === 'RTL1';
-  const read = isGrid ? readGrid(bytes) : readPlan(bytes);
+  const isGrid = letters.startsWith('RTL');
+  const read = isGrid ? readGrid(bytes, letters === 'RTL2' ? 3 : 2) : readPlan(bytes);
   const held = heldPlanes(read.frame);
   return { kind: isGrid ? 'tiles' : 'plan', count: 1, readAt: () => read, heldAt: () => held };
 }
@@ -23,9 +23,9 @@ function readStarts(view, at, side) {
 }
 
 // A grid as a plan of its frame: the leaves of all tiles, one tile behind the other, each with its tile as the area that it lies in.
-function readGrid(bytes) {
+function readGrid(bytes, version) {
   const view = viewOf(bytes);
-  const frame = { ...readFrame(bytes, view), version: 2 };
+  const frame = { ...readFrame(bytes, view), version };
   const { slots, at } = readSlots(frame, bytes);
   const columns = readStarts(view, at, frame.width);
   const rows = readStarts(view, columns.end, frame.height);
@@ -92,7 +92,7 @@ function sequenceOf(bytes, version) {
     const { filter, edgeFilter, slots, refresh, part, held } = heads[heads[number].shows];
     const frame = { ...shape, version, filter, edgeFilter, slots };
     const filled = held.map((other) => other < 0 ? null : planesAt(other));
-    return { bytes, view, frame, slots: filled, held, refresh, ...readLeaves(bytes, view, frame, wholeOf(frame), part, 0) };
+    return { bytes, view, frame, slots: filled, held, refresh, ...readLeaves(bytes, view, frame, shownOf(frame), part, 0) };
   };
   const isHeld = (number) => places.has(heads[number].shows);
   return { kind: 'sequence', count: heads.length, shape, heads, readAt, planesAt, isHeld, heldAt: (number) => ({ planes: planesAt(number) }) };

@@ -62,11 +62,11 @@ function carriesChroma(frame, x, y, width, height) {
   return !(frame.xdecs[1] && width === 4 && x % 8 === 0) && !(frame.ydecs[1] && height === 4 && y % 8 === 0);
 }
 
-// The leaves that a part of bytes spells for an area of a frame, in coding order, from a place on, and the place behind them. They are numbered
-// from a number on.
+// The leaves that a part of bytes spells for what is coded of an area of a frame, in coding order, from a place on, and the place behind them. They are
+// numbered from a number on.
 function readLeaves(bytes, view, frame, area, from, first) {
-  const right = area.x + area.width;
-  const bottom = area.y + area.height;
+  const right = area.x + area.width + 7 & ~7;
+  const bottom = area.y + area.height + 7 & ~7;
   const leaves = [];
   let at = from;
 
@@ -119,7 +119,6 @@ function readLeaves(bytes, view, frame, area, from, first) {
 }
 
 const shownOf = (frame) => ({ x: 0, y: 0, width: frame.width, height: frame.height });
-const wholeOf = (frame) => ({ x: 0, y: 0, width: frame.coded.width, height: frame.coded.height });
 const viewOf = (bytes) => new DataView(bytes.buffer, bytes.byteOffset, bytes.byteLength);
 
 // The plan that the bytes spell: its frame, its slots, and its leaves in coding order.
@@ -127,7 +126,7 @@ function readPlan(bytes) {
   const view = viewOf(bytes);
   const frame = readFrame(bytes, view);
   const { slots, at } = readSlots(frame, bytes);
-  return { bytes, view, frame, slots, ...readLeaves(bytes, view, frame, wholeOf(frame), at, 0) };
+  return { bytes, view, frame, slots, ...readLeaves(bytes, view, frame, shownOf(frame), at, 0) };
 }
 
 // ---- What a leaf covers.

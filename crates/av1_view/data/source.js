@@ -24,7 +24,7 @@ function sourceFigure(leaf, m) {
   const samples = document.createElement('canvas');
   samples.width = read.width;
   samples.height = read.height;
-  const area = plan.tiles ? leaf.area : shownOf(frame);
+  const area = frame.version > 2 ? shownOf(frame) : leaf.area;
   samples.getContext('2d').putImageData(paint(painter, area, read), 0, 0);
   const figure = document.createElement('figure');
   const caption = document.createElement('figcaption');

@@ -242,11 +242,11 @@ function carriesChroma(frame, x, y, width, height) {
   return !(frame.xdecs[1] && width === 4 && x % 8 === 0) && !(frame.ydecs[1] && height === 4 && y % 8 === 0);
 }
 
-// The leaves that a part of bytes spells for an area of a frame, in coding order, from a place on, and the place behind them. They are numbered
-// from a number on.
+// The leaves that a part of bytes spells for what is coded of an area of a frame, in coding order, from a place on, and the place behind them. They are
+// numbered from a number on.
 function readLeaves(bytes, view, frame, area, from, first) {
-  const right = area.x + area.width;
-  const bottom = area.y + area.height;
+  const right = area.x + area.width + 7 & ~7;
+  const bottom = area.y + area.height + 7 & ~7;
   const leaves = [];
   let at = from;
 
@@ -299,7 +299,6 @@ function readLeaves(bytes, view, frame, area, from, first) {
 }
 
 const shownOf = (frame) => ({ x: 0, y: 0, width: frame.width, height: frame.height });
-const wholeOf = (frame) => ({ x: 0, y: 0, width: frame.coded.width, height: frame.coded.height });
 const viewOf = (bytes) => new DataView(bytes.buffer, bytes.byteOffset, bytes.byteLength);
 
 // The plan that the bytes spell: its frame, its slots, and its leaves in coding order.
@@ -307,7 +306,7 @@ function readPlan(bytes) {
   const view = viewOf(bytes);
   const frame = readFrame(bytes, view);
   const { slots, at } = readSlots(frame, bytes);
-  return { bytes, view, frame, slots, ...readLeaves(bytes, view, frame, wholeOf(frame), at, 0) };
+  return { bytes, view, frame, slots, ...readLeaves(bytes, view, frame, shownOf(frame), at, 0) };
 }
 
 // ---- What a leaf covers.
@@ -477,8 +476,8 @@ function readFile(bytes) {
   const letters = String.fromCharCode(...bytes.subarray(0, 4));
   if (letters === 'RSQ1') return sequenceOf(bytes, 2);
   if (letters === 'RSQ2') return sequenceOf(bytes, 3);
-  const isGrid = letters === 'RTL1';
-  const read = isGrid ? readGrid(bytes) : readPlan(bytes);
+  const isGrid = letters.startsWith('RTL');
+  const read = isGrid ? readGrid(bytes, letters === 'RTL2' ? 3 : 2) : readPlan(bytes);
   const held = heldPlanes(read.frame);
   return { kind: isGrid ? 'tiles' : 'plan', count: 1, readAt: () => read, heldAt: () => held };
 }
@@ -494,9 +493,9 @@ function readStarts(view, at, side) {
 }
 
 // A grid as a plan of its frame: the leaves of all tiles, one tile behind the other, each with its tile as the area that it lies in.
-function readGrid(bytes) {
+function readGrid(bytes, version) {
   const view = viewOf(bytes);
-  const frame = { ...readFrame(bytes, view), version: 2 };
+  const frame = { ...readFrame(bytes, view), version };
   const { slots, at } = readSlots(frame, bytes);
   const columns = readStarts(view, at, frame.width);
   const rows = readStarts(view, columns.end, frame.height);
@@ -563,7 +562,7 @@ function sequenceOf(bytes, version) {
     const { filter, edgeFilter, slots, refresh, part, held } = heads[heads[number].shows];
     const frame = { ...shape, version, filter, edgeFilter, slots };
     const filled = held.map((other) => other < 0 ? null : planesAt(other));
-    return { bytes, view, frame, slots: filled, held, refresh, ...readLeaves(bytes, view, frame, wholeOf(frame), part, 0) };
+    return { bytes, view, frame, slots: filled, held, refresh, ...readLeaves(bytes, view, frame, shownOf(frame), part, 0) };
   };
   const isHeld = (number) => places.has(heads[number].shows);
   return { kind: 'sequence', count: heads.length, shape, heads, readAt, planesAt, isHeld, heldAt: (number) => ({ planes: planesAt(number) }) };
@@ -1449,7 +1448,7 @@ function sourceFigure(leaf, m) {
   const samples = document.createElement('canvas');
   samples.width = read.width;
   samples.height = read.height;
-  const area = plan.tiles ? leaf.area : shownOf(frame);
+  const area = frame.version > 2 ? shownOf(frame) : leaf.area;
   samples.getContext('2d').putImageData(paint(painter, area, read), 0, 0);
   const figure = document.createElement('figure');
   const caption = document.createElement('figcaption');

@@ -1,13 +1,14 @@
-use Rattle.std.proofs.Common.{rules, arith, refl}
-use Rattle.av1_references.specs.References.{visible_in}
-use Rattle.av1_references.proofs.Painted.{leaf_region, single_region}
+use Rattle.std.proofs.Common.{◌+ℤ◌, rules, arith, refl, pos, subst}
+use Rattle.av1_frame.specs.declared.tile_state.TileRect.{TileRect}
+use Rattle.av1_references.specs.References.{rect_of, visible_in}
+use Rattle.av1_references.proofs.Painted.{IsLeafRegion, leaf_region, single_region}
 use Rattle.av1_references.proofs.Served.{served_shorter}
 use Rattle.av1_references.proofs.predict.predict_single.Goals as goal
 
 pub predict_inter_single-requires-clause-reference :
     goal.predict_inter_single-requires-clause-reference
 predict_inter_single-requires-clause-reference g c =
-    served_shorter g.T.Pixel.num c.args.fi.now c.args.reference c.args.p c.args.area.width c.args.area.height _ _ (omega arith)
+    served_shorter g.T.Pixel.num c.args.from.now.fi.now c.args.reference c.args.p c.args.area.width c.args.area.height _ _ (omega arith)
     (omega arith) c.requires.reference
 
 pub returns : goal.returns
@@ -15,10 +16,14 @@ returns g c = λ value holds has.
     let plane = c.args.plane.now in
     let area = visible_in c.args.area in
     let region = c.region_mut-region in
-    let tile = c.whole_tile-tile in
-    let leaf = leaf_region plane area region.result region.ensures.plane region.ensures.cfg region.ensures.area c.visible_area.ensures
-    tile.ensures.x tile.ensures.y c.first_sample.ensures.x c.first_sample.ensures.y refl refl in
+    let tile = rect_of c.args.from.now c.args.p in
+    let leaf =
+    subst (λ (t : TileRect). IsLeafRegion plane area t region.result (pos c.rect.result.x +ℤ c.first_sample.result.x)
+    (pos c.rect.result.y +ℤ c.first_sample.result.y) c.args.area.width c.args.area.height) c.rect.ensures
+    (leaf_region plane area c.rect.result region.result region.ensures.plane region.ensures.cfg region.ensures.area c.visible_area.ensures
+    c.first_sample.ensures.x c.first_sample.ensures.y refl refl) in
     let predicted = c.predict_inter_single in
-    let e = single_region g.T.Pixel.num g.T.Pixel.pixel value c.args.fi.now holds c.args.p c.requires.plane plane area region.result predicted.new.dst _ _ _ _
+    let e = single_region g.T.Pixel.num g.T.Pixel.pixel value c.args.from.now.fi.now holds c.args.p c.requires.plane plane area tile
+    region.result predicted.new.dst _ _ _ _
     leaf c.args.reference c.args.mv has predicted.ensures.painted in
     search rules

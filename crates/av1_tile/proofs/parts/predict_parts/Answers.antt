@@ -5,7 +5,7 @@ use Rattle.av1_plan.specs.declared.header.Header.{Header}
 use Rattle.av1_plan.specs.declared.leaf.LeafKind.{LeafKind}
 use Rattle.av1_references.specs.References.{visible_in}
 use Rattle.av1_tile.specs.declared.plane_block.Parts.{Parts}
-use Rattle.av1_tile.specs.Reference.{above, beside, kind_motion}
+use Rattle.av1_tile.specs.Reference.{above, beside}
 use Rattle.av1_tile.specs.Walk.{KindFits, KindServes, PartsFit}
 use Rattle.av1_tile.proofs.Halves.{above_joined, still_inside}
 use Rattle.av1_tile.proofs.parts.predict_parts.Goals as goal
@@ -20,7 +20,7 @@ pub returns-then-not-parts : goal.returns-then-not-parts
 returns-then-not-parts g c = λ value holds fits.
     let parts = c.args.parts in
     let a = visible_in c.args.area in
-    let f = kind_motion value c.args.p in
+    let f = value.motion c.args.p in
     let high : parts.low ≡ false = grind (arith, tests, c.if-not-parts.true) in
     c.predict_row.ensures value holds (part_fits value.header c.args.p a a parts parts.side fits (omega arith) (omega arith) fits.serve.side)
     (part_fits value.header c.args.p a a parts parts.own fits (omega arith) (omega arith) fits.serve.own)
@@ -49,7 +49,7 @@ returns g c = λ value holds fits.
     let a = visible_in c.args.area in
     let upper = record a { height = a.height / 2 } in
     let lower = record a { y = a.y + a.height / 2; height = a.height - a.height / 2 } in
-    let f = kind_motion value c.args.p in
+    let f = value.motion c.args.p in
     let low : parts.low ≡ true = grind (arith, tests, c.if-not-parts.false) in
     above_joined g.T.Pixel.pixel c.args.plane.now c.predict_row-2.new.plane c.predict_row-3.new.plane a
     (beside parts.narrow (f parts.corner) (f parts.over)) (beside parts.narrow (f parts.side) (f parts.own)) parts.low low

@@ -1,6 +1,7 @@
-use Rattle.std.proofs.Common.{◌+◌, ◌-◌, ◌/◌, ◌≡◌, true, arith, tests}
+use Rattle.std.proofs.Common.{◌+◌, ◌-◌, ◌/◌, ◌≡◌, ◌∙◌, Bool, true, false, ap, arith, sym, tests}
+use Rattle.av1_frame.specs.Planes.{painted_plane}
 use Rattle.av1_references.specs.References.{visible_in}
-use Rattle.av1_tile.specs.Reference.{kind_motion}
+use Rattle.av1_tile.specs.Reference.{beside}
 use Rattle.av1_tile.proofs.Halves.{beside_joined, still_inside}
 use Rattle.av1_tile.proofs.parts.predict_row.Goals as goal
 
@@ -16,10 +17,19 @@ predict_kind-requires-3-clause-fits g c =
     (c.predict_kind-2.ensures own.0 own.1.0 (record { wide = omega (arith, fits.wide); high = fits.high; serves = fits.serves }))
     (record { storage = f.storage; columns = omega (arith, f.columns); rows = f.rows })
 
+pub returns-then-not-row : goal.returns-then-not-row
+returns-then-not-row g c = λ value holds left right.
+    let row = c.args.row in
+    let a = visible_in c.args.area in
+    let f = value.motion c.args.p in
+    let wide : row.narrow ≡ false = grind (arith, tests, c.if-not-row.true) in
+    c.predict_kind.ensures value holds right
+    ∙ ap (λ (t : Bool). painted_plane c.args.plane.now a (λ i j _. g.T.Pixel.pixel (beside t (f row.left) (f row.right) a i j))) (sym wide)
+
 pub returns : goal.returns
 returns g c = λ value holds left right.
     let narrow : c.args.row.narrow ≡ true = grind (arith, tests, c.if-not-row.false) in
     beside_joined g.T.Pixel.pixel c.args.plane.now c.predict_kind-2.new.plane c.predict_kind-3.new.plane (visible_in c.args.area)
-    (kind_motion value c.args.p c.args.row.left) (kind_motion value c.args.p c.args.row.right) c.args.row.narrow narrow
+    (value.motion c.args.p c.args.row.left) (value.motion c.args.p c.args.row.right) c.args.row.narrow narrow
     (c.predict_kind-2.ensures value holds (record { wide = omega (arith, left.wide); high = left.high; serves = left.serves }))
     (c.predict_kind-3.ensures value holds (record { wide = omega (arith, right.wide); high = right.high; serves = right.serves }))

@@ -2,8 +2,9 @@ use Rattle.std.proofs.Common.{◌≤◌, subst, sym}
 use Rattle.av1_plan.specs.Values.{leaves_value, plan_value}
 use Rattle.av1_plan.specs.declared.header.Header.{Header}
 use Rattle.av1_tile.specs.Predicted.{AreBlank}
+use Rattle.av1_tile.specs.Reference.{scene}
 use Rattle.av1_tile.specs.Walk.{StoresAll, cell_at}
-use Rattle.av1_tile.proofs.PlansOver.{over_fits, over_frame, over_predicts, over_serves, over_shows, read_over}
+use Rattle.av1_tile.proofs.PlansOver.{over_fits, over_frame, over_plan, over_predicts, over_serves, over_shows, read_over, whole_over}
 use Rattle.av1_tile.proofs.recon.reconstruct_with_predictions.Goals as goal
 
 pub reconstruct_leaves-requires-clause-held : goal.reconstruct_leaves-requires-clause-held
@@ -14,8 +15,9 @@ reconstruct_leaves-requires-clause-held g c =
     let fi = c.in_ok-fi.fi in
     let same = c.header-header.ensures.value in
     let is = read_over g.T.Pixel.num c.args.plan.now leaves h fi c.leaves_with_triples-leaves.ensures same c.requires.valid c.in_ok-fi.ensures in
+    let tile = whole_over c.whole-from.result c.whole-from.ensures.whole g.T.Pixel.num h leaves fi plan c.whole-from.ensures.frame is in
     record {
-      frame = over_frame g.T.Pixel.num h leaves fi plan is;
+      frame = over_frame g.T.Pixel.num h leaves c.whole-from.result (scene plan) plan tile;
       depth = subst (λ (k : Header). k.depth ≤ g.T.Pixel.BITS) (sym c.header-header.ensures.value) c.requires.depth;
       stores = c.in_ok-planes.ensures.stores;
     }
@@ -27,7 +29,9 @@ reconstruct_leaves-requires-clause-fits g c =
     let fi = c.in_ok-fi.fi in
     let same = c.header-header.ensures.value in
     let is = read_over g.T.Pixel.num c.args.plan.now leaves h fi c.leaves_with_triples-leaves.ensures same c.requires.valid c.in_ok-fi.ensures in
-    over_fits g.T.Pixel.num h leaves fi (plan_value c.args.plan.now) is c.in_ok-planes.planes c.in_ok-planes.ensures.room
+    let plan = plan_value c.args.plan.now in
+    let tile = whole_over c.whole-from.result c.whole-from.ensures.whole g.T.Pixel.num h leaves fi plan c.whole-from.ensures.frame is in
+    over_fits g.T.Pixel.num h leaves c.whole-from.result (scene plan) plan tile c.in_ok-planes.planes c.in_ok-planes.ensures.room
 
 pub reconstruct_leaves-requires-clause-references : goal.reconstruct_leaves-requires-clause-references
 reconstruct_leaves-requires-clause-references g c =
@@ -36,7 +40,9 @@ reconstruct_leaves-requires-clause-references g c =
     let fi = c.in_ok-fi.fi in
     let same = c.header-header.ensures.value in
     let is = read_over g.T.Pixel.num c.args.plan.now leaves h fi c.leaves_with_triples-leaves.ensures same c.requires.valid c.in_ok-fi.ensures in
-    (plan_value c.args.plan.now, over_serves g.T.Pixel.num h leaves fi (plan_value c.args.plan.now) is)
+    let plan = plan_value c.args.plan.now in
+    let tile = whole_over c.whole-from.result c.whole-from.ensures.whole g.T.Pixel.num h leaves fi plan c.whole-from.ensures.frame is in
+    (scene plan, over_serves g.T.Pixel.num h leaves c.whole-from.result (scene plan) plan tile)
 
 pub returns-clause-planes : goal.returns-clause-planes
 returns-clause-planes g c =
@@ -48,8 +54,12 @@ returns-clause-planes g c =
     let is = read_over g.T.Pixel.num c.args.plan.now leaves h fi c.leaves_with_triples-leaves.ensures same c.requires.valid c.in_ok-fi.ensures in
     let made = c.in_ok-planes.ensures in
     let walk = c.reconstruct_leaves in
-    over_shows g.T.Pixel.num h leaves fi plan is g.T.Pixel.pixel g.met.T.Pixel.num_of_pixel g.met.T.Pixel.pixel_of_num c.in_ok-planes.planes walk.new.planes
-    (cell_at c.in_ok-cells.cells) made.stores made.room walk.ensures.kept.stores (walk.ensures.walked plan (over_serves g.T.Pixel.num h leaves fi plan is))
+    let from = c.whole-from.result in
+    let tile = whole_over from c.whole-from.ensures.whole g.T.Pixel.num h leaves fi plan c.whole-from.ensures.frame is in
+    over_plan g.T.Pixel.num h leaves fi plan is walk.new.planes
+    (over_shows g.T.Pixel.num h leaves from (scene plan) plan tile g.T.Pixel.pixel g.met.T.Pixel.num_of_pixel g.met.T.Pixel.pixel_of_num
+    c.in_ok-planes.planes walk.new.planes (cell_at c.in_ok-cells.cells) made.stores made.room walk.ensures.kept.stores
+    (walk.ensures.walked (scene plan) (over_serves g.T.Pixel.num h leaves from (scene plan) plan tile)))
 
 pub returns-clause-stores : goal.returns-clause-stores
 returns-clause-stores g c =
@@ -65,7 +75,9 @@ returns-clause-predictions g c =
     let is = read_over g.T.Pixel.num c.args.plan.now leaves h fi c.leaves_with_triples-leaves.ensures same c.requires.valid c.in_ok-fi.ensures in
     let made = c.in_ok-planes.ensures in
     let walk = c.reconstruct_leaves in
+    let from = c.whole-from.result in
+    let tile = whole_over from c.whole-from.ensures.whole g.T.Pixel.num h leaves fi plan c.whole-from.ensures.frame is in
     let empty = subst (λ (k : Header). AreBlank g.T.Pixel.pixel k c.in_ok-buffers.buffers.kept) (sym c.header-header.ensures.value) c.in_ok-buffers.ensures in
     over_predicts g.T.Pixel.num h leaves fi plan is g.T.Pixel.pixel g.met.T.Pixel.num_of_pixel g.met.T.Pixel.pixel_of_num c.in_ok-planes.planes
     walk.new.planes c.in_ok-buffers.buffers.kept walk.new.buffers.kept (cell_at c.in_ok-cells.cells) made.stores made.room empty
-    (walk.ensures.predictions plan (over_serves g.T.Pixel.num h leaves fi plan is))
+    (walk.ensures.predictions (scene plan) (over_serves g.T.Pixel.num h leaves from (scene plan) plan tile))

@@ -6,7 +6,7 @@ use Rattle.av1_tile.proofs.Keeping.{no_whole_kept, whole_is_kept}
 use Rattle.av1_tile.proofs.walk.keep_whole.Goals as goal
 
 pub keep-requires : goal.keep-requires
-keep-requires g c = subst (λ (a : VisibleArea). InPlane a c.args.plane.now) (sym (ap visible_in c.whole_area.ensures)) c.requires.fits
+keep-requires g c = subst (λ (a : VisibleArea). InPlane a c.args.plane.now) (sym (ap visible_in c.whole_area.ensures.value)) c.requires.fits
 
 pub returns-then-not-is_whole : goal.returns-then-not-is_whole
 returns-then-not-is_whole g c =
@@ -21,4 +21,4 @@ returns g c =
     let block = a.block.now in
     let whole : c.is_whole.result ≡ true = grind (arith, tests, c.if-not-is_whole.false) in
     whole_is_kept g.T.Pixel.num g.T.Pixel.pixel block.plane a.plane.now a.kept.now block c.keep.new.self c.whole_area.result
-    (sym c.is_whole.ensures ∙ whole) c.whole_area.ensures c.keep.ensures
+    (sym c.is_whole.ensures ∙ whole) c.whole_area.ensures.value c.keep.ensures

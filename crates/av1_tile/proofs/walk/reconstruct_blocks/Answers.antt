@@ -3,9 +3,9 @@ use Rattle.std.specs.List.{fold}
 use Rattle.av1_blocks.specs.Transforms.{tx_width}
 use Rattle.av1_frame.specs.declared.plane.Plane.{Plane}
 use Rattle.av1_intra.specs.ChromaFromLuma.{ac_at}
-use Rattle.av1_plan.specs.Plan.{PlanValue}
 use Rattle.av1_plan.specs.Geometry.{block_count, transform_block}
 use Rattle.av1_tile.specs.declared.plane_block.PlaneBlock.{PlaneBlock}
+use Rattle.av1_tile.specs.Reference.{Scene}
 use Rattle.av1_tile.specs.Predicted.{keeping_in}
 use Rattle.av1_tile.specs.Steps.{joined, steps_at}
 use Rattle.av1_tile.specs.Walk.{Stores, edges_in, fast_in, with_header}
@@ -50,8 +50,8 @@ loop-n-preserved g c =
     let block = a.block.now in
     let all = a.triples.now in
     let luma : PlaneBlock → ℕ → ℕ → ℤ = λ _. ac_at (tx_width block.area.tx_size) a.buffers.now.luma.items in
-    let step = λ (value : PlanValue). fast_in g.T.Pixel.num g.T.Pixel.pixel (with_header h value) block.plane luma in
-    let keep = λ (value : PlanValue). keeping_in g.T.Pixel.num g.T.Pixel.pixel (with_header h value) block.plane luma in
+    let step = λ (value : Scene). fast_in g.T.Pixel.num g.T.Pixel.pixel (with_header h value) block.plane luma in
+    let keep = λ (value : Scene). keeping_in g.T.Pixel.num g.T.Pixel.pixel (with_header h value) block.plane luma in
     let n = c.loop-n.n in
     let at = c.loop-n.at in
     let count = c.leading_count.result in
@@ -72,9 +72,9 @@ loop-n-preserved g c =
       own = c.leading_count.ensures.own;
       end = c.leading_count.ensures.end;
     } in
-    let turn : ((value : PlanValue) → after ≡ fold (step value) before (steps_at h block all n)) × (edges_after ≡ fold edges_in edges (steps_at h block all n))
+    let turn : ((value : Scene) → after ≡ fold (step value) before (steps_at h block all n)) × (edges_after ≡ fold edges_in edges (steps_at h block all n))
     × Stores g.T.Pixel.num h block.plane after × (after.plane_cfg ≡ before.plane_cfg) × (c.match-place_in.buffers.luma.items ≡ c.loop-n.buffers.luma.items)
-    × ((value : PlanValue) → (after, kept_after) ≡ fold (keep value) (before, kept) (steps_at h block all n)) =
+    × ((value : Scene) → (after, kept_after) ≡ fold (keep value) (before, kept) (steps_at h block all n)) =
     elim c.match-place_in.branch [
       | in-Some w ↦
           let number : w.in-Some.place.number ≡ n = w.in-Some.ensures.some.1 in

@@ -12,7 +12,8 @@ use Rattle.av1_tile.proofs.Lifts.{whole_steps_same}
 use Rattle.av1_tile.proofs.walk.reconstruct_plane_block.Goals as goal
 
 pub predict_whole-requires-clause-depth : goal.predict_whole-requires-clause-depth
-predict_whole-requires-clause-depth g c = omega (arith, c.requires.frame.references.1.settings.depth, c.requires.frame.depth)
+predict_whole-requires-clause-depth g c =
+    let own = c.requires.frame.references.1 in omega (arith, own.serves.settings.depth, own.depth, c.requires.frame.depth)
 
 pub predict_whole-requires-clause-fits : goal.predict_whole-requires-clause-fits
 predict_whole-requires-clause-fits g c =
@@ -30,10 +31,10 @@ keep_whole-requires g c =
     let plan = with_header a.frame.now.header.now own.0 in
     let whole = c.predict_whole.ensures plan own.1 c.requires.fits.prediction in
     let stores =
-    whole_between g.T.Pixel.num g.T.Pixel.pixel g.met.T.Pixel.num_of_pixel g.met.T.Pixel.pixel_of_num plan a.frame.now.fi.now own.1 a.block.now
+    whole_between g.T.Pixel.num g.T.Pixel.pixel g.met.T.Pixel.num_of_pixel g.met.T.Pixel.pixel_of_num plan a.frame.now.from.now own.1 a.block.now
     c.requires.plane c.requires.fits.prediction a.plane.now c.predict_whole.new.plane whole c.requires.stores in
     let laid =
-    whole_layout g.T.Pixel.num g.T.Pixel.pixel g.met.T.Pixel.num_of_pixel g.met.T.Pixel.pixel_of_num plan a.frame.now.fi.now own.1 a.block.now
+    whole_layout g.T.Pixel.num g.T.Pixel.pixel g.met.T.Pixel.num_of_pixel g.met.T.Pixel.pixel_of_num plan a.frame.now.from.now own.1 a.block.now
     c.requires.plane c.requires.fits.prediction a.plane.now c.predict_whole.new.plane whole in
     record {
       fits = whole_inside plan.header a.block.now a.triples.now c.predict_whole.new.plane stores.place
@@ -48,7 +49,7 @@ reconstruct_blocks-requires-clause-held g c =
     record {
       frame = c.requires.frame.header;
       depth = c.requires.frame.depth;
-      stores = whole_between g.T.Pixel.num g.T.Pixel.pixel g.met.T.Pixel.num_of_pixel g.met.T.Pixel.pixel_of_num plan a.frame.now.fi.now own.1 a.block.now
+      stores = whole_between g.T.Pixel.num g.T.Pixel.pixel g.met.T.Pixel.num_of_pixel g.met.T.Pixel.pixel_of_num plan a.frame.now.from.now own.1 a.block.now
           c.requires.plane c.requires.fits.prediction a.plane.now c.predict_whole.new.plane
           (c.predict_whole.ensures plan own.1 c.requires.fits.prediction) c.requires.stores;
     }
@@ -59,7 +60,7 @@ reconstruct_blocks-requires-clause-fits g c =
     let own = c.requires.frame.references in
     let plan = with_header a.frame.now.header.now own.0 in
     let laid =
-    whole_layout g.T.Pixel.num g.T.Pixel.pixel g.met.T.Pixel.num_of_pixel g.met.T.Pixel.pixel_of_num plan a.frame.now.fi.now own.1 a.block.now
+    whole_layout g.T.Pixel.num g.T.Pixel.pixel g.met.T.Pixel.num_of_pixel g.met.T.Pixel.pixel_of_num plan a.frame.now.from.now own.1 a.block.now
     c.requires.plane c.requires.fits.prediction
     a.plane.now c.predict_whole.new.plane (c.predict_whole.ensures plan own.1 c.requires.fits.prediction) in
     fits_laid plan.header a.block.now a.triples.now a.plane.now.plane_cfg c.predict_whole.new.plane.plane_cfg laid c.requires.fits
@@ -73,7 +74,7 @@ returns-then-is_only_predicted-clause-walked g c = λ value serves.
     let step = fast_in g.T.Pixel.num g.T.Pixel.pixel plan block.plane luma in
     let between = c.predict_whole.new.plane in
     let stores =
-    whole_between g.T.Pixel.num g.T.Pixel.pixel g.met.T.Pixel.num_of_pixel g.met.T.Pixel.pixel_of_num plan a.frame.now.fi.now serves block
+    whole_between g.T.Pixel.num g.T.Pixel.pixel g.met.T.Pixel.num_of_pixel g.met.T.Pixel.pixel_of_num plan a.frame.now.from.now serves block
     c.requires.plane c.requires.fits.prediction a.plane.now between (c.predict_whole.ensures plan serves c.requires.fits.prediction) c.requires.stores in
     all_steps step plan.header block a.triples.now a.plane.now between between
     (c.predict_whole.ensures plan serves c.requires.fits.prediction
@@ -95,9 +96,9 @@ returns-then-is_only_predicted-clause-kept g c =
     let plan = with_header a.frame.now.header.now own.0 in
     let whole = c.predict_whole.ensures plan own.1 c.requires.fits.prediction in
     record {
-      stores = whole_between g.T.Pixel.num g.T.Pixel.pixel g.met.T.Pixel.num_of_pixel g.met.T.Pixel.pixel_of_num plan a.frame.now.fi.now own.1 a.block.now
+      stores = whole_between g.T.Pixel.num g.T.Pixel.pixel g.met.T.Pixel.num_of_pixel g.met.T.Pixel.pixel_of_num plan a.frame.now.from.now own.1 a.block.now
           c.requires.plane c.requires.fits.prediction a.plane.now c.predict_whole.new.plane whole c.requires.stores;
-      config = whole_layout g.T.Pixel.num g.T.Pixel.pixel g.met.T.Pixel.num_of_pixel g.met.T.Pixel.pixel_of_num plan a.frame.now.fi.now own.1 a.block.now
+      config = whole_layout g.T.Pixel.num g.T.Pixel.pixel g.met.T.Pixel.num_of_pixel g.met.T.Pixel.pixel_of_num plan a.frame.now.from.now own.1 a.block.now
           c.requires.plane c.requires.fits.prediction a.plane.now c.predict_whole.new.plane whole;
     }
 
@@ -129,7 +130,7 @@ returns-clause-kept g c =
     record {
       stores = c.reconstruct_blocks.ensures.kept.stores;
       config = c.reconstruct_blocks.ensures.kept.config
-          ∙ whole_layout g.T.Pixel.num g.T.Pixel.pixel g.met.T.Pixel.num_of_pixel g.met.T.Pixel.pixel_of_num plan a.frame.now.fi.now own.1 a.block.now
+          ∙ whole_layout g.T.Pixel.num g.T.Pixel.pixel g.met.T.Pixel.num_of_pixel g.met.T.Pixel.pixel_of_num plan a.frame.now.from.now own.1 a.block.now
           c.requires.plane c.requires.fits.prediction a.plane.now c.predict_whole.new.plane
           (c.predict_whole.ensures plan own.1 c.requires.fits.prediction);
     }
@@ -144,7 +145,7 @@ returns-then-is_only_predicted-clause-predictions g c = λ value serves.
     let kept = c.keep_whole.new.kept in
     let whole = c.predict_whole.ensures plan serves c.requires.fits.prediction in
     let stores =
-    whole_between g.T.Pixel.num g.T.Pixel.pixel g.met.T.Pixel.num_of_pixel g.met.T.Pixel.pixel_of_num plan a.frame.now.fi.now serves block
+    whole_between g.T.Pixel.num g.T.Pixel.pixel g.met.T.Pixel.num_of_pixel g.met.T.Pixel.pixel_of_num plan a.frame.now.from.now serves block
     c.requires.plane c.requires.fits.prediction a.plane.now between whole c.requires.stores in
     all_steps (keeping_in g.T.Pixel.num g.T.Pixel.pixel plan block.plane luma) plan.header block a.triples.now (a.plane.now, a.buffers.now.kept)
     (between, kept) (between, kept)

@@ -1,4 +1,4 @@
-use Rattle.std.proofs.Common.{ap, subst, sym, ◌∙◌, ◌≤◌, arith}
+use Rattle.std.proofs.Common.{ap, subst, sym, ◌∙◌, arith}
 use Rattle.av1_plan.specs.declared.header.Header.{Header}
 use Rattle.av1_plan.specs.Values.{plan_value}
 use Rattle.av1_tile.specs.Memory.{HasRoomFor}
@@ -10,19 +10,16 @@ use Rattle.av1_tiles.proofs.Isolation.{tile_header_is}
 use Rattle.av1_tiles.proofs.Shown.{tile_put}
 use Rattle.av1_tiles.proofs.frame.reconstruct_in.Goals as goal
 
-pub reconstruct_alone-requires-clause-depth : goal.reconstruct_alone-requires-clause-depth
-reconstruct_alone-requires-clause-depth g c =
-    subst (λ (h : Header). h.depth ≤ g.T.Pixel.BITS)
-    (tile_header_is (file_value c.args.file.now) c.args.index (plan_value c.in_ok-plan.plan) c.in_ok-plan.ensures.found) c.requires.depth
-
-pub reconstruct_alone-requires-clause-room : goal.reconstruct_alone-requires-clause-room
-reconstruct_alone-requires-clause-room g c =
+pub reconstruct_picture-requires-clause-room : goal.reconstruct_picture-requires-clause-room
+reconstruct_picture-requires-clause-room g c =
     let front = c.args.file.now.front in
     let area = tile_area (front_value front) c.args.index in
     let is = area_is front c.requires.read.front c.args.index c.requires.tile in
     subst (λ (h : Header). HasRoomFor h c.args.memory.now)
     (tile_header_is (file_value c.args.file.now) c.args.index (plan_value c.in_ok-plan.plan) c.in_ok-plan.ensures.found)
-    (room_within front.header (tile_header front.header area) c.args.memory.now (omega (arith, is.columns)) (omega (arith, is.rows)) c.requires.room)
+    (room_within front.header (tile_header front.header area) c.args.memory.now
+    (omega (arith, is.columns, c.requires.read.front.frame.width.whole, c.requires.read.front.frame.shown_width.within))
+    (omega (arith, is.rows, c.requires.read.front.frame.height.whole, c.requires.read.front.frame.shown_height.within)) c.requires.room)
 
 pub place_tile-requires-clause-made : goal.place_tile-requires-clause-made
 place_tile-requires-clause-made g c =

@@ -8,10 +8,14 @@ use Rattle.av1_tiles.proofs.joined.join_tiles.Goals as goal
 pub loop-index-init : goal.loop-index-init
 loop-index-init g c =
     record {
+      seen = c.in_ok-seen.ensures;
       room = c.in_ok-memory.ensures.room;
       planes = (let s = c.in_ok-planes.ensures.stores in record { y = s.y.place; u = s.u.place; v = s.v.place });
       shown = none_shown (file_value c.args.file.now) (samples_of g.T.Pixel.num c.in_ok-planes.planes);
     }
+
+pub reconstruct_in-requires-clause-seen : goal.reconstruct_in-requires-clause-seen
+reconstruct_in-requires-clause-seen g c = c.loop-index.invariant.seen
 
 pub reconstruct_in-requires-clause-planes : goal.reconstruct_in-requires-clause-planes
 reconstruct_in-requires-clause-planes g c = c.loop-index.invariant.planes
@@ -28,6 +32,7 @@ loop-index-preserved g c =
     let lt : c.loop-index.index < count_tiles (front_value c.args.file.now.front) =
     omega (arith, c.loop-index-test.true, c.len-index-end.ensures, c.requires.read.count) in
     record {
+      seen = c.loop-index.invariant.seen;
       room = omega (arith, c.in_default.ensures.cells, c.loop-index.invariant.room);
       planes = c.in_default.ensures.planes;
       shown = one_more (file_value c.args.file.now) c.loop-index.index (samples_of g.T.Pixel.num c.loop-index.planes)

@@ -1,44 +1,30 @@
-use Rattle.std.proofs.Common.{ap, ◌∙◌}
 use Rattle.av1_plan.specs.Values.{leaves_value}
-use Rattle.av1_tile.specs.Memory.{WalkRoom}
-use Rattle.av1_tile.specs.State.{edges_of}
-use Rattle.av1_tile.specs.Walk.{cell_at}
-use Rattle.av1_tile.proofs.PlansOver.{over_counts, over_fits, over_frame, over_serves, over_shows}
+use Rattle.av1_tile.specs.Reference.{scene}
+use Rattle.av1_tile.proofs.PlansOver.{over_plan, whole_over}
 use Rattle.av1_tile.proofs.memory.WalkMemory.reconstruct.Goals as goal
 
-pub reconstruct_leaves-requires-clause-held : goal.reconstruct_leaves-requires-clause-held
-reconstruct_leaves-requires-clause-held g c =
+pub reconstruct_tile-requires-clause-tile : goal.reconstruct_tile-requires-clause-tile
+reconstruct_tile-requires-clause-tile g c =
     let a = c.args in
-    record {
-      frame = over_frame g.T.Pixel.num a.header.now (leaves_value a.leaves.now) a.fi.now c.requires.plan.0 c.requires.plan.1;
-      depth = c.requires.depth;
-      stores = c.requires.stores;
-    }
-
-pub reconstruct_leaves-requires-clause-fits : goal.reconstruct_leaves-requires-clause-fits
-reconstruct_leaves-requires-clause-fits g c =
-    let a = c.args in
-    over_fits g.T.Pixel.num a.header.now (leaves_value a.leaves.now) a.fi.now c.requires.plan.0 c.requires.plan.1 a.planes.now c.requires.superblocks
-
-pub reconstruct_leaves-requires-clause-references : goal.reconstruct_leaves-requires-clause-references
-reconstruct_leaves-requires-clause-references g c =
-    let a = c.args in
-    (c.requires.plan.0, over_serves g.T.Pixel.num a.header.now (leaves_value a.leaves.now) a.fi.now c.requires.plan.0 c.requires.plan.1)
+    let plan = c.requires.plan in (
+      scene plan.0,
+      (
+        plan.0,
+        whole_over c.whole.result c.whole.ensures.whole g.T.Pixel.num a.header.now (leaves_value a.leaves.now) a.fi.now plan.0 c.whole.ensures.frame plan.1,
+      ),
+    )
 
 pub returns-clause-shown : goal.returns-clause-shown
 returns-clause-shown g c = λ plan is.
     let a = c.args in
     let h = a.header.now in
     let leaves = leaves_value a.leaves.now in
-    let walk = c.reconstruct_leaves in
-    over_shows g.T.Pixel.num h leaves a.fi.now plan is g.T.Pixel.pixel g.met.T.Pixel.num_of_pixel g.met.T.Pixel.pixel_of_num a.planes.now walk.new.planes
-    (cell_at c.lay_out.new.self) c.requires.stores c.requires.superblocks walk.ensures.kept.stores
-    (walk.ensures.walked plan (over_serves g.T.Pixel.num h leaves a.fi.now plan is))
+    let walk = c.reconstruct_tile in
+    over_plan g.T.Pixel.num h leaves a.fi.now plan is walk.new.planes (walk.ensures.shown (scene plan) plan
+    (whole_over c.whole.result c.whole.ensures.whole g.T.Pixel.num h leaves a.fi.now plan c.whole.ensures.frame is))
 
 pub returns-clause-edges : goal.returns-clause-edges
 returns-clause-edges g c = λ plan is.
     let a = c.args in
-    let walk = c.reconstruct_leaves in
-    over_counts g.T.Pixel.num a.header.now (leaves_value a.leaves.now) a.fi.now plan is c.self.inside.buffers.edges.prepared
-    walk.new.buffers.edges.prepared (cell_at c.lay_out.new.self) walk.ensures.counted
-    ∙ ap (λ (r : WalkRoom). edges_of r.edges plan) c.self.view_is
+    c.reconstruct_tile.ensures.edges (scene plan) plan
+    (whole_over c.whole.result c.whole.ensures.whole g.T.Pixel.num a.header.now (leaves_value a.leaves.now) a.fi.now plan c.whole.ensures.frame is)
