@@ -53,12 +53,15 @@ mod place;
 mod region;
 mod sys;
 mod tested;
+mod tile;
 mod transform;
 mod version;
 
 pub use builder::{BuildError, Coefficient, Header, Leaf, Motion, PlanBuilder};
 pub use intra::{IntraBlock, predict_cfl_8, predict_cfl_16, predict_intra_8, predict_intra_16};
-pub use intra_edge::{ANY_MODE, EDGE_SAMPLES, EdgeBlock, EdgePlane, intra_edge_8, intra_edge_16};
+pub use intra_edge::{
+    ANY_MODE, EDGE_SAMPLES, EdgeBlock, EdgePlane, IntraEdge, intra_edge_8, intra_edge_16,
+};
 pub use intra_plane::{FROM_LUMA, predict_in_plane_8, predict_in_plane_16};
 pub use luma::{CflBlock, LumaBlock, cfl_ac_8, cfl_ac_16, cfl_block_of};
 pub use motion::{
@@ -72,8 +75,9 @@ pub use motion_place::{
 pub use neighbours::{Neighbours, angle_step, smooth_neighbour};
 pub use parts::{Difference, reconstruct_sequence, reconstruct_tiles, trace_differences};
 pub use place::Place;
-pub use region::RegionMut;
+pub use region::{BlockRoom, Region, RegionMut};
 pub use tested::{Tested, prep_tested_16, put_tested_16};
+pub use tile::{predict_in_tile_8, predict_in_tile_16};
 pub use transform::{
     TransformBlock, TransformScratch, inverse_transform_add_8, inverse_transform_add_16,
     inverse_transform_add_clamped_16,
