@@ -21,6 +21,16 @@ use std::sync::Arc;
 /// assert!(matches!(Tested::new(vec![1023, 1024], 10), Err(Error::BadSample)));
 /// # Ok::<(), Error>(())
 /// ```
+///
+/// What is lent can't be changed meanwhile:
+///
+/// ```compile_fail,E0506
+/// let mut samples = [0; 64];
+/// let tested = av1_c::Tested::new(&samples, 10)?;
+/// samples[0] = 1024;
+/// assert_eq!(tested.samples().len(), 64);
+/// # Ok::<(), av1_c::Error>(())
+/// ```
 // The owner is asked for its samples once, when they are tested, and they are looked at by that answer alone: another that it would give later plays
 // no part. They stay what they are as any slice does that a reference to the owner has given. Nobody has the owner by `&mut` or by value as long as
 // a clone of this is left, it doesn't move in memory, and it is dropped after its samples were looked at last. What it admits to those who have it by
