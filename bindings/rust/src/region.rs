@@ -33,7 +33,7 @@ impl<T> Default for BlockRoom<T> {
 }
 
 // Rows of samples: where the first begins, how far they stand apart, and how many there are of how many samples. What is done with one by way of
-// `row` or `rows` is for those who know that its samples are there, and theirs.
+// `row` or `copy_to` is for those who know that its samples are there, and theirs.
 struct Rows<T> {
     first: *mut T,
     stride: isize,

@@ -148,7 +148,8 @@ macro_rules! tile_calls {
             plane: &EdgePlane,
             block: &EdgeBlock,
             smooth_neighbour: bool,
-            (ac, alpha): (&[i16], i16),
+            ac: &[i16],
+            alpha: i16,
         ) -> Result<(), Error> {
             let window = Window::new((tile.width(), tile.height()), plane, block)?;
             let samples = window.load(&tile.as_region(), room);

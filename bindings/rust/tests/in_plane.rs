@@ -240,7 +240,7 @@ fn a_tile_is_as_good_as_its_plane() -> Result<(), Error> {
         assert_eq!(in_plane.left(), in_tile.left(), "{it:?}");
         assert_eq!(in_plane.corner(), in_tile.corner(), "{it:?}");
         assert_eq!(in_plane.above(), in_tile.above(), "{it:?}");
-        predict_in_tile_8(tile, room, &PLANE, &it, true, (&[], 0))?;
+        predict_in_tile_8(tile, room, &PLANE, &it, true, &[], 0)?;
         assert_eq!(one, two, "{it:?}");
     }
     Ok(())
@@ -255,7 +255,7 @@ fn a_tile_of_16_bits_is_as_good_as_its_plane() -> Result<(), Error> {
         let mut expected = before.clone();
         let (mut one, mut two, mut three) = (before.clone(), before.clone(), before.clone());
         predict_in_plane_16(&mut expected, &PLANE, &it, true, &[], 0)?;
-        predict_in_tile_16(&mut tile_of(&mut one), room, &PLANE, &it, true, (&[], 0))?;
+        predict_in_tile_16(&mut tile_of(&mut one), room, &PLANE, &it, true, &[], 0)?;
         edge.prepare_in_tile(&tile_of(&mut two).as_region(), room, &PLANE, &it)?;
         edge.predict(&mut two, place(&it), it.mode, it.angle_step, true)?;
         edge.prepare(&before, &PLANE, &it)?;
@@ -329,7 +329,7 @@ fn tiles_end_anywhere() -> Result<(), Error> {
             predict_in_plane_8(&mut one, &plane, &it, true, &[], 0)?;
             let mut tile = RegionMut::new(&mut two, 8 * 48 + 4, 48, 36, 36)?;
             edge.prepare_in_tile(&tile.as_region(), room, &plane, &it)?;
-            predict_in_tile_8(&mut tile, room, &plane, &it, true, (&[], 0))?;
+            predict_in_tile_8(&mut tile, room, &plane, &it, true, &[], 0)?;
             assert_eq!(one, two, "{plane:?} {it:?}");
             let at = Place {
                 stride: 48,
@@ -386,7 +386,8 @@ fn an_edge_serves_the_modes_that_it_is_prepared_for() -> Result<(), Error> {
         &PLANE,
         &bad,
         false,
-        (&[], 0),
+        &[],
+        0,
     );
     assert_eq!(refused, Err(Error::BadArea));
     let bad = EdgeBlock { tx_size: 19, ..it };
@@ -396,7 +397,8 @@ fn an_edge_serves_the_modes_that_it_is_prepared_for() -> Result<(), Error> {
         &PLANE,
         &bad,
         false,
-        (&[], 0),
+        &[],
+        0,
     );
     assert_eq!(refused, Err(Error::BadSize));
     assert_eq!(samples, before);
@@ -423,7 +425,8 @@ fn chroma_is_predicted_from_an_edge_that_is_kept() -> Result<(), Error> {
             &PLANE,
             &luma,
             false,
-            (&ac, -6),
+            &ac,
+            -6,
         )?;
         assert!(one == two && one == three);
     }

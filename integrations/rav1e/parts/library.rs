@@ -97,9 +97,9 @@ unsafe fn same<T, U>(numbers: &[T]) -> &[U] {
 /// Whether a frame with several tiles was begun.
 static TILED: AtomicBool = AtomicBool::new(false);
 
-/// A frame of so many tiles is to be coded.
+/// A frame of so many tiles is to be coded.  Where LIBRARY_REGIONS is set one tile counts as several.
 pub fn begin(tiles: usize) {
-  if tiles > 1 {
+  if tiles > 1 || setting("LIBRARY_REGIONS").is_some() {
     TILED.store(true, Ordering::Relaxed);
   }
 }
@@ -318,20 +318,20 @@ pub fn predict<T: Pixel>(
 ) {
   let plane = tile_of(tile.plane_cfg, tile.rect());
   let block = transform.in_plane(mode as u8, step_of(mode, param));
-  let (smooth, luma) = (smooth(filter), (ac, weight_of(param)));
+  let (smooth, weight) = (smooth(filter), weight_of(param));
   match (T::type_enum(), tiled()) {
     (PixelType::U8, true) => u8::with_room(|room| {
-      call!(predict_in_tile_8(&mut region_mut(tile), room, &plane, &block, smooth, luma))
+      call!(predict_in_tile_8(&mut region_mut(tile), room, &plane, &block, smooth, ac, weight))
     }),
     (PixelType::U16, true) => u16::with_room(|room| {
-      call!(predict_in_tile_16(&mut region_mut(tile), room, &plane, &block, smooth, luma))
+      call!(predict_in_tile_16(&mut region_mut(tile), room, &plane, &block, smooth, ac, weight))
     }),
     // SAFETY: no frame has several tiles.
     (PixelType::U8, false) => {
-      call!(predict_in_plane_8(unsafe { samples_of_mut(tile) }.0, &plane, &block, smooth, luma.0, luma.1))
+      call!(predict_in_plane_8(unsafe { samples_of_mut(tile) }.0, &plane, &block, smooth, ac, weight))
     }
     (PixelType::U16, false) => {
-      call!(predict_in_plane_16(unsafe { samples_of_mut(tile) }.0, &plane, &block, smooth, luma.0, luma.1))
+      call!(predict_in_plane_16(unsafe { samples_of_mut(tile) }.0, &plane, &block, smooth, ac, weight))
     }
   }
 }
