@@ -1,6 +1,10 @@
 //! The edge of a transform, from which an intra mode predicts it, prepared in memory of the caller.
 
-use crate::{Error, sys, told};
+use crate::tile::Window;
+use crate::{
+    BlockRoom, Error, FROM_LUMA, IntraBlock, Place, Region, predict_cfl_8, predict_cfl_16,
+    predict_intra_8, predict_intra_16, sys, told,
+};
 
 /// How many samples the room of an edge has: 128 to the left, the corner, and 128 above.
 pub const EDGE_SAMPLES: usize = 257;
@@ -100,3 +104,185 @@ macro_rules! edge_calls {
 
 edge_calls!(u8, av1_intra_edge_8, intra_edge_8);
 edge_calls!(u16, av1_intra_edge_16, intra_edge_16);
+
+/// The edge of a transform, from which modes predict it: its samples, which no caller has to fill, and what is known of its sides. It is made once and
+/// used again.
+///
+/// ```
+/// use av1_c::{ANY_MODE, EdgeBlock, EdgePlane, IntraEdge, Place};
+/// # let plane = EdgePlane { stride: 16, x: 0, y: 0, width: 16, height: 16, tile_x: 0, tile_y: 0, tile_width: 16, tile_height: 16,
+/// #     halved_columns: 0, halved_rows: 0 };
+/// # let block = EdgeBlock { x: 8, y: 8, cell_x: 2, cell_y: 2, unit_x: 0, unit_y: 0, block_size: 3, tx_size: 1, mode: ANY_MODE, angle_step: 0,
+/// #     bit_depth: 8, edge_filter: 1 };
+/// let mut samples = [7u8; 16 * 16];
+/// let mut edge = IntraEdge::<u8>::new();
+/// edge.prepare(&samples, &plane, &block)?;
+/// for mode in 0..=12 {
+///     edge.predict(&mut samples, Place { stride: 16, x: 8, y: 8 }, mode, 0, false)?;
+/// }
+/// # Ok::<(), av1_c::Error>(())
+/// ```
+#[derive(Clone, Debug)]
+pub struct IntraEdge<T> {
+    samples: [T; EDGE_SAMPLES],
+    // The transform as a block that is predicted, by the mode that the edge is prepared for.
+    prepared: Option<IntraBlock>,
+}
+
+impl<T: Copy + Default> IntraEdge<T> {
+    /// An edge that isn't prepared yet.
+    pub fn new() -> IntraEdge<T> {
+        IntraEdge {
+            samples: [T::default(); EDGE_SAMPLES],
+            prepared: None,
+        }
+    }
+}
+
+impl<T: Copy + Default> Default for IntraEdge<T> {
+    fn default() -> IntraEdge<T> {
+        IntraEdge::new()
+    }
+}
+
+impl<T: Copy> IntraEdge<T> {
+    // What is known of a transform whose edge could be prepared: its tile lies in the plane, and it begins in the tile.
+    fn know(&mut self, plane: &EdgePlane, block: &EdgeBlock) {
+        self.prepared = Some(IntraBlock {
+            mode: block.mode,
+            tx_size: block.tx_size,
+            angle_step: block.angle_step,
+            bit_depth: block.bit_depth,
+            has_left: u8::from(block.x > 0),
+            has_above: u8::from(block.y > 0),
+            edge_filter: block.edge_filter,
+            smooth_neighbour: 0,
+            visible_columns: plane.width - plane.tile_x - block.x,
+            visible_rows: plane.height - plane.tile_y - block.y,
+        });
+    }
+
+    // The block to be predicted by a mode: one that the edge is prepared for.
+    fn block_of(&self, mode: u8, angle_step: i8) -> Result<IntraBlock, Error> {
+        let known = self.prepared.ok_or(Error::TooShort)?;
+        if known.mode == ANY_MODE {
+            return Ok(IntraBlock {
+                mode,
+                angle_step,
+                ..known
+            });
+        }
+        match (known.mode == mode, known.angle_step == angle_step) {
+            (true, true) => Ok(known),
+            (true, false) => Err(Error::BadAngle),
+            _ => Err(Error::BadMode),
+        }
+    }
+
+    /// The side to the left, from the bottom up: 128 samples, of which the last ones are prepared.
+    pub fn left(&self) -> &[T] {
+        &self.samples[..EDGE_SAMPLES / 2]
+    }
+
+    /// The sample between both sides.
+    pub fn corner(&self) -> T {
+        self.samples[EDGE_SAMPLES / 2]
+    }
+
+    /// The side above: 128 samples, of which the first ones are prepared.
+    pub fn above(&self) -> &[T] {
+        &self.samples[EDGE_SAMPLES / 2 + 1..]
+    }
+}
+
+macro_rules! edges_of {
+    ($sample:ident, $intra_edge:ident, $predict_intra:ident, $predict_cfl:ident) => {
+        impl IntraEdge<$sample> {
+            /// Prepares the edge of a transform for the mode of `block`, or for all modes by [`ANY_MODE`], whose corner no filter smooths then.
+            /// `samples` are those of the plane.
+            ///
+            /// # Errors
+            ///
+            /// `BadMode`, then `BadSize`, then `BadAngle`, then `BadDepth`, then `BadArea`. The edge is then as it was.
+            pub fn prepare(
+                &mut self,
+                samples: &[$sample],
+                plane: &EdgePlane,
+                block: &EdgeBlock,
+            ) -> Result<(), Error> {
+                $intra_edge(&mut self.samples, samples, plane, block)?;
+                self.know(plane, block);
+                Ok(())
+            }
+
+            /// The same in a tile that is a region: it begins with the first sample of the tile, and has all of the tile and of the transform. Where
+            /// the samples of `plane` stand (`stride`, `x`, `y`) is not read.
+            ///
+            /// # Errors
+            ///
+            /// `BadArea`, or as [`prepare`](Self::prepare). The edge is then as it was.
+            pub fn prepare_in_tile(
+                &mut self,
+                tile: &Region<'_, $sample>,
+                room: &mut BlockRoom<$sample>,
+                plane: &EdgePlane,
+                block: &EdgeBlock,
+            ) -> Result<(), Error> {
+                let window = Window::new((tile.width(), tile.height()), plane, block)?;
+                let samples = window.load(tile, room);
+                $intra_edge(&mut self.samples, samples, &window.plane, &window.block)?;
+                self.know(plane, block);
+                Ok(())
+            }
+
+            /// Predicts the transform from its edge by a mode, at `place` of `samples`. All other samples stay.
+            ///
+            /// # Errors
+            ///
+            /// `TooShort`: no edge is prepared. `BadMode`, `BadAngle`: it is prepared for another mode or angle. Else as the call that
+            /// predicts a block.
+            pub fn predict(
+                &self,
+                samples: &mut [$sample],
+                place: Place,
+                mode: u8,
+                angle_step: i8,
+                smooth_neighbour: bool,
+            ) -> Result<(), Error> {
+                let block = IntraBlock {
+                    smooth_neighbour: u8::from(smooth_neighbour),
+                    ..self.block_of(mode, angle_step)?
+                };
+                $predict_intra(
+                    samples,
+                    place,
+                    &block,
+                    self.left(),
+                    self.corner(),
+                    self.above(),
+                )
+            }
+
+            /// Predicts the transform, one of chroma, from its edge and from luma: by the differences `ac` of luma from its mean, row by row, and
+            /// their weight `alpha`, both in eighths. All other samples stay.
+            ///
+            /// # Errors
+            ///
+            /// `TooShort`: no edge is prepared. `BadMode`: it is prepared for a mode, and not for [`FROM_LUMA`]. Else as the call that predicts
+            /// a block of chroma.
+            pub fn predict_cfl(
+                &self,
+                samples: &mut [$sample],
+                place: Place,
+                ac: &[i16],
+                alpha: i16,
+            ) -> Result<(), Error> {
+                let block = self.block_of(FROM_LUMA, 0)?;
+                $predict_cfl(samples, place, &block, self.left(), self.above(), ac, alpha)
+            }
+        }
+    };
+}
+
+edges_of!(u8, intra_edge_8, predict_intra_8, predict_cfl_8);
+edges_of!(u16, intra_edge_16, predict_intra_16, predict_cfl_16);

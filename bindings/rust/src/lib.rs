@@ -7,9 +7,11 @@
 //! average them. [`motion_place`] tells where a vector leads, and [`put_moved_8`], [`prep_moved_8`] and their like for 16 bits follow it in a plane
 //! without pads. A reference of 16 bits that is [`Tested`] once is not looked at again by [`put_tested_16`] and [`prep_tested_16`].
 //! [`predict_intra_8`], [`predict_cfl_8`] and their like for samples of 16 bits predict a block in samples of the caller, and [`intra_edge_8`] and
-//! [`intra_edge_16`] prepare the sides from which they do; [`predict_in_plane_8`] and [`predict_in_plane_16`] do both. [`cfl_ac_8`] and [`cfl_ac_16`]
+//! [`intra_edge_16`] prepare the sides from which they do; [`predict_in_plane_8`] and [`predict_in_plane_16`] do both. An [`IntraEdge`] keeps the
+//! sides, from which several modes are then tried. [`cfl_ac_8`] and [`cfl_ac_16`]
 //! give the differences of luma from its mean, by which chroma is predicted. [`angle_step`], [`smooth_neighbour`] and [`cfl_block_of`] work out
-//! numbers that these ask for. A [`RegionMut`] is a rectangle of a plane that is split into disjoint ones, so that threads call on tiles of one plane.
+//! numbers that these ask for. A [`RegionMut`] is a rectangle of a plane that is split into disjoint ones, so that threads call on tiles of one plane:
+//! any call on a block by way of a [`BlockRoom`], and [`predict_in_tile_8`] and [`predict_in_tile_16`], which read an edge.
 //! A [`PlanBuilder`] writes a plan field by field to a buffer of the caller.
 //! [`reconstruct_tiles`] and [`reconstruct_sequence`] write the planes of a grid of tiles and of a sequence of frames to a buffer of the caller, and
 //! [`trace_differences`] lists where planes of another encoder are not those of their plan.
@@ -53,12 +55,15 @@ mod place;
 mod region;
 mod sys;
 mod tested;
+mod tile;
 mod transform;
 mod version;
 
 pub use builder::{BuildError, Coefficient, Header, Leaf, Motion, PlanBuilder};
 pub use intra::{IntraBlock, predict_cfl_8, predict_cfl_16, predict_intra_8, predict_intra_16};
-pub use intra_edge::{ANY_MODE, EDGE_SAMPLES, EdgeBlock, EdgePlane, intra_edge_8, intra_edge_16};
+pub use intra_edge::{
+    ANY_MODE, EDGE_SAMPLES, EdgeBlock, EdgePlane, IntraEdge, intra_edge_8, intra_edge_16,
+};
 pub use intra_plane::{FROM_LUMA, predict_in_plane_8, predict_in_plane_16};
 pub use luma::{CflBlock, LumaBlock, cfl_ac_8, cfl_ac_16, cfl_block_of};
 pub use motion::{
@@ -72,8 +77,9 @@ pub use motion_place::{
 pub use neighbours::{Neighbours, angle_step, smooth_neighbour};
 pub use parts::{Difference, reconstruct_sequence, reconstruct_tiles, trace_differences};
 pub use place::Place;
-pub use region::RegionMut;
+pub use region::{BlockRoom, Region, RegionMut};
 pub use tested::{Tested, prep_tested_16, put_tested_16};
+pub use tile::{predict_in_tile_8, predict_in_tile_16};
 pub use transform::{
     TransformBlock, TransformScratch, inverse_transform_add_8, inverse_transform_add_16,
     inverse_transform_add_clamped_16,

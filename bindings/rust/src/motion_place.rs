@@ -125,15 +125,15 @@ pub fn put_moved_8(
 /// # Errors
 ///
 /// `BadSize`, then `BadMode`, then `BadArea`. The samples are then as they were.
-pub fn put_moved_16(
+pub fn put_moved_16<S>(
     dst: &mut [u16],
     to: Place,
-    src: &Tested<'_>,
+    src: &Tested<S>,
     plane: &MotionPlane,
     block: &MovedBlock,
     window: &mut MotionWindow<u16>,
 ) -> Result<(), Error> {
-    // SAFETY: as above. No sample of the reference is past the depth, since all were tested when it was lent.
+    // SAFETY: as above. No sample of the reference is past the depth, since all were tested when it was made.
     told(unsafe {
         sys::av1_put_moved_16(
             dst.as_mut_ptr(),
@@ -185,14 +185,14 @@ pub fn prep_moved_8(
 /// # Errors
 ///
 /// `BadSize`, then `BadMode`, then `BadArea`, then `TooShort`. The values are then as they were.
-pub fn prep_moved_16(
+pub fn prep_moved_16<S>(
     values: &mut [i16],
-    src: &Tested<'_>,
+    src: &Tested<S>,
     plane: &MotionPlane,
     block: &MovedBlock,
     window: &mut MotionWindow<u16>,
 ) -> Result<(), Error> {
-    // SAFETY: as above. No sample of the reference is past the depth, since all were tested when it was lent.
+    // SAFETY: as above. No sample of the reference is past the depth, since all were tested when it was made.
     told(unsafe {
         sys::av1_prep_moved_16(
             values.as_mut_ptr(),

@@ -2,16 +2,248 @@
 
 use crate::{Error, Place};
 use std::marker::PhantomData;
+use std::ptr;
 use std::slice;
 
-/// A rectangle of samples that is lent to nobody else, in rows that stand `stride` samples apart. What lies between its rows may be lent to others.
-pub struct RegionMut<'a, T> {
+/// Room in which the samples of a rectangle stand side by side while a call works on them. Each thread makes its own once, and uses it again; what it
+/// holds before doesn't matter. It takes memory where a rectangle has more samples than any before it.
+pub struct BlockRoom<T>(Vec<T>);
+
+impl<T> BlockRoom<T> {
+    /// Room that has no memory yet.
+    pub const fn new() -> BlockRoom<T> {
+        BlockRoom(Vec::new())
+    }
+}
+
+impl<T: Copy + Default> BlockRoom<T> {
+    // Room for so many samples.
+    pub(crate) fn of(&mut self, count: usize) -> &mut [T] {
+        if self.0.len() < count {
+            self.0.resize(count, T::default());
+        }
+        &mut self.0[..count]
+    }
+}
+
+impl<T> Default for BlockRoom<T> {
+    fn default() -> BlockRoom<T> {
+        BlockRoom::new()
+    }
+}
+
+// Rows of samples: where the first begins, how far they stand apart, and how many there are of how many samples. What is done with one by way of
+// `row` or `copy_to` is for those who know that its samples are there, and theirs.
+struct Rows<T> {
     first: *mut T,
     stride: isize,
     width: usize,
     height: usize,
-    // The rectangle of the last call.
-    block: Vec<T>,
+}
+
+impl<T> Clone for Rows<T> {
+    fn clone(&self) -> Rows<T> {
+        *self
+    }
+}
+
+impl<T> Copy for Rows<T> {}
+
+impl<T> Rows<T> {
+    // Where column `x` of row `y` stands.
+    fn at(&self, x: usize, y: usize) -> *mut T {
+        self.first
+            .wrapping_offset(self.stride.wrapping_mul(y as isize))
+            .wrapping_add(x)
+    }
+
+    // The rows of a rectangle that lies in these.
+    fn part(&self, x: usize, y: usize, width: usize, height: usize) -> Rows<T> {
+        Rows {
+            first: self.at(x, y),
+            stride: self.stride,
+            width,
+            height,
+        }
+    }
+
+    // The same, where it does lie in these.
+    fn within(&self, x: usize, y: usize, width: usize, height: usize) -> Result<Rows<T>, Error> {
+        let fits =
+            |from: usize, count, all| matches!(from.checked_add(count), Some(end) if end <= all);
+        if fits(x, width, self.width) && fits(y, height, self.height) {
+            Ok(self.part(x, y, width, height))
+        } else {
+            Err(Error::BadArea)
+        }
+    }
+
+    // Rows that stand side by side in a slice.
+    fn of(samples: &mut [T], width: usize, height: usize) -> Rows<T> {
+        Rows {
+            first: samples.as_mut_ptr(),
+            stride: width as isize,
+            width,
+            height,
+        }
+    }
+
+    // How many samples they have.
+    fn count(&self) -> Result<usize, Error> {
+        self.width.checked_mul(self.height).ok_or(Error::BadArea)
+    }
+
+    // The samples of row `y`.
+    //
+    // Safety: they are there, and as long as 'a nobody writes them.
+    unsafe fn row<'a>(&self, y: usize) -> &'a [T] {
+        assert!(y < self.height);
+        if self.width == 0 {
+            return &[];
+        }
+        // SAFETY: as asked for.
+        unsafe { slice::from_raw_parts(self.at(0, y), self.width) }
+    }
+}
+
+impl<T: Copy> Rows<T> {
+    // Copies all samples to as many rows of as many. Rows of sides that transforms have are copied by moves of a known length.
+    //
+    // Safety: both are there and lent, these to be read and the others to be written.
+    unsafe fn copy_to(&self, to: &Rows<T>) {
+        // SAFETY: as asked for; so many samples stand in each row.
+        unsafe {
+            match self.width {
+                0 => {}
+                4 => self.copy_rows_of::<4>(to),
+                8 => self.copy_rows_of::<8>(to),
+                16 => self.copy_rows_of::<16>(to),
+                32 => self.copy_rows_of::<32>(to),
+                64 => self.copy_rows_of::<64>(to),
+                width => {
+                    for y in 0..self.height {
+                        ptr::copy_nonoverlapping(self.at(0, y), to.at(0, y), width);
+                    }
+                }
+            }
+        }
+    }
+
+    // The same for rows of `N` samples.
+    //
+    // Safety: as above.
+    unsafe fn copy_rows_of<const N: usize>(&self, to: &Rows<T>) {
+        for y in 0..self.height {
+            // SAFETY: as asked for; what is written is lent to nobody else, so that it is none of what is read.
+            unsafe { ptr::copy_nonoverlapping(self.at(0, y), to.at(0, y), N) };
+        }
+    }
+}
+
+/// A rectangle of samples that is lent to be read, in rows that stand `stride` samples apart. What lies between its rows may be written by others.
+#[derive(Clone, Copy)]
+pub struct Region<'a, T> {
+    rows: Rows<T>,
+    lent: PhantomData<&'a [T]>,
+}
+
+// SAFETY: a region is a loan of its samples, as a slice is, and of no others.
+unsafe impl<T: Sync> Send for Region<'_, T> {}
+// SAFETY: as above.
+unsafe impl<T: Sync> Sync for Region<'_, T> {}
+
+impl<'a, T> Region<'a, T> {
+    /// The rectangle of `width` by `height` samples whose first is `samples[first]`, and whose rows begin `stride` samples behind one another, or
+    /// before, where `stride` is negative. Its last row need not go on behind its own samples.
+    ///
+    /// # Errors
+    ///
+    /// `BadArea`: a sample of it is none of `samples`, or its rows overlap.
+    pub fn new(
+        samples: &'a [T],
+        first: usize,
+        stride: isize,
+        width: usize,
+        height: usize,
+    ) -> Result<Region<'a, T>, Error> {
+        if !lies_in(samples.len(), first, stride, width, height) {
+            return Err(Error::BadArea);
+        }
+        let first = samples.as_ptr().wrapping_add(first);
+        // SAFETY: all of it are samples of the slice, which is lent as long.
+        Ok(unsafe { Region::from_raw_parts(first, stride, width, height) })
+    }
+
+    /// The rectangle whose first sample `first` leads to, in a plane that others may be writing elsewhere.
+    ///
+    /// # Safety
+    ///
+    /// As long as `'a` each sample of the rectangle is there, in one allocation, and nobody writes it.
+    pub unsafe fn from_raw_parts(
+        first: *const T,
+        stride: isize,
+        width: usize,
+        height: usize,
+    ) -> Region<'a, T> {
+        Region {
+            rows: Rows {
+                first: first as *mut T,
+                stride,
+                width,
+                height,
+            },
+            lent: PhantomData,
+        }
+    }
+
+    /// How many columns it has.
+    pub fn width(&self) -> usize {
+        self.rows.width
+    }
+
+    /// How many rows it has.
+    pub fn height(&self) -> usize {
+        self.rows.height
+    }
+
+    /// The samples of row `y`.
+    ///
+    /// # Panics
+    ///
+    /// There is no such row.
+    pub fn row(&self, y: usize) -> &'a [T] {
+        // SAFETY: the samples of a row of the region are there, side by side, and lent.
+        unsafe { self.rows.row(y) }
+    }
+}
+
+impl<T: Copy + Default> Region<'_, T> {
+    /// Makes a call that reads samples of a rectangle, which is `width` by `height` and begins at column `x` of row `y`. The call is given these
+    /// samples and no others, row by row, and the place of the first.
+    ///
+    /// # Errors
+    ///
+    /// `BadArea`: the rectangle does not lie in the region. Else those of the call.
+    pub fn call<R>(
+        &self,
+        room: &mut BlockRoom<T>,
+        x: usize,
+        y: usize,
+        width: usize,
+        height: usize,
+        call: impl FnOnce(&[T], Place) -> Result<R, Error>,
+    ) -> Result<R, Error> {
+        let rows = self.rows.within(x, y, width, height)?;
+        let block = room.of(rows.count()?);
+        // SAFETY: the rows are lent to be read, and as many samples of the room to be written.
+        unsafe { rows.copy_to(&Rows::of(block, width, height)) };
+        call(block, front(width))
+    }
+}
+
+/// A rectangle of samples that is lent to nobody else, in rows that stand `stride` samples apart. What lies between its rows may be lent to others.
+pub struct RegionMut<'a, T> {
+    rows: Rows<T>,
     lent: PhantomData<&'a mut [T]>,
 }
 
@@ -37,29 +269,62 @@ impl<'a, T> RegionMut<'a, T> {
         if !lies_in(samples.len(), first, stride, width, height) {
             return Err(Error::BadArea);
         }
-        Ok(RegionMut {
-            first: samples.as_mut_ptr().wrapping_add(first),
-            stride,
-            width,
-            height,
-            block: Vec::new(),
+        let first = samples.as_mut_ptr().wrapping_add(first);
+        // SAFETY: all of it are samples of the slice, which is lent as long and to nobody else, and its rows don't overlap.
+        Ok(unsafe { RegionMut::from_raw_parts(first, stride, width, height) })
+    }
+
+    /// The rectangle whose first sample `first` leads to, in a plane of which others may have other parts: an encoder's own region as one of these.
+    ///
+    /// # Safety
+    ///
+    /// As long as `'a` each sample of the rectangle is there, in one allocation, and nobody else reads or writes it; and no two rows overlap.
+    pub unsafe fn from_raw_parts(
+        first: *mut T,
+        stride: isize,
+        width: usize,
+        height: usize,
+    ) -> RegionMut<'a, T> {
+        RegionMut {
+            rows: Rows {
+                first,
+                stride,
+                width,
+                height,
+            },
             lent: PhantomData,
-        })
+        }
+    }
+
+    // A rectangle that lies in this one. The caller sees to it that no two that are lent at once overlap.
+    fn part<'b>(&self, x: usize, y: usize, width: usize, height: usize) -> RegionMut<'b, T> {
+        RegionMut {
+            rows: self.rows.part(x, y, width, height),
+            lent: PhantomData,
+        }
     }
 
     /// How many columns it has.
     pub fn width(&self) -> usize {
-        self.width
+        self.rows.width
     }
 
     /// How many rows it has.
     pub fn height(&self) -> usize {
-        self.height
+        self.rows.height
     }
 
     /// The same, for less long.
     pub fn reborrow(&mut self) -> RegionMut<'_, T> {
-        self.part(0, 0, self.width, self.height)
+        self.part(0, 0, self.width(), self.height())
+    }
+
+    /// The same, to be read.
+    pub fn as_region(&self) -> Region<'_, T> {
+        Region {
+            rows: self.rows,
+            lent: PhantomData,
+        }
     }
 
     /// The first `columns` columns, and the others.
@@ -68,10 +333,10 @@ impl<'a, T> RegionMut<'a, T> {
     ///
     /// There are fewer.
     pub fn split_columns(self, columns: usize) -> (RegionMut<'a, T>, RegionMut<'a, T>) {
-        assert!(columns <= self.width);
+        assert!(columns <= self.width());
         (
-            self.part(0, 0, columns, self.height),
-            self.part(columns, 0, self.width - columns, self.height),
+            self.part(0, 0, columns, self.height()),
+            self.part(columns, 0, self.width() - columns, self.height()),
         )
     }
 
@@ -81,10 +346,10 @@ impl<'a, T> RegionMut<'a, T> {
     ///
     /// There are fewer.
     pub fn split_rows(self, rows: usize) -> (RegionMut<'a, T>, RegionMut<'a, T>) {
-        assert!(rows <= self.height);
+        assert!(rows <= self.height());
         (
-            self.part(0, 0, self.width, rows),
-            self.part(0, rows, self.width, self.height - rows),
+            self.part(0, 0, self.width(), rows),
+            self.part(0, rows, self.width(), self.height() - rows),
         )
     }
 
@@ -94,12 +359,7 @@ impl<'a, T> RegionMut<'a, T> {
     ///
     /// There is no such row.
     pub fn row(&self, y: usize) -> &[T] {
-        assert!(y < self.height);
-        if self.width == 0 {
-            return &[];
-        }
-        // SAFETY: the samples of a row of the region are there, side by side, and are lent as long as it is borrowed.
-        unsafe { slice::from_raw_parts(self.at(0, y), self.width) }
+        self.as_region().row(y)
     }
 
     /// The same, to be changed.
@@ -108,48 +368,52 @@ impl<'a, T> RegionMut<'a, T> {
     ///
     /// There is no such row.
     pub fn row_mut(&mut self, y: usize) -> &mut [T] {
-        assert!(y < self.height);
-        if self.width == 0 {
+        assert!(y < self.height());
+        if self.width() == 0 {
             return &mut [];
         }
-        // SAFETY: as above, and to nobody else.
-        unsafe { slice::from_raw_parts_mut(self.at(0, y), self.width) }
-    }
-
-    // Where column `x` of row `y` stands.
-    fn at(&self, x: usize, y: usize) -> *mut T {
-        self.first
-            .wrapping_offset(self.stride.wrapping_mul(y as isize))
-            .wrapping_add(x)
-    }
-
-    // A rectangle that lies in this one. The caller sees to it that no two that are lent at once overlap.
-    fn part<'b>(&self, x: usize, y: usize, width: usize, height: usize) -> RegionMut<'b, T> {
-        RegionMut {
-            first: self.at(x, y),
-            stride: self.stride,
-            width,
-            height,
-            block: Vec::new(),
-            lent: PhantomData,
-        }
+        // SAFETY: the samples of a row of the region are there, side by side, and are lent to nobody else as long as it is borrowed.
+        unsafe { slice::from_raw_parts_mut(self.rows.at(0, y), self.width()) }
     }
 }
 
-impl<T: Copy> RegionMut<'_, T> {
+impl<T: Copy + Default> RegionMut<'_, T> {
     /// Makes a call on the samples of a rectangle, which is `width` by `height` and begins at column `x` of row `y`. The call is given these samples
     /// and no others, row by row, and the place of the first; what it leaves of them becomes the rectangle, where it succeeds.
     ///
+    /// # Errors
+    ///
+    /// `BadArea`: the rectangle does not lie in the region. Else those of the call. The samples are then as they were.
+    pub fn call<R>(
+        &mut self,
+        room: &mut BlockRoom<T>,
+        x: usize,
+        y: usize,
+        width: usize,
+        height: usize,
+        call: impl FnOnce(&mut [T], Place) -> Result<R, Error>,
+    ) -> Result<R, Error> {
+        let rows = self.rows.within(x, y, width, height)?;
+        let block = room.of(rows.count()?);
+        // SAFETY: the rows are lent to be read, and as many samples of the room to be written.
+        unsafe { rows.copy_to(&Rows::of(block, width, height)) };
+        self.write(room, x, y, width, height, call)
+    }
+
+    /// The same for a call that only writes, and writes all samples of the rectangle, as each but those that add a residue. They aren't read: what the
+    /// call is given in their place doesn't matter.
+    ///
     /// ```
-    /// use av1_c::{MotionBlock, Place, RegionMut, put_8tap_8};
+    /// use av1_c::{BlockRoom, MotionBlock, Place, RegionMut, put_8tap_8};
     /// # let block = MotionBlock { width: 4, height: 4, col_frac: 0, row_frac: 0, filter_x: 0, filter_y: 0 };
     /// let reference = [7; 256];
     /// let mut plane = [0; 16 * 16];
     /// let (mut left, mut right) = RegionMut::new(&mut plane, 0, 16, 16, 16)?.split_columns(8);
     /// let from = Place { stride: 16, x: 3, y: 3 };
+    /// let put = |samples: &mut [u8], to| put_8tap_8(samples, to, &reference, from, &block);
     /// std::thread::scope(|threads| {
-    ///     threads.spawn(|| left.call(0, 0, 4, 4, |samples, to| put_8tap_8(samples, to, &reference, from, &block)));
-    ///     threads.spawn(|| right.call(4, 8, 4, 4, |samples, to| put_8tap_8(samples, to, &reference, from, &block)));
+    ///     threads.spawn(|| left.write(&mut BlockRoom::new(), 0, 0, 4, 4, put));
+    ///     threads.spawn(|| right.write(&mut BlockRoom::new(), 4, 8, 4, 4, put));
     /// });
     /// # assert_eq!((plane[0], plane[8 * 16 + 12], plane[4]), (7, 7, 0));
     /// # Ok::<(), av1_c::Error>(())
@@ -157,39 +421,47 @@ impl<T: Copy> RegionMut<'_, T> {
     ///
     /// # Errors
     ///
-    /// `BadArea`: the rectangle does not lie in the region. Else those of the call. The samples are then as they were.
-    pub fn call<R>(
+    /// As above.
+    pub fn write<R>(
         &mut self,
+        room: &mut BlockRoom<T>,
         x: usize,
         y: usize,
         width: usize,
         height: usize,
         call: impl FnOnce(&mut [T], Place) -> Result<R, Error>,
     ) -> Result<R, Error> {
-        let right = x.checked_add(width).ok_or(Error::BadArea)?;
-        let bottom = y.checked_add(height).ok_or(Error::BadArea)?;
-        if self.width < right || self.height < bottom {
-            return Err(Error::BadArea);
-        }
-        let mut block = std::mem::take(&mut self.block);
-        block.clear();
-        for row in y..bottom {
-            block.extend_from_slice(&self.row(row)[x..right]);
-        }
-        let to = Place {
-            stride: width,
-            x: 0,
-            y: 0,
-        };
-        let answer = call(&mut block, to);
-        if answer.is_ok() {
-            for row in y..bottom {
-                let start = (row - y) * width;
-                self.row_mut(row)[x..right].copy_from_slice(&block[start..start + width]);
-            }
-        }
-        self.block = block;
-        answer
+        let rows = self.rows.within(x, y, width, height)?;
+        let block = room.of(rows.count()?);
+        let answer = call(block, front(width))?;
+        // SAFETY: the rows are lent to nobody else, and as many samples of the room to be read.
+        unsafe { Rows::of(block, width, height).copy_to(&rows) };
+        Ok(answer)
+    }
+
+    // Puts a rectangle of samples, of which the first is `samples[first]` and whose rows stand `stride` apart, at column `x` of row `y`.
+    pub(crate) fn put(
+        &mut self,
+        (x, y): (usize, usize),
+        (width, height): (usize, usize),
+        samples: &[T],
+        first: usize,
+        stride: usize,
+    ) -> Result<(), Error> {
+        let from = Region::new(samples, first, stride as isize, width, height)?;
+        let to = self.rows.within(x, y, width, height)?;
+        // SAFETY: the samples are lent to be read, and the rows to nobody else.
+        unsafe { from.rows.copy_to(&to) };
+        Ok(())
+    }
+}
+
+// The place of the first of samples that stand side by side, in rows of so many.
+fn front(width: usize) -> Place {
+    Place {
+        stride: width,
+        x: 0,
+        y: 0,
     }
 }
 

@@ -127,17 +127,6 @@ fn tested_references_give_the_same_blocks() -> Result<(), Error> {
 }
 
 #[test]
-fn samples_past_the_depth_are_found() {
-    let mut reference = vec![1023; 144];
-    assert!(Tested::new(&reference, 10).is_ok());
-    assert!(matches!(Tested::new(&reference, 8), Err(Error::BadSample)));
-    assert!(matches!(Tested::new(&reference, 9), Err(Error::BadDepth)));
-    assert!(matches!(Tested::new(&[], 10), Err(Error::BadArea)));
-    reference[143] = 1024;
-    assert!(matches!(Tested::new(&reference, 10), Err(Error::BadSample)));
-}
-
-#[test]
 fn refused_blocks_leave_the_samples_alone() {
     let reference = [7; 144];
     let mut samples = [1; 64];

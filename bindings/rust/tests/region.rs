@@ -1,7 +1,7 @@
-//! Regions: split, called on, and worked on by threads.
+//! Regions: split, read, called on, and worked on by threads.
 
 use av1_c::{
-    Error, MotionBlock, Place, RegionMut, TransformBlock, TransformScratch,
+    BlockRoom, Error, MotionBlock, Place, Region, RegionMut, TransformBlock, TransformScratch,
     inverse_transform_add_8, put_8tap_8,
 };
 
@@ -9,7 +9,7 @@ const STRIDE: usize = 40;
 const COLUMNS: usize = 37;
 const ROWS: usize = 24;
 
-// A plane whose last row ends with its own samples.
+/// A plane whose last row ends with its own samples.
 fn plane() -> Vec<u8> {
     (0..STRIDE * (ROWS - 1) + COLUMNS)
         .map(|i| (i * 7) as u8)
@@ -32,7 +32,6 @@ fn rows_and_columns_are_those_of_the_plane() {
     assert_eq!(above.row(19), &plane()[19 * STRIDE + 10..][..COLUMNS - 10]);
     below.row_mut(3)[26] = 99;
     below.reborrow().row_mut(0)[0] = 98;
-    drop((left, above, below));
     let mut expected = plane();
     expected[20 * STRIDE + 10] = 98;
     *expected.last_mut().expect("there are samples") = 99;
@@ -57,7 +56,8 @@ fn a_plane_may_stand_upside_down() {
     let mut region = region.expect("it lies in the samples");
     assert_eq!(region.row(0), &plane()[last..]);
     assert_eq!(region.row(ROWS - 1), &plane()[..COLUMNS]);
-    let called = region.call(1, ROWS - 1, 2, 1, |block, to| {
+    let room = &mut BlockRoom::new();
+    let called = region.call(room, 1, ROWS - 1, 2, 1, |block, to| {
         assert_eq!((block.len(), to.stride, to.x, to.y), (2, 2, 0, 0));
         block.fill(5);
         Ok(())
@@ -86,31 +86,123 @@ fn regions_lie_in_their_samples() {
     assert_eq!(fits(13, 0, 5, usize::MAX, 1), Err(Error::BadArea));
 }
 
+/// Rows of all widths of transforms and of others are copied to a call and back, and nothing beside them.
+#[test]
+fn calls_have_just_their_rectangle() -> Result<(), Error> {
+    let room = &mut BlockRoom::new();
+    for (width, height) in [(1, 3), (4, 4), (5, 2), (8, 16), (16, 4), (32, 8), (37, 24)] {
+        let (x, y) = (COLUMNS - width, ROWS - height);
+        let at = |i: usize| (y + i / width) * STRIDE + x + i % width;
+        let (mut samples, mut expected) = (plane(), plane());
+        let mut region = whole(&mut samples);
+        region.call(room, x, y, width, height, |block, to| {
+            assert_eq!(
+                (to.stride, to.x, to.y, block.len()),
+                (width, 0, 0, width * height)
+            );
+            for (i, sample) in block.iter_mut().enumerate() {
+                assert_eq!(*sample, plane()[at(i)]);
+                *sample ^= 0x55;
+            }
+            Ok(())
+        })?;
+        (0..width * height).for_each(|i| expected[at(i)] ^= 0x55);
+        region
+            .as_region()
+            .call(room, x, y, width, height, |block, to| {
+                assert_eq!((to.stride, block.len()), (width, width * height));
+                assert!(
+                    block
+                        .iter()
+                        .enumerate()
+                        .all(|(i, sample)| *sample == expected[at(i)])
+                );
+                Ok(())
+            })?;
+        region.write(room, x, y, width, height, |block, _| {
+            block.fill(9);
+            Ok(())
+        })?;
+        (0..width * height).for_each(|i| expected[at(i)] = 9);
+        assert_eq!(samples, expected);
+    }
+    Ok(())
+}
+
+#[test]
+fn regions_are_read() {
+    let samples = plane();
+    let last = STRIDE * (ROWS - 1);
+    let read = |first, stride| Region::new(&samples, first, stride, COLUMNS, ROWS);
+    let upright = read(0, STRIDE as isize).expect("it lies in the samples");
+    let flipped = read(last, -(STRIDE as isize)).expect("it lies in the samples");
+    assert_eq!((upright.width(), upright.height()), (COLUMNS, ROWS));
+    assert!((0..ROWS).all(|y| upright.row(y) == flipped.row(ROWS - 1 - y)));
+    assert_eq!(flipped.row(0), &samples[last..]);
+    assert_eq!(read(1, STRIDE as isize).err(), Some(Error::BadArea));
+}
+
+/// Regions of an encoder's own, by pointers into a plane that it has split.
+#[test]
+fn regions_are_made_of_pointers() -> Result<(), Error> {
+    let mut samples = plane();
+    let first = samples.as_mut_ptr();
+    let place = |x: usize| first.wrapping_add(STRIDE + x);
+    // SAFETY: the two rectangles lie in the samples, side by side, and nothing else is done with the samples meanwhile.
+    let (mut left, right) = unsafe {
+        (
+            RegionMut::from_raw_parts(place(0), STRIDE as isize, 8, 4),
+            Region::from_raw_parts(place(8), STRIDE as isize, 8, 4),
+        )
+    };
+    let room = &mut BlockRoom::new();
+    let other = &mut BlockRoom::new();
+    left.write(room, 0, 0, 8, 4, |to, _| {
+        right.call(other, 0, 0, 8, 4, |from, _| {
+            to.copy_from_slice(from);
+            Ok(())
+        })
+    })?;
+    let mut expected = plane();
+    for y in 1..5 {
+        expected.copy_within(y * STRIDE + 8..y * STRIDE + 16, y * STRIDE);
+    }
+    assert_eq!(samples, expected);
+    Ok(())
+}
+
 #[test]
 fn refused_calls_leave_the_samples_alone() {
     let mut samples = plane();
     let mut region = whole(&mut samples);
-    let refused = region.call(0, 0, 4, 4, |block, _| {
+    let room = &mut BlockRoom::new();
+    let refuse = |block: &mut [u8], _| {
         block.fill(0);
         Err::<(), Error>(Error::BadMode)
-    });
-    assert_eq!(refused, Err(Error::BadMode));
+    };
+    assert_eq!(region.call(room, 0, 0, 4, 4, refuse), Err(Error::BadMode));
+    assert_eq!(region.write(room, 0, 0, 4, 4, refuse), Err(Error::BadMode));
     for (x, y, width, height) in [
         (COLUMNS, 0, 1, 1),
         (0, ROWS - 3, 4, 4),
         (usize::MAX, 0, 4, 4),
         (0, 4, 4, usize::MAX),
     ] {
-        let refused = region.call(x, y, width, height, |_, _| Ok(()));
+        let refused = region.call(room, x, y, width, height, |_, _| Ok(()));
+        assert_eq!(refused, Err(Error::BadArea));
+        let refused = region.write(room, x, y, width, height, |_, _| Ok(()));
+        assert_eq!(refused, Err(Error::BadArea));
+        let read = region.as_region();
+        let refused = read.call(room, x, y, width, height, |_, _| Ok(()));
         assert_eq!(refused, Err(Error::BadArea));
     }
     assert_eq!(samples, plane());
 }
 
-// Moves each block of 8x8 of a region, and adds a residue to it.
+/// Moves each block of 8x8 of a region, and adds a residue to it.
 fn work(region: &mut RegionMut<'_, u8>, seed: u8) -> Result<(), Error> {
     let reference: Vec<u8> = (0..=255).map(|i: u8| i.wrapping_mul(seed)).collect();
-    let mut scratch = TransformScratch::new();
+    let (mut scratch, mut room) = (TransformScratch::new(), BlockRoom::new());
     let block = MotionBlock {
         width: 8,
         height: 8,
@@ -126,8 +218,10 @@ fn work(region: &mut RegionMut<'_, u8>, seed: u8) -> Result<(), Error> {
     };
     for y in (0..region.height()).step_by(8) {
         for x in (0..region.width()).step_by(8) {
-            region.call(x, y, 8, 8, |samples, to| {
-                put_8tap_8(samples, to, &reference, from, &block)?;
+            region.write(&mut room, x, y, 8, 8, |samples, to| {
+                put_8tap_8(samples, to, &reference, from, &block)
+            })?;
+            region.call(&mut room, x, y, 8, 8, |samples, to| {
                 let transform = TransformBlock {
                     tx_size: 1,
                     tx_type: 0,
@@ -142,7 +236,7 @@ fn work(region: &mut RegionMut<'_, u8>, seed: u8) -> Result<(), Error> {
     Ok(())
 }
 
-// Eight tiles side by side, each of 32 columns.
+/// Eight tiles side by side, each of 32 columns.
 fn tiles(samples: &mut [u8], stride: usize) -> Vec<RegionMut<'_, u8>> {
     let mut rest = RegionMut::new(samples, 0, stride as isize, 256, 64).expect("it lies in them");
     let mut tiles = Vec::new();

@@ -50,8 +50,9 @@ def listed(path, names):
 
 
 def encode(encoder, clip, bits, variables, words):
-    """Encodes a clip into the file `bits`, in one thread."""
-    run = subprocess.run([encoder, clip, "-o", bits, "-y", "--threads", "1", "--quiet", *words], env={**os.environ, **variables},
+    """Encodes a clip into the file `bits`, in one thread where the words of rav1e don't say in how many."""
+    threads = [] if "--threads" in words else ["--threads", "1"]
+    run = subprocess.run([encoder, clip, "-o", bits, "-y", *threads, "--quiet", *words], env={**os.environ, **variables},
                          capture_output=True, stdin=subprocess.DEVNULL)
     if run.returncode:
         raise Failed("the encoder failed: " + run.stderr.decode(errors="replace").strip()[-600:])

@@ -7,6 +7,7 @@ from .edits import ENCODER, HERE, Edit, apply_all
 MODULE = "library.rs"
 PREDICT = "src/predict.rs"
 INTERNAL = "src/api/internal.rs"
+LOOKAHEAD = "src/api/lookahead.rs"
 
 
 class Cut(Edit):
@@ -42,6 +43,8 @@ def edits(crate):
         Edit("the library's crate", "Cargo.toml", "[dependencies.aom-sys]",
              f'[dependencies.av1_c]\npath = "{crate}"\n\n[dependencies.aom-sys]'),
         Edit("the module", "src/lib.rs", "mod predict;\n", "mod predict;\nmod library;\n"),
+        Edit("a frame of tiles begins", ENCODER, "  let ti = &fi.sequence.tiling;\n",
+             "  let ti = &fi.sequence.tiling;\n  crate::library::begin(ti.tile_count());\n"),
         *of_library("inverse transforms", "transform/inverse", "inverse_transform_add"),
         *of_library("the average", "mc", "mc_avg"),
         *of_library("predictors", "predict", ""),
@@ -61,8 +64,13 @@ def edits(crate):
              "tested: crate::library::TestedFrame::new(&fs.input, fi.sequence.bit_depth),\n", 2),
         Cut("prediction from prepared sides", PREDICT, "    assert!(self.is_intra());\n    let &Rect { x: frame_x",
             "  }\n\n  #[inline]\n  pub fn is_intra(self)",
-            "    crate::library::predict_from_edge(\n"
-            "      self, tile_rect, dst, tx_size, bit_depth, ac, intra_param, ief_params, edge_buf,\n    );\n"),
+            "    crate::library::predict_from_edge(\n      self, dst, tx_size, ac, intra_param, ief_params, edge_buf,\n    );\n"),
+        Edit("sides that are prepared", PREDICT, "edge_buf: &Aligned<[T; 4 * MAX_TX_SIZE + 1]>, cpu:", "edge_buf: &crate::library::Edge, cpu:"),
+        Edit("a block that is looked ahead at lies in a tile of its own", LOOKAHEAD, "        &plane.as_region(),\n        TileBlockOffset(",
+             "        &plane_org,\n        TileBlockOffset("),
+        Edit("it begins with that tile", LOOKAHEAD, "          x: (x * IMPORTANCE_BLOCK_SIZE) as isize,\n"
+             "          y: (y * IMPORTANCE_BLOCK_SIZE) as isize,\n        },\n        TxSize::TX_8X8,",
+             "          x: 0,\n          y: 0,\n        },\n        TxSize::TX_8X8,"),
         Cut("intra edges", "src/partition.rs", "pub fn get_intra_edges<", "pub fn has_tr(",
             "pub use crate::library::get_intra_edges;\n\n"),
         Cut("edge and prediction in one", ENCODER, "    let bit_depth = fi.sequence.bit_depth;\n    let edge_buf = get_intra_edges(",
@@ -71,9 +79,10 @@ def edits(crate):
             "      block: bsize,\n      at: po,\n      size: tx_size,\n      depth: fi.sequence.bit_depth,\n"
             "      edge_filter: fi.sequence.enable_intra_edge_filter,\n    };\n"
             "    crate::library::predict(rec, transform, mode, pred_intra_param, ief_params, ac);\n"),
-        Cut("luma for chroma", ENCODER, "  let max_luma_x: usize = max_luma_w", "}\n\npub fn write_tx_blocks<",
-            "  crate::library::luma_differences(\n    ac, luma, plane_bsize, xdec, ydec, max_luma_w, max_luma_h,\n"
-            "    fi.sequence.bit_depth,\n  );\n"),
+        Cut("luma for chroma", ENCODER, "  let frame_clipped_bw: usize =\n", "}\n\npub fn write_tx_blocks<",
+            "  let leaf = crate::library::Luma {\n    block: bsize,\n    transform: tx_size,\n    xdec,\n    ydec,\n"
+            "    cells: (fi.w_in_b - frame_bo.0.x, fi.h_in_b - frame_bo.0.y),\n  };\n"
+            "  crate::library::luma_differences(ac, luma, leaf, fi.sequence.bit_depth);\n"),
     ]
 
 

@@ -4,27 +4,27 @@
 //! predictors, the differences of luma for chroma from luma, and its motion: put, prepare and average.  What had to be
 //! copied or fitted for that has a comment that begins with FITTED, and stands in the README beside.
 
-use crate::context::{TileBlockOffset, MAX_TX_SIZE};
+use crate::context::TileBlockOffset;
 use crate::cpu_features::CpuFeatureLevel;
 use crate::encoder::ReferenceFrame;
-use crate::frame::{Frame, Plane, PlaneConfig, PlaneOffset};
+use crate::frame::{Frame, PlaneConfig, PlaneOffset};
 use crate::mc::{FilterMode, MotionVector};
 use crate::partition::BlockSize;
 use crate::predict::{IntraEdgeFilterParameters, IntraParam, PredictionMode};
 use crate::recorder::{setting, short_filter};
-use crate::tiling::{PlaneRegion, PlaneRegionMut, Rect, TileRect};
+use crate::tiling::{PlaneRegion, PlaneRegionMut, Rect};
 use crate::transform::{TxSize, TxType};
-use crate::util::{Aligned, CastFromPrimitive, Pixel, PixelType};
+use crate::util::{Pixel, PixelType};
 
 use av1_c::{
-  CflBlock, EdgeBlock, EdgePlane, IntraBlock, MotionPlane, MotionWindow, MovedBlock, Place, Tested, TransformBlock,
-  TransformScratch,
+  BlockRoom, EdgeBlock, EdgePlane, Error, IntraEdge, LumaBlock, MotionPlane, MotionWindow, MovedBlock, Place, Region,
+  RegionMut, Tested, TransformBlock, TransformScratch,
 };
 
 use std::cell::RefCell;
 use std::mem::size_of;
 use std::slice;
-use std::sync::atomic::{AtomicU64, Ordering};
+use std::sync::atomic::{AtomicBool, AtomicU64, Ordering};
 use std::sync::{Arc, Mutex, OnceLock};
 
 /// How often a call was made.
@@ -63,12 +63,15 @@ impl Counter {
   }
 }
 
-/// A call of the library, counted.  One that is refused ends the encoder.
+/// A call of the library, counted under its name.  One that is refused ends the encoder.
 macro_rules! call {
-  ($($name:ident)::+ ($($word:expr),* $(,)?)) => {{
-    static COUNTER: Counter = Counter { name: stringify!($($name)::+), calls: AtomicU64::new(0) };
+  ($name:ident ($($word:expr),* $(,)?)) => {
+    call!(stringify!($name), av1_c::$name($($word),*))
+  };
+  ($name:expr, $call:expr) => {{
+    static COUNTER: Counter = Counter { name: $name, calls: AtomicU64::new(0) };
     COUNTER.add();
-    av1_c::$($name)::+($($word),*).expect(COUNTER.name)
+    $call.expect(COUNTER.name)
   }};
 }
 
@@ -77,6 +80,8 @@ thread_local! {
   static SCRATCH: RefCell<TransformScratch> = RefCell::new(TransformScratch::new());
   static WINDOW_8: RefCell<MotionWindow<u8>> = RefCell::new(MotionWindow::new());
   static WINDOW_16: RefCell<MotionWindow<u16>> = RefCell::new(MotionWindow::new());
+  static ROOM_8: RefCell<BlockRoom<u8>> = RefCell::new(BlockRoom::new());
+  static ROOM_16: RefCell<BlockRoom<u16>> = RefCell::new(BlockRoom::new());
 }
 
 /// The same numbers, as those of the type that a pixel or a coefficient is.
@@ -89,14 +94,52 @@ unsafe fn same<T, U>(numbers: &[T]) -> &[U] {
   slice::from_raw_parts(numbers.as_ptr() as *const U, numbers.len())
 }
 
-/// The same for numbers that are written.
-///
-/// # Safety
-///
-/// As above.
-unsafe fn same_mut<T, U>(numbers: &mut [T]) -> &mut [U] {
-  assert_eq!(size_of::<T>(), size_of::<U>());
-  slice::from_raw_parts_mut(numbers.as_mut_ptr() as *mut U, numbers.len())
+/// Whether a frame with several tiles was begun.
+static TILED: AtomicBool = AtomicBool::new(false);
+
+/// A frame of so many tiles is to be coded.  Where LIBRARY_REGIONS is set one tile counts as several.
+pub fn begin(tiles: usize) {
+  if tiles > 1 || setting("LIBRARY_REGIONS").is_some() {
+    TILED.store(true, Ordering::Relaxed);
+  }
+}
+
+/// Whether threads may be at work on tiles of one plane, so that calls are made on what is a region's own.
+fn tiled() -> bool {
+  TILED.load(Ordering::Relaxed)
+}
+
+/// A sample as the library has it, and the room in which calls on regions work.
+trait Sample: Copy + Default + 'static {
+  fn with_room<R>(work: impl FnOnce(&mut BlockRoom<Self>) -> R) -> R;
+}
+
+impl Sample for u8 {
+  fn with_room<R>(work: impl FnOnce(&mut BlockRoom<u8>) -> R) -> R {
+    ROOM_8.with(|room| work(&mut room.borrow_mut()))
+  }
+}
+
+impl Sample for u16 {
+  fn with_room<R>(work: impl FnOnce(&mut BlockRoom<u16>) -> R) -> R {
+    ROOM_16.with(|room| work(&mut room.borrow_mut()))
+  }
+}
+
+/// A region as the library has it.
+fn region<'a, T: Pixel, S: Sample>(region: &'a PlaneRegion<'_, T>) -> Region<'a, S> {
+  assert_eq!(size_of::<T>(), size_of::<S>());
+  let Rect { width, height, .. } = *region.rect();
+  // SAFETY: rav1e's region is a loan of the same samples, which are whole numbers of this size.
+  unsafe { Region::from_raw_parts(region.data_ptr() as *const S, region.plane_cfg.stride as isize, width, height) }
+}
+
+/// The same for a region that is written.
+fn region_mut<'a, T: Pixel, S: Sample>(region: &'a mut PlaneRegionMut<'_, T>) -> RegionMut<'a, S> {
+  assert_eq!(size_of::<T>(), size_of::<S>());
+  let Rect { width, height, .. } = *region.rect();
+  // SAFETY: as above, and to nobody else.
+  unsafe { RegionMut::from_raw_parts(region.data_ptr_mut() as *mut S, region.plane_cfg.stride as isize, width, height) }
 }
 
 /// Where the first sample of a rectangle of a plane stands among all its samples, pads included.
@@ -106,20 +149,18 @@ fn place(cfg: &PlaneConfig, rect: &Rect) -> Place {
   Place { stride: cfg.stride, x, y }
 }
 
-/// All samples of the plane that a region lies in, pads included, and where the region begins.
-///
-/// FITTED: a region is a pointer to its first sample, a stride and a rectangle; the calls take all samples of a plane as
-/// one slice.  Rust admits none over samples that another thread writes, as those of another tile of the plane: so this
-/// is for frames of one tile.
+/// All samples of the plane that a region lies in, pads included, and where the region begins.  A call on them copies no
+/// rows.
 ///
 /// # Safety
 ///
-/// The region is none that `home` made, and no other region of the plane is in use.
-unsafe fn samples_of<'a, T: Pixel>(region: &'a PlaneRegion<'_, T>) -> (&'a [T], Place) {
+/// The region is none that `home` made, and no other region of the plane is in use: its frame has one tile.
+unsafe fn samples_of<'a, T: Pixel, S: Sample>(region: &'a PlaneRegion<'_, T>) -> (&'a [S], Place) {
+  assert_eq!(size_of::<T>(), size_of::<S>());
   let cfg = region.plane_cfg;
   let at = place(cfg, region.rect());
   let first = region.data_ptr().sub(at.y * at.stride + at.x);
-  (slice::from_raw_parts(first, cfg.alloc_height * cfg.stride), at)
+  (slice::from_raw_parts(first as *const S, cfg.alloc_height * cfg.stride), at)
 }
 
 /// The same for a region that is written.
@@ -127,11 +168,50 @@ unsafe fn samples_of<'a, T: Pixel>(region: &'a PlaneRegion<'_, T>) -> (&'a [T], 
 /// # Safety
 ///
 /// As above.
-unsafe fn samples_of_mut<'a, T: Pixel>(region: &'a mut PlaneRegionMut<'_, T>) -> (&'a mut [T], Place) {
+unsafe fn samples_of_mut<'a, T: Pixel, S: Sample>(region: &'a mut PlaneRegionMut<'_, T>) -> (&'a mut [S], Place) {
+  assert_eq!(size_of::<T>(), size_of::<S>());
   let cfg = region.plane_cfg;
   let at = place(cfg, region.rect());
   let first = region.data_ptr_mut().sub(at.y * at.stride + at.x);
-  (slice::from_raw_parts_mut(first, cfg.alloc_height * cfg.stride), at)
+  (slice::from_raw_parts_mut(first as *mut S, cfg.alloc_height * cfg.stride), at)
+}
+
+/// Makes a call that writes all samples of the rectangle of these sides at the front of a region.
+fn write<T: Pixel, S: Sample>(
+  to: &mut PlaneRegionMut<'_, T>, (width, height): (usize, usize), call: impl FnOnce(&mut [S], Place) -> Result<(), Error>,
+) -> Result<(), Error> {
+  if tiled() {
+    return S::with_room(|room| region_mut(to).write(room, 0, 0, width, height, call));
+  }
+  // SAFETY: no frame has several tiles.
+  let (samples, at) = unsafe { samples_of_mut(to) };
+  call(samples, at)
+}
+
+/// The same for a call that also reads them.
+fn change<T: Pixel, S: Sample>(
+  to: &mut PlaneRegionMut<'_, T>, (width, height): (usize, usize), call: impl FnOnce(&mut [S], Place) -> Result<(), Error>,
+) -> Result<(), Error> {
+  if tiled() {
+    return S::with_room(|room| region_mut(to).call(room, 0, 0, width, height, call));
+  }
+  // SAFETY: as above.
+  let (samples, at) = unsafe { samples_of_mut(to) };
+  call(samples, at)
+}
+
+/// The same for a call that only reads, in a rectangle of at most these sides.
+fn read<T: Pixel, S: Sample>(
+  from: &PlaneRegion<'_, T>, (width, height): (usize, usize), call: impl FnOnce(&[S], Place) -> Result<(), Error>,
+) -> Result<(), Error> {
+  if tiled() {
+    let from = region(from);
+    let (width, height) = (width.min(from.width()), height.min(from.height()));
+    return S::with_room(|room| from.call(room, 0, 0, width, height, call));
+  }
+  // SAFETY: as above.
+  let (samples, at) = unsafe { samples_of(from) };
+  call(samples, at)
 }
 
 /// Adds the residue of a block to the samples of `output`, in place of rav1e's function of this name.
@@ -140,13 +220,24 @@ pub fn inverse_transform_add<T: Pixel>(
   _cpu: CpuFeatureLevel,
 ) {
   // FITTED: the encoder's count follows its scan, and the call takes the first in raster order: so all are handed over.
-  SCRATCH.with(|scratch| unsafe {
+  let sides = (tx_size.width(), tx_size.height());
+  let block = |at: Place| TransformBlock { tx_size: tx_size as u8, tx_type: tx_type as u8, x: at.x, y: at.y };
+  SCRATCH.with(|scratch| {
     let scratch = &mut scratch.borrow_mut();
-    let (samples, at) = samples_of_mut(output);
-    let block = TransformBlock { tx_size: tx_size as u8, tx_type: tx_type as u8, x: at.x, y: at.y };
+    // SAFETY: coefficients are whole numbers of 16 bits beside samples of 8, and of 32 beside those of 16.
     match T::type_enum() {
-      PixelType::U8 => call!(inverse_transform_add_8(scratch, same(input), same_mut(samples), at.stride, block)),
-      PixelType::U16 => call!(inverse_transform_add_16(scratch, same(input), same_mut(samples), at.stride, block, bd)),
+      PixelType::U8 => call!(
+        "inverse_transform_add_8",
+        change(output, sides, |samples: &mut [u8], at| {
+          av1_c::inverse_transform_add_8(scratch, unsafe { same(input) }, samples, at.stride, block(at))
+        })
+      ),
+      PixelType::U16 => call!(
+        "inverse_transform_add_16",
+        change(output, sides, |samples: &mut [u16], at| {
+          av1_c::inverse_transform_add_16(scratch, unsafe { same(input) }, samples, at.stride, block(at), bd)
+        })
+      ),
     }
   });
 }
@@ -228,23 +319,62 @@ pub fn predict<T: Pixel>(
   let plane = tile_of(tile.plane_cfg, tile.rect());
   let block = transform.in_plane(mode as u8, step_of(mode, param));
   let (smooth, weight) = (smooth(filter), weight_of(param));
-  unsafe {
-    let (samples, _) = samples_of_mut(tile);
-    match T::type_enum() {
-      PixelType::U8 => call!(predict_in_plane_8(same_mut(samples), &plane, &block, smooth, ac, weight)),
-      PixelType::U16 => call!(predict_in_plane_16(same_mut(samples), &plane, &block, smooth, ac, weight)),
+  match (T::type_enum(), tiled()) {
+    (PixelType::U8, true) => u8::with_room(|room| {
+      call!(predict_in_tile_8(&mut region_mut(tile), room, &plane, &block, smooth, ac, weight))
+    }),
+    (PixelType::U16, true) => u16::with_room(|room| {
+      call!(predict_in_tile_16(&mut region_mut(tile), room, &plane, &block, smooth, ac, weight))
+    }),
+    // SAFETY: no frame has several tiles.
+    (PixelType::U8, false) => {
+      call!(predict_in_plane_8(unsafe { samples_of_mut(tile) }.0, &plane, &block, smooth, ac, weight))
+    }
+    (PixelType::U16, false) => {
+      call!(predict_in_plane_16(unsafe { samples_of_mut(tile) }.0, &plane, &block, smooth, ac, weight))
     }
   }
 }
 
-/// The sides round a transform, in place of rav1e's function of this name.  It is left where the encoder tries several
-/// modes, or several weights of luma, from the same sides.
+/// The sides round a transform, from which the encoder tries several modes, or several weights of luma.
+#[allow(clippy::large_enum_variant)]
+pub enum Edge {
+  Of8(IntraEdge<u8>),
+  Of16(IntraEdge<u16>),
+}
+
+impl Edge {
+  fn new<T: Pixel>() -> Edge {
+    match T::type_enum() {
+      PixelType::U8 => Edge::Of8(IntraEdge::new()),
+      PixelType::U16 => Edge::Of16(IntraEdge::new()),
+    }
+  }
+
+  /// Prepares them in the plane of a tile.
+  fn prepare<T: Pixel>(&mut self, tile: &PlaneRegion<'_, T>, block: &EdgeBlock) {
+    let plane = &tile_of(tile.plane_cfg, tile.rect());
+    match self {
+      Edge::Of8(edge) if tiled() => {
+        u8::with_room(|room| call!("prepare_in_tile_8", edge.prepare_in_tile(&region(tile), room, plane, block)))
+      }
+      Edge::Of16(edge) if tiled() => {
+        u16::with_room(|room| call!("prepare_in_tile_16", edge.prepare_in_tile(&region(tile), room, plane, block)))
+      }
+      // SAFETY: no frame has several tiles.
+      Edge::Of8(edge) => call!("prepare_8", edge.prepare(unsafe { samples_of(tile) }.0, plane, block)),
+      Edge::Of16(edge) => call!("prepare_16", edge.prepare(unsafe { samples_of(tile) }.0, plane, block)),
+    }
+  }
+}
+
+/// The sides round a transform, in place of rav1e's function of this name.
 #[allow(clippy::too_many_arguments)]
 pub fn get_intra_edges<T: Pixel>(
   dst: &PlaneRegion<'_, T>, partition_bo: TileBlockOffset, bx: usize, by: usize, partition_size: BlockSize,
   po: PlaneOffset, tx_size: TxSize, bit_depth: usize, opt_mode: Option<PredictionMode>, enable_intra_edge_filter: bool,
   intra_param: IntraParam,
-) -> Aligned<[T; 4 * MAX_TX_SIZE + 1]> {
+) -> Edge {
   let transform = Transform {
     cell: partition_bo,
     unit: (bx, by),
@@ -254,109 +384,87 @@ pub fn get_intra_edges<T: Pixel>(
     depth: bit_depth,
     edge_filter: enable_intra_edge_filter,
   };
-  let plane = tile_of(dst.plane_cfg, dst.rect());
-  let block = match opt_mode {
-    Some(mode) => transform.in_plane(mode as u8, step_of(mode, intra_param)),
-    None => transform.in_plane(av1_c::ANY_MODE, 0),
-  };
-  // FITTED: rav1e leaves uninitialised what no mode reads; a slice must not be.
-  let mut edge = Aligned::new([T::cast_from(0); 4 * MAX_TX_SIZE + 1]);
-  unsafe {
-    let (samples, _) = samples_of(dst);
-    match T::type_enum() {
-      PixelType::U8 => call!(intra_edge_8(same_mut(&mut edge.data), same(samples), &plane, &block)),
-      PixelType::U16 => call!(intra_edge_16(same_mut(&mut edge.data), same(samples), &plane, &block)),
-    }
-  }
+  let mut edge = Edge::new::<T>();
+  edge.prepare(
+    dst,
+    &match opt_mode {
+      Some(mode) => transform.in_plane(mode as u8, step_of(mode, intra_param)),
+      None => transform.in_plane(av1_c::ANY_MODE, 0),
+    },
+  );
   edge
 }
 
 /// Predicts a transform from sides that are prepared: what rav1e's `PredictionMode::predict_intra` does.
-#[allow(clippy::too_many_arguments)]
 pub fn predict_from_edge<T: Pixel>(
-  mode: PredictionMode, tile: TileRect, dst: &mut PlaneRegionMut<'_, T>, tx_size: TxSize, bit_depth: usize, ac: &[i16],
-  param: IntraParam, filter: Option<IntraEdgeFilterParameters>, edge: &Aligned<[T; 4 * MAX_TX_SIZE + 1]>,
+  mode: PredictionMode, dst: &mut PlaneRegionMut<'_, T>, tx_size: TxSize, ac: &[i16], param: IntraParam,
+  filter: Option<IntraEdgeFilterParameters>, edge: &Edge,
 ) {
-  let (left, rest) = edge.data.split_at(2 * MAX_TX_SIZE);
-  let (corner, above) = rest.split_at(1);
-  let (x, y) = (dst.rect().x as usize, dst.rect().y as usize);
-  let block = IntraBlock {
-    mode: mode as u8,
-    tx_size: tx_size as u8,
-    angle_step: step_of(mode, param),
-    bit_depth: bit_depth as u8,
-    has_left: u8::from(x > tile.x),
-    has_above: u8::from(y > tile.y),
-    edge_filter: u8::from(filter.is_some()),
-    smooth_neighbour: u8::from(smooth(filter)),
-    visible_columns: dst.plane_cfg.width - x,
-    visible_rows: dst.plane_cfg.height - y,
-  };
-  let weight = weight_of(param);
-  unsafe {
-    let (samples, at) = samples_of_mut(dst);
-    match (T::type_enum(), mode.is_cfl()) {
-      (PixelType::U8, true) => {
-        call!(predict_cfl_8(same_mut(samples), at, &block, same(left), same(above), ac, weight))
-      }
-      (PixelType::U16, true) => {
-        call!(predict_cfl_16(same_mut(samples), at, &block, same(left), same(above), ac, weight))
-      }
-      (PixelType::U8, false) => {
-        call!(predict_intra_8(same_mut(samples), at, &block, same(left), same(corner)[0], same(above)))
-      }
-      (PixelType::U16, false) => {
-        call!(predict_intra_16(same_mut(samples), at, &block, same(left), same(corner)[0], same(above)))
-      }
+  let sides = (tx_size.width(), tx_size.height());
+  let (number, step, smooth, weight) = (mode as u8, step_of(mode, param), smooth(filter), weight_of(param));
+  match (edge, mode.is_cfl()) {
+    (Edge::Of8(edge), true) => {
+      call!("predict_cfl_8", write(dst, sides, |samples: &mut [u8], at| edge.predict_cfl(samples, at, ac, weight)))
+    }
+    (Edge::Of16(edge), true) => {
+      call!("predict_cfl_16", write(dst, sides, |samples: &mut [u16], at| edge.predict_cfl(samples, at, ac, weight)))
+    }
+    (Edge::Of8(edge), false) => {
+      call!("predict_8", write(dst, sides, |samples: &mut [u8], at| edge.predict(samples, at, number, step, smooth)))
+    }
+    (Edge::Of16(edge), false) => {
+      call!("predict_16", write(dst, sides, |samples: &mut [u16], at| edge.predict(samples, at, number, step, smooth)))
     }
   }
 }
 
-/// The differences of luma from its mean, where rav1e's `luma_ac` has its two loops.  Luma begins at the region's first
-/// sample, and `luma_width` of its columns and `luma_height` of its rows are coded.
-#[allow(clippy::too_many_arguments)]
-pub fn luma_differences<T: Pixel>(
-  ac: &mut [i16], luma: &PlaneRegion<'_, T>, chroma: BlockSize, xdec: usize, ydec: usize, luma_width: usize,
-  luma_height: usize, bit_depth: usize,
-) {
-  // FITTED: the encoder counts samples of luma that are coded; the call takes units of chroma that have none.
-  let block = CflBlock {
-    block_size: chroma as u8,
-    xdec: xdec as u8,
-    ydec: ydec as u8,
-    w_pad: chroma.width().saturating_sub(luma_width >> xdec) / 4,
-    h_pad: chroma.height().saturating_sub(luma_height >> ydec) / 4,
-  };
-  unsafe {
-    let (samples, at) = samples_of(luma);
-    match T::type_enum() {
-      PixelType::U8 => call!(cfl_ac_8(ac, same(samples), at, &block)),
-      PixelType::U16 => call!(cfl_ac_16(ac, same(samples), at, &block, bit_depth)),
+/// A leaf of intra modes over whose luma chroma is predicted.
+pub struct Luma {
+  pub block: BlockSize,
+  pub transform: TxSize,
+  pub xdec: usize,
+  pub ydec: usize,
+  /// How many columns and rows there are in the frame from the first of the region on, in cells.
+  pub cells: (usize, usize),
+}
+
+/// The differences of luma from its mean, in place of rav1e's loops in `luma_ac`.  Luma begins at the region's first sample.
+pub fn luma_differences<T: Pixel>(ac: &mut [i16], luma: &PlaneRegion<'_, T>, leaf: Luma, bit_depth: usize) {
+  let block = call!(cfl_block_of(&LumaBlock {
+    block_size: leaf.block as u8,
+    tx_size: leaf.transform as u8,
+    xdec: leaf.xdec as u8,
+    ydec: leaf.ydec as u8,
+    visible_columns: 4 * leaf.cells.0,
+    visible_rows: 4 * leaf.cells.1,
+  }));
+  let sides = (leaf.block.width().max(8), leaf.block.height().max(8));
+  match T::type_enum() {
+    PixelType::U8 => {
+      call!("cfl_ac_8", read(luma, sides, |samples: &[u8], at| av1_c::cfl_ac_8(ac, samples, at, &block)))
+    }
+    PixelType::U16 => {
+      call!("cfl_ac_16", read(luma, sides, |samples: &[u16], at| av1_c::cfl_ac_16(ac, samples, at, &block, bit_depth)))
     }
   }
 }
 
-/// The planes of a reference of 16 bits, whose samples were looked at when it was made.
-///
-/// FITTED: a `Tested` borrows its samples, and rav1e's references own theirs by an `Arc`: so both stand here together.
+/// The planes of a reference of 16 bits, whose samples were looked at when it was made, with the frame that owns them.
 #[derive(Clone, Debug)]
 pub struct TestedFrame<T: Pixel> {
-  planes: [Option<Tested<'static>>; 3],
-  _frame: Arc<Frame<T>>,
+  planes: [Option<Tested<Arc<Frame<T>>>>; 3],
 }
 
 impl<T: Pixel> TestedFrame<T> {
   pub fn new(frame: &Arc<Frame<T>>, bit_depth: usize) -> Self {
-    let test = |plane: &Plane<T>| match T::type_enum() {
-      PixelType::U16 if !plane.data.is_empty() => {
-        // SAFETY: the samples live as long as the frame, which stands beside, and change as little, since it is shared.
-        let samples: &'static [u16] = unsafe { slice::from_raw_parts(plane.data.as_ptr() as *const u16, plane.data.len()) };
-        Some(call!(Tested::new(samples, bit_depth)))
+    let test = |p: usize| match T::type_enum() {
+      PixelType::U16 if !frame.planes[p].data.is_empty() => {
+        // SAFETY: samples are whole numbers of 16 bits.
+        Some(call!("test_samples_16", Tested::with(frame.clone(), |frame| unsafe { same(&frame.planes[p].data) }, bit_depth)))
       }
       _ => None,
     };
-    let [y, u, v] = &frame.planes;
-    TestedFrame { planes: [test(y), test(u), test(v)], _frame: frame.clone() }
+    TestedFrame { planes: [test(0), test(1), test(2)] }
   }
 }
 
@@ -412,18 +520,25 @@ fn visible(cfg: &PlaneConfig) -> MotionPlane {
 pub fn put<T: Pixel>(reference: &ReferenceFrame<T>, p: usize, dst: &mut PlaneRegionMut<'_, T>, moved: Moved) {
   let from = &reference.frame.planes[p];
   let (plane, block) = (visible(&from.cfg), moved.block());
-  unsafe {
-    let (samples, at) = samples_of_mut(dst);
-    match T::type_enum() {
-      PixelType::U8 => WINDOW_8.with(|window| {
-        let window = &mut window.borrow_mut();
-        call!(put_moved_8(same_mut(samples), at, same(&from.data), &plane, &block, window))
-      }),
-      PixelType::U16 => WINDOW_16.with(|window| {
-        let tested = reference.tested.planes[p].as_ref().expect("a plane with samples");
-        call!(put_moved_16(same_mut(samples), at, tested, &plane, &block, &mut window.borrow_mut()))
-      }),
-    }
+  let sides = (moved.width, moved.height);
+  match T::type_enum() {
+    PixelType::U8 => WINDOW_8.with(|window| {
+      let window = &mut window.borrow_mut();
+      // SAFETY: samples are whole numbers of 8 bits.
+      let from = unsafe { same(&from.data) };
+      call!(
+        "put_moved_8",
+        write(dst, sides, |samples, at| av1_c::put_moved_8(samples, at, from, &plane, &block, window))
+      )
+    }),
+    PixelType::U16 => WINDOW_16.with(|window| {
+      let window = &mut window.borrow_mut();
+      let tested = reference.tested.planes[p].as_ref().expect("a plane with samples");
+      call!(
+        "put_moved_16",
+        write(dst, sides, |samples, at| av1_c::put_moved_16(samples, at, tested, &plane, &block, window))
+      )
+    }),
   }
 }
 
@@ -433,6 +548,7 @@ pub fn prepare<T: Pixel>(reference: &ReferenceFrame<T>, p: usize, values: &mut [
   let (plane, block) = (visible(&from.cfg), moved.block());
   match T::type_enum() {
     PixelType::U8 => WINDOW_8.with(|window| {
+      // SAFETY: samples are whole numbers of 8 bits.
       let samples = unsafe { same(&from.data) };
       call!(prep_moved_8(values, samples, &plane, &block, &mut window.borrow_mut()))
     }),
@@ -448,11 +564,14 @@ pub fn mc_avg<T: Pixel>(
   dst: &mut PlaneRegionMut<'_, T>, tmp1: &[i16], tmp2: &[i16], width: usize, height: usize, bit_depth: usize,
   _cpu: CpuFeatureLevel,
 ) {
-  unsafe {
-    let (samples, at) = samples_of_mut(dst);
-    match T::type_enum() {
-      PixelType::U8 => call!(mc_avg_8(same_mut(samples), at, width, height, tmp1, tmp2)),
-      PixelType::U16 => call!(mc_avg_16(same_mut(samples), at, width, height, tmp1, tmp2, bit_depth)),
-    }
+  match T::type_enum() {
+    PixelType::U8 => call!(
+      "mc_avg_8",
+      write(dst, (width, height), |samples, at| av1_c::mc_avg_8(samples, at, width, height, tmp1, tmp2))
+    ),
+    PixelType::U16 => call!(
+      "mc_avg_16",
+      write(dst, (width, height), |samples, at| av1_c::mc_avg_16(samples, at, width, height, tmp1, tmp2, bit_depth))
+    ),
   }
 }

@@ -49,7 +49,7 @@ fn block_of(it: &Prepared) -> EdgeBlock {
     let call = &it.call;
     // A size that no transform has stands nowhere.
     let (x, y) = match call.size {
-        0..19 => call.place(),
+        0..=18 => call.place(),
         _ => (0, 0),
     };
     EdgeBlock {
@@ -86,15 +86,16 @@ fn places(it: &Prepared) -> (usize, usize) {
         calls::TRANSFORM_WIDTHS[size],
         calls::TRANSFORM_HEIGHTS[size],
     );
-    let Some(mode) = it.call.mode else {
-        return (height + width, width + height);
+    let mode = match it.call.mode {
+        Some(mode) => mode,
+        None => return (height + width, width + height),
     };
     let (x, y) = it.call.place();
     // At the ends of the tile Paeth prediction has fewer neighbours.
     let mean = mode == DC_PRED || mode == UV_CFL_PRED || mode == PAETH_PRED && (x, y) == (0, 0);
     let left = if mean && x == 0 { 0 } else { height };
     match calls::angle(mode, it.call.step) {
-        Some(..90) => (left, width + height),
+        Some(i32::MIN..=89) => (left, width + height),
         Some(181..) => (left + width, width),
         _ => (left, width),
     }

@@ -90,7 +90,7 @@ pub fn samples(numbers: &mut Numbers, count: usize, greatest: u16) -> Vec<u16> {
     let same = numbers.between(0, greatest);
     let same = numbers.one_of(&[0, greatest, same]);
     let mut one = || match way {
-        0..3 => numbers.between(0, greatest),
+        0..=2 => numbers.between(0, greatest),
         3 => numbers.one_of(&[0, greatest]),
         4 => numbers.one_of(&[0, 1, middle, greatest - 1, greatest]),
         5 => middle + numbers.between(-8, 8),

@@ -101,7 +101,7 @@ fn mode_of_edge(numbers: &mut Numbers) -> (Option<u8>, i8) {
     let modes: Vec<(u8, i8)> = modes()
         .into_iter()
         .filter(|(mode, step)| {
-            !goes_on || angle(*mode, *step).is_some_and(|angle| !(90..=180).contains(&angle))
+            !goes_on || angle(*mode, *step).map_or(false, |angle| !(90..=180).contains(&angle))
         })
         .collect();
     let (mode, step) = numbers.one_of(&modes);

@@ -52,12 +52,12 @@ pub fn places(mode: u8, step: i8, sides: u8, width: usize, height: usize) -> (us
     match (mode, angle(mode, step)) {
         (_, Some(angle)) => (
             match angle {
-                ..90 => width + height,
-                90..180 => width,
+                i32::MIN..=89 => width + height,
+                90..=179 => width,
                 _ => 0,
             },
             match angle {
-                ..=90 => 0,
+                i32::MIN..=90 => 0,
                 91..=180 => height,
                 _ => height + width,
             },
