@@ -1,5 +1,6 @@
 -- What a tile is predicted from: its own plan, or the whole of each reference.
-use Rattle.std.proofs.Common.{◌≡◌, ℕ, zero, suc, ◌+◌, ◌/◌, ◌^◌, ◌<◌, ◌≤◌, List, Option, Some, None, Result, Ok, Err, IfOk, Bool, true, false, if◌then◌else◌, refl}
+use Rattle.std.proofs.Common.{◌≡◌, ℕ, zero, suc, ◌+◌, ◌/◌, ◌^◌, ◌<◌, ◌≤◌, List, Option, Some, None, Result, Ok, Err, IfOk, Bool, true, false, if◌then◌else◌}
+use Rattle.std.proofs.Common.{refl}
 use Rattle.std.proofs.Common.{sym, ap, subst, ◌∙◌, arith}
 use Rattle.std.proofs.Math.Nat.{div-le_self}
 use mathlib.Core.Path.{fun_ext}
@@ -156,5 +157,6 @@ pub tile_serves : {T : Type 0} (num : T → ℕ) (file : TileFile) (i : ℕ) (pl
 tile_serves num file i plan from fi a seen read lt tile is sees own at place =
     let front = file.front in
     let (third, holds) = subst (SeesFront num front) is sees in
-    frame_serves num (front_value front) i plan from fi third read.front.frame (area_is front read.front i lt) (tile_header_is (file_value file) i plan tile) own
+    frame_serves num (front_value front) i plan from fi third read.front.frame (area_is front read.front i lt)
+    (tile_header_is (file_value file) i plan tile) own
     (subst (λ (b : TileArea). IsAtTile front.header b from) at place) holds

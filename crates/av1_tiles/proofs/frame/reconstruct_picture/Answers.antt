@@ -17,7 +17,8 @@ pub reconstruct_in_frame-requires-clause-serves : goal.reconstruct_in_frame-requ
 reconstruct_in_frame-requires-clause-serves g c = (
   tile_scene (front_value c.args.file.now.front) c.args.index (plan_value c.args.plan.now),
   (
-    tile_serves g.T.Pixel.num c.args.file.now c.args.index (plan_value c.args.plan.now) c.references_of-from.result c.in-Some.fi c.tile_area.result c.args.seen.now
+    tile_serves g.T.Pixel.num c.args.file.now c.args.index (plan_value c.args.plan.now) c.references_of-from.result c.in-Some.fi c.tile_area.result
+        c.args.seen.now
         c.requires.read c.requires.tile c.requires.plan c.in-Some.is c.requires.seen c.references_of-from.ensures.frame c.tile_area.ensures.value
         c.references_of-from.ensures.place,
     refl,
@@ -33,7 +34,8 @@ pub returns-in-Some-clause-shown : goal.returns-in-Some-clause-shown
 returns-in-Some-clause-shown g c =
     seen_shown g.T.Pixel.num (tile_scene (front_value c.args.file.now.front) c.args.index (plan_value c.args.plan.now)) (plan_value c.args.plan.now)
     c.references_of-from.result c.reconstruct_in_frame.result
-    (tile_serves g.T.Pixel.num c.args.file.now c.args.index (plan_value c.args.plan.now) c.references_of-from.result c.in-Some.fi c.tile_area.result c.args.seen.now
+    (tile_serves g.T.Pixel.num c.args.file.now c.args.index (plan_value c.args.plan.now) c.references_of-from.result c.in-Some.fi c.tile_area.result
+    c.args.seen.now
     c.requires.read c.requires.tile c.requires.plan c.in-Some.is c.requires.seen c.references_of-from.ensures.frame c.tile_area.ensures.value
     c.references_of-from.ensures.place) refl
     c.reconstruct_in_frame.ensures.shown
