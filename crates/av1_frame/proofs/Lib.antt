@@ -10,4 +10,4 @@ pub mod Slices
 pub mod Depths
 pub mod RowParts
 pub mod Within
-pub mod Zeros
+pub mod OneValue

@@ -50,5 +50,5 @@ pub use pixel::{Coefficient, Pixel, coefficient_laws, pixel_laws};
 pub use plane::{Plane, PlaneConfig, PlaneOffset};
 pub use plane_region::{Area, PlaneRegion, PlaneRegionMut, Rect, StoredArea, visible_area};
 pub use plane_slice::PlaneSlice;
-pub use rows::{copy_row, fill_area, fill_row, zero_coefficients, zero_samples};
+pub use rows::{copy_row, fill_area, fill_row, repeated, zero_samples};
 pub use tile_state::{CodedBlockInfo, TileRect, TileStateMut};

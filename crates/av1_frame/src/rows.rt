@@ -1,14 +1,14 @@
-//! Rows of samples, one sample after another, rectangles of one value, and rows of zeros.
+//! Rows of samples, one sample after another, rectangles of one value, and lists of one value.
 
-ghost use Rattle.std.specs.Prelude.{◌≡◌, ◌≤◌, length, slice_index_or, pos, IfOk, replicate, vec_len};
+ghost use Rattle.std.specs.Prelude.{◌≡◌, ◌≤◌, length, slice_index_or, IfOk, replicate, vec_len};
 ghost use Rattle.av1_frame.specs.Areas.{AreRows};
 ghost use Rattle.av1_frame.specs.Samples.{paint, paint_row};
 
-use crate::pixel::{Coefficient, Pixel};
+use crate::pixel::Pixel;
 use crate::plane_region::StoredArea;
 use std::alloc::{AllocError, Global};
 
-/// How many samples are cleared at a time.
+/// How many values are written at a time.
 const RUN: usize = 512;
 
 /// The first `width` samples of the row become `value`.
@@ -46,26 +46,23 @@ pub fn copy_row<T: Pixel>(row: &mut [T], source: &[T], width: usize)
     row[..width].copy_from_slice(&source[..width]);
 }
 
+/// `value`, `count` times: room is taken once, and filled piece by piece.
+pub fn repeated<T: Copy>(alloc: Global, value: T, count: usize) -> Result<Vec<T>, AllocError>
+    ensures items { IfOk result (λ values. values.items ≡ replicate count value) }
+    ensures len { IfOk result (λ values. vec_len values ≡ count) }
+{
+    let mut values = Vec::with_capacity(alloc, count)?;
+    for run in 0..count / RUN {
+        values.resize((run + 1) * RUN, value)?;
+    }
+    values.resize(count, value)?;
+    Ok(values)
+}
+
 /// `count` zero samples.
 pub fn zero_samples<T: Pixel>(alloc: Global, count: usize) -> Result<Vec<T>, AllocError>
     ensures zeros { IfOk result (λ samples. samples.items ≡ replicate count (T.pixel 0)) }
     ensures len { IfOk result (λ samples. vec_len samples ≡ count) }
 {
-    let zero = T::from_u32(0);
-    let mut samples = Vec::with_capacity(alloc, count)?;
-    for run in 0..count / RUN {
-        samples.resize((run + 1) * RUN, zero)?;
-    }
-    samples.resize(count, zero)?;
-    Ok(samples)
-}
-
-/// `count` zero coefficients.
-pub fn zero_coefficients<C: Coefficient>(alloc: Global, count: usize) -> Result<Vec<C>, AllocError>
-    ensures zeros { IfOk result (λ coefficients. coefficients.items ≡ replicate count (C.coefficient (pos 0))) }
-    ensures len { IfOk result (λ coefficients. vec_len coefficients ≡ count) }
-{
-    let mut coefficients = Vec::new(alloc);
-    coefficients.resize(count, C::from_i32(0))?;
-    Ok(coefficients)
+    repeated(alloc, T::from_u32(0), count)
 }

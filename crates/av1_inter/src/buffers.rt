@@ -3,6 +3,7 @@
 ghost use Rattle.std.specs.Prelude.{◌≡◌, IfOk, pos, replicate, vec_len};
 
 use av1_blocks::OutOfMemory;
+use av1_frame::repeated;
 use std::alloc::Global;
 
 /// How many entries the greatest block has.
@@ -24,8 +25,8 @@ impl InterCompoundBuffers {
         ensures first { IfOk result (λ buffers. buffers.first.items ≡ replicate 16384 (pos 0)) }
         ensures second { IfOk result (λ buffers. buffers.second.items ≡ replicate 16384 (pos 0)) }
     {
-        let first = vec![in alloc; 0; BUFFER_SIZE]?;
-        let second = vec![in alloc; 0; BUFFER_SIZE]?;
+        let first = repeated(alloc, 0, BUFFER_SIZE)?;
+        let second = repeated(alloc, 0, BUFFER_SIZE)?;
         Ok(InterCompoundBuffers { first, second })
     }
 }

@@ -22,7 +22,7 @@ use crate::lanes::{CosineColumns, LANES, Lanes, Uncounted};
 use crate::rows::row_pass;
 use crate::single::{first_of, is_single, top_value};
 use av1_blocks::{OutOfMemory, TxSize, TxType};
-use av1_frame::{Pixel, PlaneRegionMut, StoredArea, round_shift};
+use av1_frame::{Pixel, PlaneRegionMut, StoredArea, repeated, round_shift};
 use std::alloc::Global;
 
 /// The values of one block between its passes, its scaled coefficients, and lines of eight columns.
@@ -42,8 +42,8 @@ impl TxScratch {
         ensures groups { IfOk result (λ scratch. scratch.lanes.count.groups ≡ 0) }
         ensures rule { IfOk result (λ scratch. scratch.by_av1 ≡ false) }
     {
-        let buffer = vec![in alloc; 0; 4096]?;
-        let scaled = vec![in alloc; 0; 2048]?;
+        let buffer = repeated(alloc, 0, 4096)?;
+        let scaled = repeated(alloc, 0, 2048)?;
         let lanes = Lanes::new(alloc)?;
         Ok(TxScratch {
             buffer,

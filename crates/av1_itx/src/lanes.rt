@@ -16,7 +16,8 @@ use crate::lane_columns::{
 use crate::words::{BlockWord, Held};
 use av1_blocks::OutOfMemory;
 use av1_dct::{LaneCount, cosine_columns};
-use std::alloc::{AllocError, Global};
+use av1_frame::repeated;
+use std::alloc::Global;
 use std::simd::prelude::*;
 
 /// How many columns are transformed at a time.
@@ -194,22 +195,13 @@ pub struct Lanes {
     ghost long: { (vec_len line ≡ 64) × (vec_len transformed ≡ 64) },
 }
 
-// So many words of zeros.
-fn zeros(alloc: Global, count: usize) -> Result<Vec<i32x8>, AllocError>
-    ensures { IfOk result (λ words. vec_len words ≡ count) }
-{
-    let mut words = Vec::new(alloc);
-    words.resize(count, i32x8::splat(0))?;
-    Ok(words)
-}
-
 impl Lanes {
     /// Lines for columns of 64 values.
     pub(crate) fn new(alloc: Global) -> Result<Lanes, OutOfMemory>
         ensures { IfOk result (λ lanes. lanes.count.groups ≡ 0) }
     {
-        let line = zeros(alloc, 64)?;
-        let transformed = zeros(alloc, 64)?;
+        let line = repeated(alloc, i32x8::splat(0), 64)?;
+        let transformed = repeated(alloc, i32x8::splat(0), 64)?;
         Ok(Lanes {
             line,
             transformed,

@@ -5,10 +5,10 @@ ghost use Rattle.std.specs.Prelude.{◌≡◌, vec_len, IfOk};
 use crate::predicted::PredictedPlanes;
 use av1_blocks::OutOfMemory;
 use av1_edges::IntraEdgeBuffer;
-use av1_frame::{Coefficient, Pixel};
+use av1_frame::{Coefficient, Pixel, repeated};
 use av1_inter::InterCompoundBuffers;
 use av1_itx::TxScratch;
-use std::alloc::{AllocError, Global};
+use std::alloc::Global;
 
 /// The most coded coefficients of a transform block.
 const MOST_COEFFICIENTS: usize = 1024;
@@ -43,22 +43,11 @@ pub struct WalkBuffers<T: Pixel> {
     pub(crate) ghost luma_long: { vec_len luma ≡ 1024 },
 }
 
-/// `count` zero coefficients.
-fn coefficients<C: Coefficient>(alloc: Global, count: usize) -> Result<Vec<C>, AllocError>
-    ensures { IfOk result (λ v. vec_len v ≡ count) }
-{
-    let mut coefficients = Vec::with_capacity(alloc, count)?;
-    for _i in 0..count {
-        coefficients.push(C::from_i32(0))?;
-    }
-    Ok(coefficients)
-}
-
 impl<T: Pixel> ResidueRoom<T> {
     /// Takes the memory.
     fn new(alloc: Global) -> Result<ResidueRoom<T>, OutOfMemory> {
         Ok(ResidueRoom {
-            coefficients: coefficients(alloc, MOST_COEFFICIENTS)?,
+            coefficients: repeated(alloc, T::Coeff::from_i32(0), MOST_COEFFICIENTS)?,
             scratch: TxScratch::new(alloc)?,
         })
     }
@@ -72,7 +61,7 @@ impl<T: Pixel> WalkBuffers<T> {
         ensures { IfOk result (λ buffers. buffers.edges.prepared ≡ 0) }
     {
         let edges = IntraEdgeBuffer::new(alloc)?;
-        let luma = vec![in alloc; 0; MOST_FROM_LUMA]?;
+        let luma = repeated(alloc, 0, MOST_FROM_LUMA)?;
         let residue = ResidueRoom::new(alloc)?;
         let compound = InterCompoundBuffers::new(alloc)?;
         let kept = PredictedPlanes::none(alloc);
