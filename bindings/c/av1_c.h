@@ -181,14 +181,23 @@ uint32_t av1_inverse_transform_add_8(av1_transform_scratch *scratch, const int16
                                      size_t samples_len, size_t stride, size_t x, size_t y, uint8_t tx_size, uint8_t tx_type);
 
 /* The same for samples of 16 bits at a depth of 8, 10 or 12, of which each coefficient has at most bit_depth + 8 bits, its sign among them.
- * A sample that is past the depth is clipped with what is added to it.
+ * A sample that is past the depth is clipped with what is added to it. Where rav1e's transforms differ from AV1's, it does as AV1.
  * Answers AV1_BAD_DEPTH or AV1_BAD_COEFFICIENT, too. */
 uint32_t av1_inverse_transform_add_16(av1_transform_scratch *scratch, const int32_t *coefficients, size_t coefficients_len, uint16_t *samples,
                                       size_t samples_len, size_t stride, size_t x, size_t y, uint8_t tx_size, uint8_t tx_type,
                                       size_t bit_depth);
 
-/* The same, but that a coefficient of more bits is cut to the nearest number of bit_depth + 8 bits, as the AV1 specification's "Reconstruction"
- * cuts what it dequantizes. At a depth of 8 such a coefficient does not fit int16_t, so that there is no such call for samples of 8 bits.
+/* The same by rav1e's rule, which differs above a depth of 8. At a depth of 12 its identities of 4 and 16 values along rows wrap at 32 bits: of a
+ * 4x4 block of type 9 (IDTX) whose only coefficient is 400,000, the first sample becomes 0 by this call, and 4095 by the one above. And lossless
+ * blocks (type 16) are clamped between the passes, as all others.
+ * Answers as av1_inverse_transform_add_16. */
+uint32_t av1_inverse_transform_add_rav1e_16(av1_transform_scratch *scratch, const int32_t *coefficients, size_t coefficients_len,
+                                            uint16_t *samples, size_t samples_len, size_t stride, size_t x, size_t y, uint8_t tx_size,
+                                            uint8_t tx_type, size_t bit_depth);
+
+/* The same as av1_inverse_transform_add_16, but that a coefficient of more bits is cut to the nearest number of bit_depth + 8 bits, as the AV1
+ * specification's "Reconstruction" cuts what it dequantizes. At a depth of 8 such a coefficient does not fit int16_t, so that there is no such
+ * call for samples of 8 bits.
  * Answers as av1_inverse_transform_add_16, but never AV1_BAD_COEFFICIENT. */
 uint32_t av1_inverse_transform_add_clamped_16(av1_transform_scratch *scratch, const int32_t *coefficients, size_t coefficients_len,
                                               uint16_t *samples, size_t samples_len, size_t stride, size_t x, size_t y, uint8_t tx_size,
