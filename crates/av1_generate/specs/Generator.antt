@@ -36,10 +36,8 @@ shown_side version v = if version == 3 then 512 - v % 8 else 512
 unfoldable pub frame : (version number : ℕ) → Header
 frame version number = record {
   version = version;
-  width = 512;
-  height = 512;
-  shown_width = shown_side version number;
-  shown_height = shown_side version (number / 8);
+  width = shown_side version number;
+  height = shown_side version (number / 8);
   depth = 10;
   sampling = 0;
   filter = slice_index_or filter_modes.ALL (number % 4) REGULAR;

@@ -27,15 +27,13 @@ fn shown_side(version: u8, v: u32) -> u16
 #[tactic(auto, unfolding(crate::specs::Generator::frame))]
 fn frame(version: u8, number: u32) -> Header
     ensures value { result ≡ frame version number }
-    ensures width { result.shown_width ≤ 512 }
-    ensures height { result.shown_height ≤ 512 }
+    ensures width { result.width ≤ 512 }
+    ensures height { result.height ≤ 512 }
 {
     Header {
         version,
-        width: 512,
-        height: 512,
-        shown_width: shown_side(version, number),
-        shown_height: shown_side(version, number / 8),
+        width: shown_side(version, number),
+        height: shown_side(version, number / 8),
         depth: 10,
         sampling: 0,
         filter: FilterMode::ALL[(number % 4) as usize],
@@ -104,7 +102,7 @@ impl Maker {
     #[tactic(auto, using(crate::proofs::Turns::turns), unfolding(crate::specs::Generator::row))]
     fn row(&mut self, frame: &Header, number: u32, p: usize, y: u32) -> Result<(), OutOfMemory>
         requires plane { p ≤ 2 }
-        requires width { frame.now.shown_width ≤ 2048 }
+        requires width { frame.now.width ≤ 2048 }
         requires row { y ≤ 2048 }
         ensures { OnOk result (work self.new ≡ run (row frame.now number p y) (work self.old)) }
     {
@@ -118,8 +116,8 @@ impl Maker {
     #[tactic(auto, using(crate::proofs::Turns::turns), unfolding(crate::specs::Generator::plane))]
     fn plane(&mut self, frame: &Header, number: u32, p: usize) -> Result<(), OutOfMemory>
         requires plane { p ≤ 2 }
-        requires width { frame.now.shown_width ≤ 2048 }
-        requires height { frame.now.shown_height ≤ 2048 }
+        requires width { frame.now.width ≤ 2048 }
+        requires height { frame.now.height ≤ 2048 }
         ensures { OnOk result (work self.new ≡ run (plane frame.now number p) (work self.old)) }
     {
         for y in 0..frame.shown_rows(p) as u32 {
@@ -131,8 +129,8 @@ impl Maker {
     /// Writes the planes of slot 0.
     #[tactic(auto, unfolding(crate::specs::Generator::reference))]
     fn reference(&mut self, frame: &Header, number: u32) -> Result<(), OutOfMemory>
-        requires width { frame.now.shown_width ≤ 2048 }
-        requires height { frame.now.shown_height ≤ 2048 }
+        requires width { frame.now.width ≤ 2048 }
+        requires height { frame.now.height ≤ 2048 }
         ensures { OnOk result (work self.new ≡ run (reference frame.now number) (work self.old)) }
     {
         self.plane(frame, number, 0)?;

@@ -19,7 +19,7 @@ use Rattle.av1_plan.specs.declared.plan.Plan.{Plan}
 use Rattle.av1_plan.specs.Values.{plan_value}
 use Rattle.av1_plan.specs.CodingOrder.{cells_of, placed, AreInCodingOrder}
 use Rattle.av1_plan.specs.Format.{Format, ◌++>◌, lone, in_turn}
-use Rattle.av1_plan.specs.Geometry.{is_inside}
+use Rattle.av1_plan.specs.Geometry.{is_inside, coded_width, coded_height}
 use Rattle.av1_plan.specs.Grammar.{leaf, half_side, quarter_side, whole_size, part_size, leaf_part, mark, wide_stripes, tall_stripes, parts, block}
 use Rattle.av1_plan.specs.Grammar.{superblock_row}
 use Rattle.av1_plan.specs.Grammar.{superblocks, plan}
@@ -58,11 +58,11 @@ same_rectangle a b c d x y columns rows e f g h = rw (quarter a x e, quarter b y
 
 -- ---- nodes
 
-module _ {A : Type 0} (filler : A) (code : LeafValue → A) (h : Header) (columns rows : ℕ) (width_is : h.width ≡ 4 * columns)
-    (height_is : h.height ≡ 4 * rows) where
+module _ {A : Type 0} (filler : A) (code : LeafValue → A) (h : Header) (columns rows : ℕ) (width_is : coded_width h ≡ 4 * columns)
+    (height_is : coded_height h ≡ 4 * rows) where
   inside_cells : (x y : ℕ) → is_inside h (4 * x) (4 * y) ≡ (nat_lt x columns && nat_lt y rows)
   unfolding is_inside
-  inside_cells x y = cells_inside h.width h.height columns rows x y width_is height_is
+  inside_cells x y = cells_inside (coded_width h) (coded_height h) columns rows x y width_is height_is
 
   kept_inside : (x y : ℕ) (leaves : List (Placed A)) → is_inside h (4 * x) (4 * y) ≡ true → kept columns rows x y leaves ≡ leaves
   kept_inside x y leaves e = ap (λ (b : Bool). if b then leaves else []) (sym (inside_cells x y) ∙ e)
@@ -304,14 +304,15 @@ plan_trees filler code p s =
     let pieces = plan_pieces p s in
     let h = p.header in
     let frame = header_is h pieces.header in
-    let width_is = side_cells h.width frame.width in
-    let height_is = side_cells h.height frame.height in
-    let (across, count, across_count, last, end) = across_is h.width frame.width.least width_is in
-    let (down, fits) = rows_fit h.height height_is in
+    let width_is = side_cells (coded_width h) frame.width in
+    let height_is = side_cells (coded_height h) frame.height in
+    let (across, count, across_count, last, end) = across_is (coded_width h) frame.width.least width_is in
+    let (down, fits) = rows_fit (coded_height h) height_is in
     let rows_spelled = subst (λ (n : ℕ). IsSpelled (in_turn (superblock_row h) 0 n) p.leaves) down pieces.leaves in
     let (trees, trees_count, are) =
-    all_trees filler code h (h.width / 4) (h.height / 4) width_is height_is ((h.height / 4 + 15) / 16) across 0 p.leaves count last end fits rows_spelled in
-    (trees, trees_count ∙ ap (λ (n : ℕ). (h.height / 4 + 15) / 16 * n) (sym across_count) ∙ mul_comm _ _, are)
+    all_trees filler code h (coded_width h / 4) (coded_height h / 4) width_is height_is ((coded_height h / 4 + 15) / 16) across 0 p.leaves count last end
+        fits rows_spelled in
+    (trees, trees_count ∙ ap (λ (n : ℕ). (coded_height h / 4 + 15) / 16 * n) (sym across_count) ∙ mul_comm _ _, are)
 
 some_leaf : LeafValue
 some_leaf = record {

@@ -149,18 +149,18 @@ next_of (done x) v = done x
 next_of (asks k next) v = next v
 
 -- the version and the sides that a frame shows are those of its fields
-frame_fields : (m v w : ℕ) (vs : List ℕ) (h : Header) → Spells (frame m) (v ∷ w ∷ vs) h → (h.version ≡ m) × (h.shown_width ≡ v) × (h.shown_height ≡ w)
+frame_fields : (m v w : ℕ) (vs : List ℕ) (h : Header) → Spells (frame m) (v ∷ w ∷ vs) h → (h.version ≡ m) × (h.width ≡ v) × (h.height ≡ w)
 unfolding frame slots
 frame_fields m v w vs h s =
-    let view : Header → Header = λ g. record g { version = m; shown_width = v; shown_height = w } in
+    let view : Header → Header = λ g. record g { version = m; width = v; height = w } in
     let rest = next_of (next_of (frame m) v) w in
     let same = spelled_twice rest vs h (view h) s.1.1 (seen view rest vs h s.1.1).0 in
-    (ap (λ (g : Header). g.version) same, ap (λ (g : Header). g.shown_width) same, ap (λ (g : Header). g.shown_height) same)
+    (ap (λ (g : Header). g.version) same, ap (λ (g : Header). g.width) same, ap (λ (g : Header). g.height) same)
 
 -- the sides that a header of one version shows are admitted in another, too
 pub record KeepsSides (m n : ℕ) (h : Header) : Type 0 where
-  pub width : is_side m h.shown_width ≡ true → is_side n h.shown_width ≡ true
-  pub height : is_side m h.shown_height ≡ true → is_side n h.shown_height ≡ true
+  pub width : is_side m h.width ≡ true → is_side n h.width ≡ true
+  pub height : is_side m h.height ≡ true → is_side n h.height ≡ true
 
 frame_seen : (m n : ℕ) (vs : List ℕ) (h : Header) → KeepsSides m n h → Spells (frame m) vs h
     → Spells (frame n) vs (header_in n h) × (text (frame n) vs ≡ text (frame m) vs)
@@ -382,13 +382,13 @@ whole_side v whole e = rw whole e
 pub third_keeps_second : ThirdKeepsSecond
 third_keeps_second rest p t =
     text_in (λ ls. Unit {0}) (λ xs ys u. (tt, tt)) 2 3 (codes "RPL2") (codes "RPL3") second_letters third_letters
-    (λ h second. marks_kept 3 (lit≤ tt) h) rest p t (record { width = any_side p.header.shown_width; height = any_side p.header.shown_height }) tt
+    (λ h second. marks_kept 3 (lit≤ tt) h) rest p t (record { width = any_side p.header.width; height = any_side p.header.height }) tt
 
 pub second_has_rest : SecondHasRest
 second_has_rest rest p t wide high =
     text_in (λ ls. Unit {0}) (λ xs ys u. (tt, tt)) 3 2 (codes "RPL3") (codes "RPL2") third_letters second_letters
     (λ h third. marks_kept 2 (lit≤ tt) h) rest p t
-    (record { width = whole_side p.header.shown_width wide; height = whole_side p.header.shown_height high }) tt
+    (record { width = whole_side p.header.width wide; height = whole_side p.header.height high }) tt
 
 -- ---- no stripes where no side is more than twice the other
 

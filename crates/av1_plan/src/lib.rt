@@ -46,7 +46,7 @@ mod reader;
 
 pub use check::{admits_references, check_leaves, check_plan, is_inter_size};
 pub use error::{Invalid, InvalidKind, PlanError};
-pub use geometry::{PlaneArea, TransformBlock, carries_chroma, coded_side, plane_tx_size};
+pub use geometry::{PlaneArea, TransformBlock, carries_chroma, plane_tx_size};
 pub use header::Header;
 pub use laws::{
     earlier_versions_show_what_is_coded, fronts_have_these_lengths, pieces_are_a_plan,

@@ -84,8 +84,8 @@ pub fn stored_references<T: Pixel>(
 {
     let mut fi = FrameInvariants::new(
         alloc,
-        usize::from(header.width),
-        usize::from(header.height),
+        header.coded_width(),
+        header.coded_height(),
         header.filter,
         usize::from(header.depth),
         header.edge_filter,
@@ -114,8 +114,8 @@ pub fn frame_invariants<T: Pixel>(
     let header = *plan.header();
     let mut fi = FrameInvariants::new(
         alloc,
-        usize::from(header.width),
-        usize::from(header.height),
+        header.coded_width(),
+        header.coded_height(),
         header.filter,
         usize::from(header.depth),
         header.edge_filter,

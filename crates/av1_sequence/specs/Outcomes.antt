@@ -63,10 +63,8 @@ abbrev pub frames_of : (version width height depth sampling : ℕ) → Header
 frames_of version width height depth sampling =
     record {
       version = version;
-      width = coded_side width;
-      height = coded_side height;
-      shown_width = width;
-      shown_height = height;
+      width = width;
+      height = height;
       depth = depth;
       sampling = sampling;
       filter = REGULAR;

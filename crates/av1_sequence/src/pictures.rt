@@ -192,8 +192,8 @@ impl<T: Pixel> Pictures<T> {
     {
         let fi = FrameInvariants::new(
             alloc,
-            usize::from(header.width),
-            usize::from(header.height),
+            header.coded_width(),
+            header.coded_height(),
             header.filter,
             usize::from(header.depth),
             header.edge_filter,
@@ -249,8 +249,6 @@ impl<T: Pixel> Pictures<T> {
             version: self.header.version,
             width: self.header.width,
             height: self.header.height,
-            shown_width: self.header.shown_width,
-            shown_height: self.header.shown_height,
             depth: self.header.depth,
             sampling: self.header.sampling,
             filter: head.filter,

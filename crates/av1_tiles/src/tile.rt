@@ -17,7 +17,7 @@ use crate::TileFault;
 use crate::area::TileArea;
 use crate::error::TileError;
 use crate::file::{Front, TileFile};
-use av1_plan::{Header, Plan, PlanError, SlotPlanes, check_plan, coded_side, parse_plan_behind};
+use av1_plan::{Header, Plan, PlanError, SlotPlanes, check_plan, parse_plan_behind};
 use std::alloc::{AllocError, Global};
 
 /// The rectangle between the bounds from a column and a row of tiles on.
@@ -29,8 +29,8 @@ fn area_between(
     row: usize,
 ) -> TileArea
     requires frame { IsReadFrame header.now }
-    requires columns { AreBounds header.now.shown_width columns.now }
-    requires rows { AreBounds header.now.shown_height rows.now }
+    requires columns { AreBounds header.now.width columns.now }
+    requires rows { AreBounds header.now.height rows.now }
     requires column { column + 1 < length columns.now }
     requires row { row + 1 < length rows.now }
     ensures value { result ≡ area_between columns.now rows.now column row }
@@ -71,10 +71,8 @@ fn tile_header(header: &Header, area: TileArea) -> Header
 {
     Header {
         version: header.version,
-        width: coded_side(area.width),
-        height: coded_side(area.height),
-        shown_width: area.width,
-        shown_height: area.height,
+        width: area.width,
+        height: area.height,
         depth: header.depth,
         sampling: header.sampling,
         filter: header.filter,
