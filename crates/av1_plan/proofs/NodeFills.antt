@@ -1,5 +1,5 @@
 -- The nodes that are drawn are of the plan grammar, with leaves none of which is faulty.
-use Rattle.std.proofs.Common.{◌≡◌, ℕ, zero, suc, ◌+◌, ◌*◌, ◌^◌, ◌<◌, ◌≤◌, List, [], ◌∷◌, ◌++◌, None, refl, arith, lit<, lit≤}
+use Rattle.std.proofs.Common.{◌≡◌, ℕ, zero, suc, ◌+◌, ◌*◌, ◌/◌, ◌^◌, ◌<◌, ◌≤◌, List, [], ◌∷◌, ◌++◌, None, refl, arith, lit<, lit≤}
 use Rattle.std.proofs.lemmas.Bool.{lt-ltb}
 use Rattle.std.proofs.lemmas.Nat.{pow_pos}
 use Rattle.std.proofs.Math.Nat.{pow-succ'}
@@ -18,6 +18,7 @@ use Rattle.av1_plan.specs.Generator.{frame, leaf_part, parts, block, superblock_
 use Rattle.av1_plan.proofs.FieldKinds.{mark_is}
 use Rattle.av1_plan.proofs.Fills.{Fills, fills_lone, asked, weaker, drawing, Grows, fills_both, four_fill, fills_each}
 use Rattle.av1_plan.proofs.LeafFills.{leaf_fills}
+use Rattle.av1_plan.proofs.Sides.{frame_coded, side_superblocks}
 
 -- no leaf is faulty
 abbrev pub AreValid : Header → List LeafValue → Type 0
@@ -41,9 +42,10 @@ no_first_fault h n (l ∷ leaves) p = rw p.0 (no_first_fault h (n + 1) leaves p.
 
 part_fills : (version number x y : ℕ) (size : BlockSize) → x < 512 → y < 512
     → Fills (leaf_part (frame version number) size x y) (grammar.leaf_part (frame version number) size x y) 83 (AreValid (frame version number))
-unfolding grammar.leaf_part is_inside frame
+unfolding grammar.leaf_part is_inside
 part_fills version number x y size lt_x lt_y =
-    rw (lt-ltb x 512 lt_x, lt-ltb y 512 lt_y) (fills_lone (leaf_fills version number x y size lt_x lt_y) (λ l p. (p, tt)))
+    let coded = frame_coded version number in
+    rw (coded.0, coded.1, lt-ltb x 512 lt_x, lt-ltb y 512 lt_y) (fills_lone (leaf_fills version number x y size lt_x lt_y) (λ l p. (p, tt)))
 
 -- the most bytes that a part of a level has
 abbrev room : ℕ → ℕ
@@ -112,11 +114,12 @@ parts_fill version number level side x y (suc (suc (suc zero))) lt node quarter 
     (four_fill grows (quarter x y in_x in_y) (quarter right y in_right in_y) (quarter x below in_x in_below) (quarter right below in_right in_below))
 
 pub block_fills : (version number level : ℕ) → AreFilled version number level
-unfolding block grammar.block grammar.mark is_inside frame
+unfolding block grammar.block grammar.mark is_inside
 block_fills version number zero x y in_x in_y = part_fills version number x y BLOCK_4X4 (omega arith) (omega arith)
 block_fills version number (suc level) x y in_x in_y =
     let node = node_is level x y in_x in_y in
-    rw (lt-ltb x 512 (omega (arith, node.right, node.some)), lt-ltb y 512 (omega (arith, node.below, node.some)))
+    let coded = frame_coded version number in
+    rw (coded.0, coded.1, lt-ltb x 512 (omega (arith, node.right, node.some)), lt-ltb y 512 (omega (arith, node.below, node.some)))
     (drawing 4 (λ mark. writes one mark >> parts (frame version number) (suc level) (block (frame version number) level) x y mark) (lit< tt) (λ mark lt.
     asked {n = 4 * room level} (where_ one (grammar.is_mark (frame version number) (suc level) x y))
     (λ v. grammar.parts (frame version number) (suc level) (grammar.block (frame version number) level) x y (grammar.cut_by v)) mark
@@ -129,13 +132,15 @@ row_fills : (version number row : ℕ) → row < 8 →
     Fills (superblock_row (frame version number) row) (grammar.superblock_row (frame version number) row) (8 * room 4) (AreValid (frame version number))
 unfolding superblock_row grammar.superblock_row frame
 row_fills version number row lt =
-    fills_each (λ col. block (frame version number) 4 (64 * col) (64 * row)) (λ col. grammar.block (frame version number) 4 (64 * col) (64 * row))
+    rw (side_superblocks version number)
+    (fills_each (λ col. block (frame version number) 4 (64 * col) (64 * row)) (λ col. grammar.block (frame version number) 4 (64 * col) (64 * row))
     (room 4) 0 8 (valid_grows (frame version number))
-    (λ col le lt_8. block_fills version number 4 (64 * col) (64 * row) (omega arith) (omega arith))
+    (λ col le lt_8. block_fills version number 4 (64 * col) (64 * row) (omega arith) (omega arith)))
 
 pub superblocks_fill : (version number : ℕ) → Fills (superblocks (frame version number)) (grammar.superblocks (frame version number)) (8 * (8 * room 4))
     (AreValid (frame version number))
 unfolding superblocks grammar.superblocks frame
 superblocks_fill version number =
-    fills_each (superblock_row (frame version number)) (grammar.superblock_row (frame version number)) (8 * room 4) 0 8 (valid_grows (frame version number))
-    (λ row le lt. row_fills version number row (omega arith))
+    rw (side_superblocks version (number / 8))
+    (fills_each (superblock_row (frame version number)) (grammar.superblock_row (frame version number)) (8 * room 4) 0 8 (valid_grows (frame version number))
+    (λ row le lt. row_fills version number row (omega arith)))

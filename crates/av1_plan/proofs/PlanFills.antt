@@ -15,7 +15,7 @@ use Rattle.av1_plan.proofs.FieldKinds.{byte_is}
 use Rattle.av1_plan.proofs.Fills.{Filled, Fills, follows, ends, fills_done, asked, asked_last}
 use Rattle.av1_plan.proofs.NodeFills.{no_first_fault, superblocks_fill}
 use Rattle.av1_plan.proofs.ReferenceFills.{references_fill}
-use Rattle.av1_plan.proofs.Sides.{IsVersion, letters_are, letters_name, side_is, side_coded}
+use Rattle.av1_plan.proofs.Sides.{IsVersion, letters_are, letters_name, side_is}
 
 -- ---- the header
 
@@ -47,7 +47,7 @@ frame_fills version number =
     (asked {n = 8} (byte_from 0 1) _ (number / 4 % 2) (byte_is 0 1 (number / 4 % 2) (lit< tt) (omega arith) (omega arith))
     (follows _ slots_fill (λ s is.
     asked_last (any one) _ 1 (record { fits = lit< tt; admitted = refl })
-    (fills_done _ (rw (is, side_coded version number, side_coded version (number / 8)) refl)))))))))
+    (fills_done _ (rw is refl)))))))))
 
 header_fills : (version number : ℕ) → IsVersion version → Fills (header version number) grammar.header 20 (λ h. h ≡ frame version number)
 unfolding header grammar.header grammar.version

@@ -1,13 +1,13 @@
 -- The sides that are shown are such as the version admits, and what is coded for them is 512; the letters name the version.
-use Rattle.std.proofs.Common.{◌≡◌, ℕ, zero, suc, ◌-◌, ◌%◌, ◌≤◌, Bool, true, false, if◌then◌else◌, refl, arith, lit<, lit≤}
+use Rattle.std.proofs.Common.{◌≡◌, ℕ, zero, suc, ◌+◌, ◌-◌, ◌/◌, ◌%◌, ◌≤◌, Bool, true, false, if◌then◌else◌, refl, arith, lit<, lit≤}
 use Rattle.std.specs.Prelude.{◌==◌, ◌||◌, ◌&&◌}
 use Rattle.std.specs.Int.{is_in_range}
 use Rattle.std.proofs.lemmas.Bool.{eqb-true}
 use Rattle.av1_plan.specs.Format.{two, four, IsAdmitted}
-use Rattle.av1_plan.specs.Geometry.{coded_side}
+use Rattle.av1_plan.specs.Geometry.{coded_side, coded_width, coded_height}
 use Rattle.av1_plan.specs.Grammar.{where_, is_magic, version_of, is_side}
 use Rattle.av1_lists.proofs.Below.{below}
-use Rattle.av1_plan.specs.Generator.{letters, shown_side}
+use Rattle.av1_plan.specs.Generator.{frame, letters, shown_side}
 
 -- one of the three versions
 abbrev pub IsVersion : ℕ → Type 0
@@ -59,6 +59,20 @@ coded_by : (any : Bool) (v : ℕ) → coded_side (side_by any v) ≡ 512
 coded_by true v = eqb-true (coded_side (512 - v % 8)) 512 (below 8 (λ r. coded_side (512 - r) == 512) refl (v % 8) (omega arith))
 coded_by false v = refl
 
-pub side_coded : (version v : ℕ) → coded_side (shown_side version v) ≡ 512
+side_coded : (version v : ℕ) → coded_side (shown_side version v) ≡ 512
 unfolding shown_side
 side_coded version v = coded_by (version == 3) v
+
+-- what is coded of the frame
+pub frame_coded : (version number : ℕ) → (coded_width (frame version number) ≡ 512) × (coded_height (frame version number) ≡ 512)
+unfolding coded_width coded_height frame
+frame_coded version number = (side_coded version number, side_coded version (number / 8))
+
+superblocks_by : (any : Bool) (v : ℕ) → (side_by any v + 63) / 64 ≡ 8
+superblocks_by true v = omega arith
+superblocks_by false v = refl
+
+-- eight superblocks hold a side
+pub side_superblocks : (version v : ℕ) → (shown_side version v + 63) / 64 ≡ 8
+unfolding shown_side
+side_superblocks version v = superblocks_by (version == 3) v

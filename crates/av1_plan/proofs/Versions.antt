@@ -15,7 +15,7 @@ use Rattle.av1_blocks.specs.Blocks.{block_width, block_height}
 use Rattle.av1_plan.specs.declared.header.Header.{Header}
 use Rattle.av1_plan.specs.CodingOrder.{IsTwoToOne}
 use Rattle.av1_plan.specs.Format.{Format, done, asks, ◌>>=◌, one, two, width, lone, ◌++>◌}
-use Rattle.av1_plan.specs.Geometry.{xdec, ydec, shown_columns, shown_rows, has_slot, is_inside, carries_chroma}
+use Rattle.av1_plan.specs.Geometry.{coded_width, coded_height, xdec, ydec, shown_columns, shown_rows, has_slot, is_inside, carries_chroma}
 use Rattle.av1_plan.specs.Grammar.{is_magic, is_side, version_of, version, slots, frame, header, reference, slot_planes, references, leaf, quarter_side}
 use Rattle.av1_plan.specs.Grammar.{part_size}
 use Rattle.av1_plan.specs.Grammar.{leaf_part}
@@ -37,11 +37,11 @@ unfolding references slot_planes reference shown_columns shown_rows xdec ydec ha
 references_same n h = refl
 
 inside_same : (n : ℕ) (h : Header) (x y : ℕ) → is_inside h x y ≡ is_inside (header_in n h) x y
-unfolding is_inside
+unfolding is_inside coded_width coded_height
 inside_same n h x y = refl
 
 part_same : (n : ℕ) (h : Header) (size : BlockSize) (x y : ℕ) → leaf_part h size x y ≡ leaf_part (header_in n h) size x y
-unfolding leaf_part leaf is_inside carries_chroma xdec ydec
+unfolding leaf_part leaf is_inside coded_width coded_height carries_chroma xdec ydec
 part_same n h size x y = refl
 
 -- ---- what stands behind the header
@@ -93,7 +93,7 @@ module _ (P : List LeafValue → Type 0) (split : (xs ys : List LeafValue) → P
       )
 
   block_taken : (k : ℕ) → k ≤ 4 → (x y : ℕ) → TakesOverList P split (block h k x y) (block (header_in n h) k x y)
-  unfolding block is_inside
+  unfolding block is_inside coded_width coded_height
   block_taken zero le x y = part_taken _ x y
   block_taken (suc k) le x y =
       let node : (x y : ℕ) → TakesOverList P split (block h k x y) (block (header_in n h) k x y) = block_taken k (omega (arith, le)) in
@@ -360,7 +360,7 @@ second_keeps_first rest p t =
 -- a node that is cut into stripes is so in each version that has them
 high_mark : (n : ℕ) (h : Header) (level x y v : ℕ) → 2 ≤ n → 8 ≤ v → v ≤ 9 → admits_stripes h level x y ≡ true →
     is_mark (header_in n h) level x y v ≡ true
-unfolding is_mark admits_stripes
+unfolding is_mark admits_stripes coded_width coded_height
 high_mark n h level x y v late least most e =
     let is = striped_is h level x y e in
     or_right (nat_le v 3) _
