@@ -4,8 +4,8 @@ ghost use Rattle.std.specs.Prelude.{◌≡◌, ◌≤◌};
 ghost use Rattle.av1_plan.specs.Generator.{chroma_modes};
 
 use crate::generate::maker::Maker;
-use av1_blocks::{BlockSize, OutOfMemory};
 use crate::{Header, admits_references};
+use av1_blocks::{BlockSize, OutOfMemory};
 
 /// How many chroma modes a leaf of this size may have: chroma from luma, the last, is for sides up to 32.
 #[tactic(auto, unfolding(crate::specs::Generator::chroma_modes, av1_blocks::specs::Blocks::cfl_allowed))]

@@ -4,9 +4,9 @@ ghost use Rattle.std.specs.Prelude.{◌≡◌, ◌≤◌, ◌^◌, IfOk, vec_len
 ghost use Rattle.av1_plan.specs.Generator.{shown_side, frame, sample, plan_bytes_in, plan_bytes};
 ghost use Rattle.av1_plan.specs.Text.{ArePlan, AreFaultless};
 
+use crate::Header;
 use crate::generate::maker::Maker;
 use av1_blocks::{FilterMode, OutOfMemory};
-use crate::Header;
 use std::alloc::Global;
 
 /// A side of the frame that is shown: all that is coded, in the third version up to 7 fewer.

@@ -1,8 +1,8 @@
 //! The nodes of superblocks, down to their leaves.
 
 use crate::generate::maker::Maker;
-use av1_blocks::{BlockSize, OutOfMemory, PartitionType};
 use crate::{Header, carries_chroma, half_side, part_size, whole_size};
+use av1_blocks::{BlockSize, OutOfMemory, PartitionType};
 
 impl Maker {
     ghost use Rattle.std.specs.Prelude.{◌≡◌, ◌+◌, ◌-◌, ◌*◌, ◌<◌, ◌≤◌, OnOk};

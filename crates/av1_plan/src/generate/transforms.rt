@@ -1,8 +1,8 @@
 //! Leaves: how one is transformed, and its coefficients.
 
+use crate::Header;
 use crate::generate::maker::Maker;
 use av1_blocks::{BlockSize, OutOfMemory, TxSize};
-use crate::Header;
 
 impl Maker {
     ghost use Rattle.std.specs.Prelude.{◌≡◌, ◌<◌, OnOk};
