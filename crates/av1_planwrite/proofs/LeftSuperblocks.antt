@@ -9,7 +9,7 @@ use Rattle.av1_planwrite.specs.Asked.{across, down, block_before, row_before, ro
 use Rattle.av1_planwrite.specs.Building.{first_part, later_parts}
 
 within : (h : Header) (row col : ℕ) → row < down h → col < across h → is_inside h (64 * col) (64 * row) ≡ true
-unfolding is_inside
+unfolding is_inside coded_width coded_height
 within h row col r c = rw (lt-ltb (64 * col) (coded_width h) (omega (arith, c)), lt-ltb (64 * row) (coded_height h) (omega (arith, r))) refl
 
 one_more : (h : Header) (row col n : ℕ) (others : List Part) → row < down h → col < across h

@@ -93,7 +93,7 @@ block_outside h (suc level) x y others lt e = rw e refl
 
 -- what lies in the frame lies in a frame of the greatest sides
 pub in_greatest : (h : Header) (x y : ℕ) → h.width ≤ 2048 → h.height ≤ 2048 → is_inside h x y ≡ true → (nat_lt x 2048 ≡ true) × (nat_lt y 2048 ≡ true)
-unfolding is_inside
+unfolding is_inside coded_width coded_height
 in_greatest h x y width height e =
     let (a, b) = and_parts (nat_lt x (coded_width h)) (nat_lt y (coded_height h)) e in
     (lt-ltb x 2048 (omega (arith, width, ltb-true x (coded_width h) a)), lt-ltb y 2048 (omega (arith, height, ltb-true y (coded_height h) b)))

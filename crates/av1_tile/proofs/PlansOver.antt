@@ -178,7 +178,8 @@ product_within : (a b c d : ℕ) → a ≤ c → b ≤ d → a * b ≤ c * d
 product_within a b c d h k = grind arith
 
 -- what has room for a frame has room for each that isn't wider or higher
-pub room_within : (h k : Header) (room : WalkRoom) → coded_width k ≤ coded_width h → coded_height k ≤ coded_height h → HasRoomFor h room → HasRoomFor k room
+pub room_within : (h k : Header) (room : WalkRoom) → k.width ≤ h.width → k.height ≤ h.height → HasRoomFor h room → HasRoomFor k room
+unfolding coded_width coded_height
 room_within h k room wide high roomy =
     let few = product_within (coded_height k / 4) (coded_width k / 4) (coded_height h / 4) (coded_width h / 4) (omega (arith, high)) (omega (arith, wide)) in
     omega (arith, few, roomy)

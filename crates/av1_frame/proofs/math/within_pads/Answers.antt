@@ -1,7 +1,7 @@
 use Rattle.std.proofs.Common.{arith, ◌≡◌, ◌∙◌, ap, pos, ◌-ℤ◌, neg_ℤ, to_z, of_z, w64}
 use Rattle.std.specs.Int.{int_min}
 use Rattle.std.proofs.lemmas.Int.{ints}
-use Rattle.av1_frame.proofs.plane_slice.within_pads.Goals as goal
+use Rattle.av1_frame.proofs.math.within_pads.Goals as goal
 
 pub returns : goal.returns
 returns c =
