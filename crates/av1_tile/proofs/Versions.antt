@@ -22,7 +22,8 @@ use Rattle.av1_inter.specs.Reference.{vector_of, reference_of as reference_in}
 use Rattle.av1_itx.specs.Residue.{is_lossless, residue, residue_by}
 use Rattle.av1_itx.proofs.NoWrap.{lossless_residue, shallow_residue}
 use Rattle.av1_plan.specs.declared.header.Header.{Header}
-use Rattle.av1_plan.specs.Geometry.{xdec, ydec, plane_width, plane_height, carries_chroma, covers_plane, plane_place, plane_size, plane_tx_size, plane_area}
+use Rattle.av1_plan.specs.declared.leaf.Triple.{Triple}
+use Rattle.av1_plan.specs.Geometry.{coded_width, coded_height, xdec, ydec, plane_width, plane_height, carries_chroma, covers_plane, plane_place, plane_size, plane_tx_size, plane_area}
 use Rattle.av1_plan.specs.declared.leaf.LeafKind.{LeafKind}
 use Rattle.av1_plan.specs.declared.leaf.LeafKind.TheVariants.{Intra, Single, Compound}
 use Rattle.av1_plan.specs.Geometry.{follows_av1, has_block, transform_block, shown_columns, shown_rows}
@@ -47,7 +48,7 @@ use Rattle.av1_tile.specs.Versions.{AddsTheSame, AgreesIn, EarlierKeepFilter, Ea
 module _ (n : ℕ) (h : Header) where
   component_same : (earlier : List LeafValue) (leaf : LeafValue) (c : Component)
       → component_steps (header_in n h) (λ k. plane_block (header_in n h) earlier k leaf) leaf c ≡ component_steps h (λ k. plane_block h earlier k leaf) leaf c
-  unfolding steps_at transform_block has_block plane_area plane_place plane_size plane_tx_size plane_width plane_height xdec ydec covers_plane carries_chroma
+  unfolding steps_at transform_block has_block plane_area plane_place plane_size plane_tx_size coded_width coded_height plane_width plane_height xdec ydec covers_plane carries_chroma
   component_same earlier leaf Y = refl
   component_same earlier leaf U = refl
   component_same earlier leaf V = refl
@@ -114,7 +115,7 @@ module _ (n : ℕ) (plan : PlanValue) (agrees : AgreesIn n plan) where
 
   prediction_same : (c : Component) (prediction : Prediction) (a : VisibleArea) (edge : PredictionMode → ℤ → Edge) (luma : ℕ → ℕ → ℤ) (r k : ℕ)
       → by_prediction (scene (plan_in n plan)) (number c) prediction a edge luma r k ≡ by_prediction (scene plan) (number c) prediction a edge luma r k
-  unfolding by_prediction plane_width plane_height xdec ydec
+  unfolding by_prediction coded_width coded_height plane_width plane_height xdec ydec
   prediction_same Y (predictions.Intra mode step filter) a edge luma r k = refl
   prediction_same U (predictions.Intra mode step filter) a edge luma r k = refl
   prediction_same V (predictions.Intra mode step filter) a edge luma r k = refl
@@ -127,7 +128,7 @@ module _ (n : ℕ) (plan : PlanValue) (agrees : AgreesIn n plan) where
 
   predicted_same : (canvas : Canvas) (c : Component) (block : PlaneBlock) (a : VisibleArea) (r k : ℕ) →
       predicted (scene (plan_in n plan)) canvas c block a r k ≡ predicted (scene plan) canvas c block a r k
-  unfolding predicted plane_width plane_height shown_columns shown_rows xdec ydec
+  unfolding predicted coded_width coded_height plane_width plane_height shown_columns shown_rows xdec ydec
   predicted_same canvas Y block a r k = prediction_same Y block.prediction a _ _ r k
   predicted_same canvas U block a r k = prediction_same U block.prediction a _ _ r k
   predicted_same canvas V block a r k = prediction_same V block.prediction a _ _ r k
