@@ -5,7 +5,7 @@ import shutil
 import subprocess
 import sys
 
-from . import edits, library
+from . import edits, library, wrapper
 
 HOME = os.path.dirname(edits.HERE)
 OUT = os.path.join(HOME, "out")
@@ -87,6 +87,15 @@ def encoder_on_library(archive, crate, source, assembly=False):
         library.apply(copy, crate)
 
     return Build(source, "library", assembly, made).program(apply, {"AV1_C_FOLDER": os.path.dirname(os.path.abspath(archive))})
+
+
+def answering(source):
+    """The path of the program that answers plans by rav1e's functions, of rav1e 0.8.1."""
+    need(source)
+    if edits.version_of(source) != "0.8.1":
+        fail(f"rav1e 0.8.1, which the wrapper calls; {source} is another version", HOW)
+    made = [*parts_of(("edits.py", "wrapper.py")), *(os.path.join(wrapper.FOLDER, name) for name in sorted(os.listdir(wrapper.FOLDER)))]
+    return Build(source, "wrapper", False, made).program(wrapper.apply, {})
 
 
 def stamp_of(program):
