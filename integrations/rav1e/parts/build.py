@@ -74,7 +74,7 @@ def recorder_parts():
 def encoder(source, assembly=False, as_it_is=False):
     """The path of the recorder; with `assembly` it has rav1e's assembler, with `as_it_is` its decisions and bits are rav1e's."""
     kind, chosen = ("as_it_is", edits.AS_IT_IS) if as_it_is else ("recorder", edits.EDITS)
-    return Build(source, kind, assembly, recorder_parts()).program(lambda copy: edits.apply(copy, chosen), {})
+    return Build(source, kind, features_with(assembly), recorder_parts()).program(lambda copy: edits.apply(copy, chosen))
 
 
 def encoder_on_library(archive, crate, source, assembly=False):
@@ -86,16 +86,23 @@ def encoder_on_library(archive, crate, source, assembly=False):
         edits.apply(copy, edits.EDITS)
         library.apply(copy, crate)
 
-    return Build(source, "library", assembly, made).program(apply, {"AV1_C_FOLDER": os.path.dirname(os.path.abspath(archive))})
+    build = Build(source, "library", features_with(assembly), made)
+    return build.program(apply, AV1_C_FOLDER=os.path.dirname(os.path.abspath(archive)))
+
+
+def features_with(assembly):
+    """The features of rav1e that an encoder is built with."""
+    return "binaries,asm" if assembly else "binaries"
 
 
 def answering(source):
-    """The path of the program that answers plans by rav1e's functions, of rav1e 0.8.1."""
+    """The path of the program that answers plans by rav1e's functions, of rav1e 0.8.1, for the processors that `rt` builds for."""
     need(source)
     if edits.version_of(source) != "0.8.1":
         fail(f"rav1e 0.8.1, which the wrapper calls; {source} is another version", HOW)
     made = [*parts_of(("edits.py", "wrapper.py")), *(os.path.join(wrapper.FOLDER, name) for name in sorted(os.listdir(wrapper.FOLDER)))]
-    return Build(source, "wrapper", False, made).program(wrapper.apply, {})
+    build = Build(source, "wrapper", "", made, flags=" -C target-cpu=x86-64-v2")
+    return build.program(wrapper.apply)
 
 
 def stamp_of(program):
@@ -104,38 +111,51 @@ def stamp_of(program):
         return file.read()
 
 
+def wait(process):
+    """The status of a process, with a line for each half minute that it takes."""
+    seconds = 0
+    while True:
+        try:
+            return process.wait(30)
+        except subprocess.TimeoutExpired:
+            seconds += 30
+            print(f"building: {seconds} s", file=sys.stderr, flush=True)
+
+
 class Build:
-    """An encoder that is built in out/VERSION/KIND, and the crates that it depends on in out/VERSION/target, for all kinds."""
+    """A program that is built in out/VERSION/KIND; those with the same flags share what they depend on."""
 
-    def __init__(self, source, kind, assembly, made):
+    def __init__(self, source, kind, features, made, flags=""):
         need(source)
-        self.source, self.features = source, "binaries,asm" if assembly else "binaries"
+        self.source, self.features, self.flags = source, features, "--cap-lints allow" + flags
         self.version = edits.version_of(source)
-        self.out = os.path.join(OUT, self.version, kind + "_assembly" * assembly)
-        self.stamp = digest(source, self.features, made)
+        self.out = os.path.join(OUT, self.version, kind + "_assembly" * ("asm" in features))
+        self.target = os.path.join(OUT, self.version, "target" if not flags else f"target_{kind}")
+        self.stamp = digest(source, features, made)
 
-    def program(self, apply, variables):
-        """The encoder's path; it is built if it isn't there, or if what it is made of has changed."""
+    def program(self, apply, **variables):
+        """The program's path; it is built if it isn't there, or if what it is made of has changed."""
         path = os.path.join(self.out, "rav1e")
         if not (os.path.isfile(path) and os.path.isfile(os.path.join(self.out, "stamp")) and stamp_of(path) == self.stamp):
-            shutil.copy(self.built(apply, variables), path)
+            built = self.built(apply, variables)
+            shutil.copy(built, path)
             with open(os.path.join(self.out, "stamp"), "w", encoding="utf-8") as file:
                 file.write(self.stamp)
         return path
 
     def built(self, apply, variables):
         """Copies the source, applies the edits and builds the copy; gives the path that cargo leaves."""
-        crate, target = os.path.join(self.out, "source"), os.path.join(OUT, self.version, "target")
+        crate = os.path.join(self.out, "source")
         shutil.rmtree(crate, ignore_errors=True)
         shutil.copytree(self.source, crate)
         apply(crate)
         os.makedirs(os.path.join(crate, ".cargo"), exist_ok=True)
         with open(os.path.join(crate, ".cargo/config.toml"), "w", encoding="utf-8") as file:
             file.write(CONFIG.format(registry=registry_of(self.source, self.version)))
-        environment = {**os.environ, **variables, "RUSTFLAGS": "--cap-lints allow", "CARGO_TARGET_DIR": target}
+        environment = {**os.environ, **variables, "RUSTFLAGS": self.flags, "CARGO_TARGET_DIR": self.target}
         words = ["cargo", "build", "--release", "--offline", "--quiet", "-j", os.environ.get("RECORD_JOBS", "2"),
                  "--no-default-features", "--features", self.features]
-        print(f"building rav1e {self.version}, {os.path.basename(self.out)}, from {self.source} (some minutes, once)", file=sys.stderr, flush=True)
-        if subprocess.run(words, cwd=crate, env=environment).returncode:
-            sys.exit("the encoder didn't build")
-        return os.path.join(target, "release/rav1e")
+        print(f"building {os.path.basename(self.out)} of rav1e {self.version}, once, from {self.source}", file=sys.stderr, flush=True)
+        if wait(subprocess.Popen(words, cwd=crate, env=environment)):
+            sys.exit(f"{crate} didn't build")
+        return os.path.join(self.target, "release/rav1e")

@@ -9,6 +9,12 @@ FOLDER = os.path.join(os.path.dirname(edits.HERE), "wrapper")
 # The edits of the recorder by which a module chooses the short filter, and says how an identity scales.
 AS_AV1 = ("the short filter", "the identity of 4", "the identity of 16")
 
+BUILD = [
+    edits.Edit("a program without rav1e's own crates", "Cargo.toml", 'required-features = ["binaries"]\n', ""),
+    edits.Edit("a build of the whole program at once", "Cargo.toml", 'debug = 2\nincremental = true', "debug = false\nincremental = false\ncodegen-units = 1"),
+    edits.Edit("the module", "src/lib.rs", "mod predict;\n", "mod predict;\npub mod wrapper;\n"),
+]
+
 
 def of_wrapper(edit):
     """The recorder's edit, with the wrapper's module in place of the recorder's."""
@@ -22,6 +28,5 @@ def apply(crate):
     shutil.copytree(FOLDER, os.path.join(crate, "src/wrapper"))
     with open(os.path.join(crate, "src/bin/rav1e.rs"), "w", encoding="utf-8") as file:
         file.write("fn main() {\n  rav1e::wrapper::main()\n}\n")
-    module = edits.Edit("the module", "src/lib.rs", "mod predict;\n", "mod predict;\npub mod wrapper;\n")
     own = [of_wrapper(edit) for edit in edits.SETTINGS if edit.what in AS_AV1]
-    edits.apply_all(crate, [edits.TESTS, *edits.LESS, edits.BUILD[0], module, *own])
+    edits.apply_all(crate, [edits.TESTS, *edits.LESS, *BUILD, *own])

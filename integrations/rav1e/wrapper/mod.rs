@@ -20,7 +20,7 @@ pub const LIMIT: usize = 1 << 26;
 const USAGE: &str = "usage: recon [make N | sum N]";
 const USAGE_OF_TOOLS: &str = "usage: tools tiles | trace | sequence | bare";
 
-/// Where rav1e departs from AV1 in a plan of version 3, whose samples are AV1's, it has no answer.
+/// In a plan of version 3, whose samples are AV1's, there is no answer if rav1e predicts shared chroma otherwise.
 const NO_ANSWER: i32 = 9;
 
 /// What the program writes, and its status.
@@ -71,8 +71,9 @@ pub fn scaled(factor: i32, value: i32) -> i32 {
   }
 }
 
-/// Ends the program: rav1e has no answer.
+/// Ends the program: rav1e predicts chroma that leaves share otherwise than AV1.
 pub fn no_answer() -> ! {
+  eprintln!("no answer: rav1e departs from AV1 in chroma that leaves share");
   std::process::exit(NO_ANSWER)
 }
 
