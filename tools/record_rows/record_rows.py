@@ -39,11 +39,16 @@ def on_blocks(work):
     return subprocess.run([str(work / "recorder")], capture_output=True, check=True).stdout
 
 
+def wrapper():
+    """The program that answers runs by rav1e's code."""
+    program = subprocess.run([INTEGRATION / "answer", "--path"], stdout=subprocess.PIPE, text=True, check=True).stdout.strip()
+    return runs.Wrapper(program)
+
+
 def of_runs(stored, work):
     """The rows of runs: those that are written here, behind those of the programs and of the tools the stored ones whose input
     was drawn. WORK/names gets what each is, by its number."""
-    program = subprocess.run([INTEGRATION / "answer", "--path"], stdout=subprocess.PIPE, text=True, check=True).stdout.strip()
-    rows = runs.Runs(runs.Wrapper(program))
+    rows = runs.Runs(wrapper())
     departure_rows.record(rows)
     for kind, record in ((runs.PROGRAM, program_rows.record), (runs.TOOLS, tool_rows.record)):
         record(rows)

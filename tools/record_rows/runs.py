@@ -6,6 +6,8 @@ import zlib
 # The number of a call that no run makes.
 NEVER = 2**32 - 1
 PROGRAM, TOOLS = 0, 1
+# The statuses of answers: done, refused, and of a trace that planes differ.
+ANSWERS = (0, 2, 7)
 WORDS_OF_TOOLS = ("tiles", "trace", "sequence", "bare")
 # What the first read asks for. Longer inputs take as many reads more as their pieces, and more where a piece doesn't fit.
 FIRST_READ = 65536
