@@ -33,7 +33,7 @@ LUMA = ("  let leaf = crate::library::Luma {\n    block: bsize,\n    transform: 
 OWN = [
     Edit("the type of a count", "src/library.rs", "_eob: usize,", "_eob: u16,"),
     Edit("a buffer for sides", "src/library.rs", "pub fn get_intra_edges<T: Pixel>(\n  dst:",
-         "pub fn get_intra_edges<T: Pixel>(\n  _room: &mut crate::util::Aligned<[std::mem::MaybeUninit<T>; 1]>, dst:"),
+         "pub fn get_intra_edges<T: Pixel>(\n  _buffer: &mut crate::util::Aligned<[std::mem::MaybeUninit<T>; 1]>, dst:"),
 ]
 
 
