@@ -22,7 +22,7 @@ use Rattle.av1_tile.specs.Output.{planes_of}
 use Rattle.av1_trace.specs.Samples.{planes_len}
 use Rattle.av1_c.specs.Faults.{plan_fault}
 use Rattle.av1_c.specs.Plans.{BeginWith, IsHeaderFault}
-use Rattle.av1_c.specs.declared.fault.PlanFault.{PlanFault}
+use Rattle.av1_c.specs.declared.fault.PlanCallFault.{PlanCallFault}
 use Rattle.av1_calls.specs.declared.status.TheConstants.{DONE}
 use Rattle.av1_c.proofs.Lengths.{wanted_is}
 
@@ -64,7 +64,7 @@ no_plan bytes at fits e =
     ∙ ap (λ (r : Reading (Header × Input)). on_ok r (λ p. read (behind p.0) p.1)) e in
     all_refused plan bytes at fits (ap (λ (r : Reading (PlanValue × Input)). on_ok r ended) stops)
 
-pub header_fault : (bytes : List ℕ) (result : Result ℕ PlanFault) (e : PlanError) → AreBytes bytes → length bytes ≤ max_plan_bytes →
+pub header_fault : (bytes : List ℕ) (result : Result ℕ PlanCallFault) (e : PlanError) → AreBytes bytes → length bytes ≤ max_plan_bytes →
     IsErrAnd result (λ fault. fault ≡ plan_fault e) → Fails e (read header (start bytes))
     → IsAtByte e → IfErr result (IsHeaderFault bytes)
 header_fault bytes (Ok len) e fits short is fails at_byte = absurd is

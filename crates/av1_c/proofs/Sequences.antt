@@ -34,7 +34,7 @@ sequence_cause bytes (sequence.Frame i (frames.Malformed at)) taken taken' (w, h
     (w, (sequence.Frame i (frames.Malformed at), has, refl))
 sequence_cause bytes (sequence.Frame i (frames.Invalid leaf kind)) taken taken' (w, has, appended) room =
     (w, (sequence.Frame i (frames.Invalid leaf kind), has, refl))
-sequence_cause bytes (sequence.Frame i frames.EmptySlot) taken taken' (w, has, appended) room = (w, (sequence.Frame i frames.EmptySlot, has, refl))
+sequence_cause bytes (sequence.EmptySlot i) taken taken' (w, has, appended) room = (w, (sequence.EmptySlot i, has, refl))
 sequence_cause bytes sequence.WriteFault taken taken' p room = tt
 sequence_cause bytes sequence.Memory taken taken' p room = tt
 

@@ -10,13 +10,13 @@ use Rattle.av1_streams.specs.Streams.{max_plan_bytes}
 use Rattle.av1_tile.specs.Output.{planes_of}
 use Rattle.av1_c.specs.Faults.{status_of}
 use Rattle.av1_c.specs.Plans.{IsCause, status_for}
-use Rattle.av1_c.specs.declared.fault.PlanFault.{PlanFault}
-use Rattle.av1_c.specs.declared.fault.PlanFault.TheVariants.{Invalid, Malformed, Memory, RoomTooSmall, TooLong}
+use Rattle.av1_c.specs.declared.fault.PlanCallFault.{PlanCallFault}
+use Rattle.av1_c.specs.declared.fault.PlanCallFault.TheVariants.{Invalid, Malformed, Memory, RoomTooSmall, TooLong}
 use Rattle.av1_calls.specs.declared.status.TheConstants.{DONE, ROOM_TOO_SMALL}
 use Rattle.av1_c.specs.declared.status.TheConstants.{OUT_OF_MEMORY, TOO_LONG}
 
 -- a fault of the bytes is a cause whatever the buffer
-pub passed_on : (bytes : List ℕ) (room : ℕ) (result : Result ℕ PlanFault) (e : PlanFault) → IsErrAnd result (λ fault. fault ≡ e) →
+pub passed_on : (bytes : List ℕ) (room : ℕ) (result : Result ℕ PlanCallFault) (e : PlanCallFault) → IsErrAnd result (λ fault. fault ≡ e) →
     ((room : ℕ) → IsCause bytes room e) → IfErr result (IsCause bytes room)
 passed_on bytes room (Ok count) e is cause = absurd is
 passed_on bytes room (Err fault) e is cause = subst (IsCause bytes room) (sym is) (cause room)
@@ -35,7 +35,7 @@ refused_for : (bytes : List ℕ) (room : ℕ) (e : ReconError) → HasOutcome by
 refused_for bytes room e has outcome other = sym (ap (status_for room) (one_outcome planes_of bytes (Err e) outcome has other))
 
 -- and the status of a fault where this is the cause
-pub fault_for : (bytes : List ℕ) (room : ℕ) (fault : PlanFault) (status : ℕ) → IsCause bytes room fault → status ≡ status_of fault → (outcome : Outcome) →
+pub fault_for : (bytes : List ℕ) (room : ℕ) (fault : PlanCallFault) (status : ℕ) → IsCause bytes room fault → status ≡ status_of fault → (outcome : Outcome) →
     HasOutcome bytes outcome
     → (status ≡ status_for room outcome) ⊎ (status ≡ OUT_OF_MEMORY)
 fault_for bytes room Memory status cause is outcome other = inr is
@@ -50,7 +50,7 @@ pub few_bytes : (bytes planes : List ℕ) → HasOutcome bytes (Ok planes) → l
 few_bytes bytes planes (value, (few, text), valid, written) = few
 
 -- nothing stands in the place of that there are too many
-pub too_long_for : (bytes : List ℕ) (room : ℕ) (fault : PlanFault) → IsCause bytes room fault → max_plan_bytes < length bytes → status_of fault ≡ TOO_LONG
+pub too_long_for : (bytes : List ℕ) (room : ℕ) (fault : PlanCallFault) → IsCause bytes room fault → max_plan_bytes < length bytes → status_of fault ≡ TOO_LONG
 too_long_for bytes room Memory few long = absurd (omega (arith, few, long))
 too_long_for bytes room RoomTooSmall (planes, has, small) long = let few = few_bytes bytes planes has in absurd (omega (arith, few, long))
 too_long_for bytes room TooLong cause long = refl
@@ -58,7 +58,7 @@ too_long_for bytes room (Malformed at) (few, refused) long = absurd (omega (arit
 too_long_for bytes room (Invalid leaf kind) (value, (few, text), fault) long = absurd (omega (arith, few, long))
 
 -- and only then is it said
-pub told_long : (bytes : List ℕ) (room : ℕ) (fault : PlanFault) → IsCause bytes room fault → status_of fault ≡ TOO_LONG → max_plan_bytes < length bytes
+pub told_long : (bytes : List ℕ) (room : ℕ) (fault : PlanCallFault) → IsCause bytes room fault → status_of fault ≡ TOO_LONG → max_plan_bytes < length bytes
 told_long bytes room Memory few is = absurd (omega (arith, is))
 told_long bytes room RoomTooSmall small is = absurd (omega (arith, is))
 told_long bytes room TooLong long is = long

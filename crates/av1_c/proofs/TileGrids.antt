@@ -1,6 +1,6 @@
 -- What the bytes of a grid of tiles come to, from what was gathered of it.
 use Rattle.std.proofs.Common.{◌≡◌, ℕ, List, [], ◌++◌, Option, Some, Result, Ok, Err, refl, sym, ap, subst, ◌∙◌}
-use Rattle.av1_recon.specs.declared.error.PlanRefusal.TheVariants as refusals
+use Rattle.av1_recon.specs.declared.error.PlanFault.TheVariants as refusals
 use Rattle.av1_streams.specs.Memory.{source_bytes, source_faults}
 use Rattle.av1_streams.specs.Tasks.{IsRefusal, Performs}
 use Rattle.av1_streams.specs.declared.source.SliceSource.{SliceSource}

@@ -4,7 +4,7 @@ use Rattle.std.proofs.Common.{Result, Ok, Err, refl, sym, ap, ◌∙◌, arith}
 use Rattle.std.proofs.Math.ListN.{drop_of_length-le, get_or-map}
 use Rattle.std.proofs.lemmas.Bool.{cases_lt}
 use Rattle.std.proofs.lemmas.List.{append_assoc, drop_more, length-map, length-take-le, set-append_right, take_all, take_more}
-use Rattle.av1_recon.specs.declared.error.PlanRefusal.TheVariants as refusals
+use Rattle.av1_recon.specs.declared.error.PlanFault.TheVariants as refusals
 use Rattle.av1_trace.specs.Traces.{AreRefusedFor}
 use Rattle.av1_trace.specs.declared.entry.Difference.{Difference}
 use Rattle.av1_trace.specs.declared.error.TraceError.{TraceError}

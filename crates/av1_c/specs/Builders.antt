@@ -4,7 +4,6 @@ use Rattle.std.specs.Prelude.{◌++◌, length, map, take, drop, slice_get}
 use Rattle.std.specs.List.{list_all}
 use Rattle.av1_blocks.specs.declared.partition.BlockSize.TheVariants.{BLOCK_4X4}
 use Rattle.av1_blocks.specs.declared.partition.TheConstants.BlockSize as sizes
-use Rattle.av1_plan.specs.Geometry.{coded_side}
 use Rattle.av1_plan.specs.declared.header.Header.{Header}
 use Rattle.av1_planwrite.specs.declared.error.BuildError.TheVariants.{TooLong}
 use Rattle.av1_planwrite.specs.declared.parts.Part.{Part}
@@ -21,18 +20,12 @@ use Rattle.av1_c.specs.declared.plan_header.PlanHeader.{PlanHeader}
 
 -- ---- headers
 
--- the side that is coded of one that is shown; one past the most that is admitted stays as it is
-abbrev pub coded_of : ℕ → ℕ
-coded_of n = if nat_le n 2048 then coded_side n else n
-
 -- the header of these numbers
 abbrev pub header_of : PlanHeader → Header
 header_of n = record {
   version = n.version;
-  width = coded_of n.width;
-  height = coded_of n.height;
-  shown_width = n.width;
-  shown_height = n.height;
+  width = n.width;
+  height = n.height;
   depth = n.depth;
   sampling = n.sampling;
   filter = filter_mode n.filter;

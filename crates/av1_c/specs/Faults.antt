@@ -5,8 +5,8 @@ use Rattle.av1_plan.specs.declared.error.PlanError.TheVariants as plan_errors
 use Rattle.av1_plan.specs.declared.error.Invalid.{Invalid as InvalidLeaf}
 use Rattle.av1_plan.specs.declared.error.InvalidKind.{InvalidKind}
 use Rattle.av1_plan.specs.declared.error.InvalidKind.TheVariants as kinds
-use Rattle.av1_c.specs.declared.fault.PlanFault.{PlanFault}
-use Rattle.av1_c.specs.declared.fault.PlanFault.TheVariants.{Memory, RoomTooSmall, TooLong, Malformed, Invalid}
+use Rattle.av1_c.specs.declared.fault.PlanCallFault.{PlanCallFault}
+use Rattle.av1_c.specs.declared.fault.PlanCallFault.TheVariants.{Memory, RoomTooSmall, TooLong, Malformed, Invalid}
 use Rattle.av1_c.specs.declared.fault.Refusal.{Refusal}
 use Rattle.av1_calls.specs.declared.status.TheConstants.{ROOM_TOO_SMALL}
 use Rattle.av1_c.specs.declared.status.TheConstants.{OUT_OF_MEMORY, TOO_LONG, MALFORMED, INVALID}
@@ -14,12 +14,12 @@ use Rattle.av1_c.specs.declared.status.TheConstants.{INVALID_BLOCK_SIZE, INVALID
 use Rattle.av1_c.specs.declared.status.TheConstants.{INVALID_VECTOR, MISSING_REFERENCE, INVALID_COEFFICIENT}
 
 -- an error of parsing
-abbrev pub plan_fault : PlanError → PlanFault
+abbrev pub plan_fault : PlanError → PlanCallFault
 plan_fault (plan_errors.Malformed at) = Malformed at
 plan_fault plan_errors.Memory = Memory
 
 -- the first faulty leaf and its first reason
-abbrev pub invalid_fault : InvalidLeaf → PlanFault
+abbrev pub invalid_fault : InvalidLeaf → PlanCallFault
 invalid_fault fault = Invalid fault.leaf fault.kind
 
 -- the number of a reason
@@ -32,7 +32,7 @@ kind_number kinds.MissingReference = MISSING_REFERENCE
 kind_number kinds.Coefficient = INVALID_COEFFICIENT
 
 -- the status of a call that ended so
-abbrev pub status_of : PlanFault → ℕ
+abbrev pub status_of : PlanCallFault → ℕ
 status_of Memory = OUT_OF_MEMORY
 status_of RoomTooSmall = ROOM_TOO_SMALL
 status_of TooLong = TOO_LONG
@@ -48,7 +48,7 @@ abbrev pub invalid_leaf : ℕ → InvalidKind → Refusal
 invalid_leaf leaf kind = record { at = 0; leaf = leaf; kind = kind_number kind }
 
 -- what is told of a fault, where this was told before
-abbrev pub told : PlanFault → Refusal → Refusal
+abbrev pub told : PlanCallFault → Refusal → Refusal
 told Memory before = before
 told RoomTooSmall before = before
 told TooLong before = before

@@ -1,7 +1,7 @@
 -- What is told of bytes that hold plans as parts, and are refused.
 use Rattle.std.specs.Prelude.{ℕ}
-use Rattle.av1_recon.specs.declared.error.PlanRefusal.{PlanRefusal}
-use Rattle.av1_recon.specs.declared.error.PlanRefusal.TheVariants as refusals
+use Rattle.av1_recon.specs.declared.error.PlanFault.{PlanFault}
+use Rattle.av1_recon.specs.declared.error.PlanFault.TheVariants as refusals
 use Rattle.av1_sequence.specs.declared.error.FrameFault.{FrameFault}
 use Rattle.av1_sequence.specs.declared.error.FrameFault.TheVariants as frames
 use Rattle.av1_sequence.specs.declared.error.SequenceError.{SequenceError}
@@ -20,16 +20,15 @@ use Rattle.av1_c.specs.declared.status.TheConstants.{OUT_OF_MEMORY, TOO_LONG, MA
 use Rattle.av1_c.specs.declared.status.TheConstants.{TOO_LONG_PART, MALFORMED_PART, INVALID_PART, EMPTY_SLOT}
 
 -- a part is refused that is a plan, or the leaves of one
-abbrev pub in_part : ℕ → PlanRefusal → PartFault
+abbrev pub in_part : ℕ → PlanFault → PartFault
 in_part part (refusals.Malformed at) = MalformedPart part at
 in_part part (refusals.Invalid leaf kind) = InvalidPart part leaf kind
 
--- a part is refused that is an entry of a sequence
+-- a part is refused that is a frame of a sequence
 abbrev pub frame_fault : ℕ → FrameFault → PartFault
 frame_fault part frames.TooLarge = TooLongPart part
 frame_fault part (frames.Malformed at) = MalformedPart part at
 frame_fault part (frames.Invalid leaf kind) = InvalidPart part leaf kind
-frame_fault part frames.EmptySlot = EmptySlot part
 
 -- an error of a grid of tiles
 abbrev pub tiles_fault : TilesError → PartFault
@@ -46,6 +45,7 @@ sequence_fault sequence.ReadFault = Memory
 sequence_fault sequence.TooLong = TooLong
 sequence_fault (sequence.Malformed at) = Malformed at
 sequence_fault (sequence.Frame frame fault) = frame_fault frame fault
+sequence_fault (sequence.EmptySlot frame) = EmptySlot frame
 sequence_fault sequence.WriteFault = Memory
 sequence_fault sequence.Memory = Memory
 

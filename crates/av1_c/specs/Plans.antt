@@ -6,8 +6,8 @@ use Rattle.av1_plan.specs.declared.header.Header.{Header}
 use Rattle.av1_recon.specs.Outcomes.{HasOutcome, Outcome}
 use Rattle.av1_recon.specs.declared.error.ReconError.TheVariants as errors
 use Rattle.av1_streams.specs.Streams.{max_plan_bytes}
-use Rattle.av1_c.specs.declared.fault.PlanFault.{PlanFault}
-use Rattle.av1_c.specs.declared.fault.PlanFault.TheVariants.{Memory, RoomTooSmall, TooLong, Malformed, Invalid}
+use Rattle.av1_c.specs.declared.fault.PlanCallFault.{PlanCallFault}
+use Rattle.av1_c.specs.declared.fault.PlanCallFault.TheVariants.{Memory, RoomTooSmall, TooLong, Malformed, Invalid}
 use Rattle.av1_calls.specs.declared.status.TheConstants.{DONE, ROOM_TOO_SMALL}
 use Rattle.av1_c.specs.declared.status.TheConstants.{OUT_OF_MEMORY, TOO_LONG, MALFORMED, INVALID}
 
@@ -44,7 +44,7 @@ status_for room (Err errors.Memory) = OUT_OF_MEMORY
 -- ---- why nothing is written: words of private contracts
 
 -- the fault is that of the bytes, or of a buffer of this length
-abbrev pub IsCause : List ℕ → ℕ → PlanFault → Type 0
+abbrev pub IsCause : List ℕ → ℕ → PlanCallFault → Type 0
 IsCause bytes room Memory = length bytes ≤ max_plan_bytes
 IsCause bytes room RoomTooSmall = ComeToPlanes bytes (λ planes. room < length planes)
 IsCause bytes room TooLong = HasOutcome bytes (Err errors.TooLong)
@@ -52,7 +52,7 @@ IsCause bytes room (Malformed at) = HasOutcome bytes (Err (errors.Malformed at))
 IsCause bytes room (Invalid leaf kind) = HasOutcome bytes (Err (errors.Invalid leaf kind))
 
 -- the fault is one of the header at their front
-abbrev pub IsHeaderFault : List ℕ → PlanFault → Type 0
+abbrev pub IsHeaderFault : List ℕ → PlanCallFault → Type 0
 IsHeaderFault bytes Memory = ⊥
 IsHeaderFault bytes RoomTooSmall = ⊥
 IsHeaderFault bytes TooLong = HasOutcome bytes (Err errors.TooLong)
@@ -60,7 +60,7 @@ IsHeaderFault bytes (Malformed at) = HasOutcome bytes (Err (errors.Malformed at)
 IsHeaderFault bytes (Invalid leaf kind) = ⊥
 
 -- so many bytes were to be written to a buffer of this length
-abbrev pub IsWritingFault : ℕ → ℕ → PlanFault → Type 0
+abbrev pub IsWritingFault : ℕ → ℕ → PlanCallFault → Type 0
 IsWritingFault len room Memory = ⊤
 IsWritingFault len room RoomTooSmall = room < len
 IsWritingFault len room TooLong = ⊥

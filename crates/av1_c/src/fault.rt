@@ -1,7 +1,7 @@
 //! Why a call on a plan wrote nothing, and what of it is told.
 ghost use Rattle.std.specs.Prelude.{◌≡◌};
 ghost use Rattle.av1_c.specs.Faults.{kind_number, invalid_fault, plan_fault, status_of, told};
-ghost use Rattle.av1_c.specs.declared.fault.PlanFault.TheVariants as faults;
+ghost use Rattle.av1_c.specs.declared.fault.PlanCallFault.TheVariants as faults;
 
 use crate::status::{
     INVALID, INVALID_BLOCK_SIZE, INVALID_COEFFICIENT, INVALID_MODE, INVALID_TRANSFORM,
@@ -13,7 +13,7 @@ use av1_plan::{Invalid, InvalidKind, PlanError};
 
 /// Why a call on a plan wrote nothing.
 #[derive(Clone, Copy, Debug, PartialEq, Eq)]
-pub enum PlanFault {
+pub enum PlanCallFault {
     /// An allocation was refused.
     Memory,
     /// The buffer is shorter than the planes.
@@ -38,33 +38,33 @@ pub struct Refusal {
     pub kind: u32,
 }
 
-impl From<PlanError> for PlanFault {
+impl From<PlanError> for PlanCallFault {
     ghost from_gives = { λ error fault. fault ≡ plan_fault error };
 
     fn from(error: PlanError) -> Self {
         match error {
-            PlanError::Malformed { at } => PlanFault::Malformed { at },
-            PlanError::Memory => PlanFault::Memory,
+            PlanError::Malformed { at } => PlanCallFault::Malformed { at },
+            PlanError::Memory => PlanCallFault::Memory,
         }
     }
 }
 
-impl From<Invalid> for PlanFault {
+impl From<Invalid> for PlanCallFault {
     ghost from_gives = { λ error fault. fault ≡ invalid_fault error };
 
     fn from(error: Invalid) -> Self {
-        PlanFault::Invalid {
+        PlanCallFault::Invalid {
             leaf: error.leaf,
             kind: error.kind,
         }
     }
 }
 
-impl From<OutOfMemory> for PlanFault {
+impl From<OutOfMemory> for PlanCallFault {
     ghost from_gives = { λ _ fault. fault ≡ faults.Memory };
 
     fn from(_: OutOfMemory) -> Self {
-        PlanFault::Memory
+        PlanCallFault::Memory
     }
 }
 
@@ -82,17 +82,17 @@ pub(crate) fn kind_number(kind: InvalidKind) -> u32
     }
 }
 
-impl PlanFault {
+impl PlanCallFault {
     /// The status of a call that ended so. What the plan is refused for is told, and nothing where it isn't.
     pub fn tell(self, refusal: &mut Refusal) -> u32
         ensures status { result ≡ status_of self }
         ensures refusal { refusal.new ≡ told self refusal.old }
     {
         match self {
-            PlanFault::Memory => OUT_OF_MEMORY,
-            PlanFault::RoomTooSmall => ROOM_TOO_SMALL,
-            PlanFault::TooLong => TOO_LONG,
-            PlanFault::Malformed { at } => {
+            PlanCallFault::Memory => OUT_OF_MEMORY,
+            PlanCallFault::RoomTooSmall => ROOM_TOO_SMALL,
+            PlanCallFault::TooLong => TOO_LONG,
+            PlanCallFault::Malformed { at } => {
                 *refusal = Refusal {
                     at,
                     leaf: 0,
@@ -100,7 +100,7 @@ impl PlanFault {
                 };
                 MALFORMED
             }
-            PlanFault::Invalid { leaf, kind } => {
+            PlanCallFault::Invalid { leaf, kind } => {
                 *refusal = Refusal {
                     at: 0,
                     leaf,

@@ -8,10 +8,9 @@ use crate::status::{
 };
 use av1_calls::ROOM_TOO_SMALL;
 use av1_plan::InvalidKind;
-use av1_recon::PlanRefusal;
 use av1_sequence::{FrameFault, SequenceError};
 use av1_tiles::TilesError;
-use av1_trace::TraceError;
+use av1_trace::{PlanFault, TraceError};
 
 /// Why a call on bytes that hold plans as parts wrote nothing.
 #[derive(Clone, Copy, Debug, PartialEq, Eq)]
@@ -64,16 +63,16 @@ pub struct PartRefusal {
 }
 
 // Why a part is refused that is a plan, or the leaves of one.
-fn in_part(part: u32, refusal: PlanRefusal) -> PartFault
+fn in_part(part: u32, refusal: PlanFault) -> PartFault
     ensures { result ≡ in_part part refusal }
 {
     match refusal {
-        PlanRefusal::Malformed { at } => PartFault::MalformedPart { part, at },
-        PlanRefusal::Invalid { leaf, kind } => PartFault::InvalidPart { part, leaf, kind },
+        PlanFault::Malformed { at } => PartFault::MalformedPart { part, at },
+        PlanFault::Invalid { leaf, kind } => PartFault::InvalidPart { part, leaf, kind },
     }
 }
 
-// Why a part is refused that is an entry of a sequence.
+// Why a part is refused that is a frame of a sequence.
 fn frame_fault(part: u32, fault: FrameFault) -> PartFault
     ensures { result ≡ frame_fault part fault }
 {
@@ -81,7 +80,6 @@ fn frame_fault(part: u32, fault: FrameFault) -> PartFault
         FrameFault::TooLarge => PartFault::TooLongPart { part },
         FrameFault::Malformed { at } => PartFault::MalformedPart { part, at },
         FrameFault::Invalid { leaf, kind } => PartFault::InvalidPart { part, leaf, kind },
-        FrameFault::EmptySlot => PartFault::EmptySlot { part },
     }
 }
 
@@ -109,6 +107,9 @@ impl From<SequenceError> for PartFault {
             SequenceError::TooLong => PartFault::TooLong,
             SequenceError::Malformed { at } => PartFault::Malformed { at },
             SequenceError::Frame { frame, fault } => frame_fault(u32::from(frame), fault),
+            SequenceError::EmptySlot { frame } => PartFault::EmptySlot {
+                part: u32::from(frame),
+            },
             SequenceError::ReadFault | SequenceError::WriteFault | SequenceError::Memory => {
                 PartFault::Memory
             }

@@ -1,10 +1,10 @@
 //! The header of a plan, by numbers.
 
 ghost use Rattle.std.specs.Prelude.{◌≡◌};
-ghost use Rattle.av1_c.specs.Builders.{coded_of, header_of};
+ghost use Rattle.av1_c.specs.Builders.{header_of};
 
 use av1_calls::filter_mode;
-use av1_plan::{Header, coded_side};
+use av1_plan::Header;
 
 /// The frame that a plan is for, and what holds for all its leaves: the numbers of the fields that a plan begins with.
 #[repr(C)]
@@ -31,17 +31,6 @@ pub struct PlanHeader {
     pub slots: [u8; 7],
 }
 
-/// The side that is coded of one that is shown. One past the most that is admitted stays as it is.
-fn coded_of(shown: u16) -> u16
-    ensures { result ≡ coded_of shown }
-{
-    if shown <= 2048 {
-        coded_side(shown)
-    } else {
-        shown
-    }
-}
-
 impl PlanHeader {
     /// The header of these numbers.
     pub fn header(&self) -> Header
@@ -49,10 +38,8 @@ impl PlanHeader {
     {
         Header {
             version: self.version,
-            width: coded_of(self.width),
-            height: coded_of(self.height),
-            shown_width: self.width,
-            shown_height: self.height,
+            width: self.width,
+            height: self.height,
             depth: self.depth,
             sampling: self.sampling,
             filter: filter_mode(self.filter),

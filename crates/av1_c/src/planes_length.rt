@@ -10,7 +10,7 @@ ghost use Rattle.av1_trace.specs.Samples.{planes_len};
 ghost use Rattle.av1_c.specs.Faults.{malformed_at};
 ghost use Rattle.av1_c.specs.Plans.{BeginWith, IsHeaderFault};
 
-use crate::fault::{PlanFault, Refusal};
+use crate::fault::{PlanCallFault, Refusal};
 use crate::status::{MALFORMED, TOO_LONG};
 use av1_calls::DONE;
 use av1_plan::Reader;
@@ -22,15 +22,15 @@ use av1_trace::planes_len;
 /// # Errors
 ///
 /// `TooLong`, then `Malformed`.
-fn wanted(bytes: &[u8]) -> Result<usize, PlanFault>
+fn wanted(bytes: &[u8]) -> Result<usize, PlanCallFault>
     ensures found { IfOk result (λ len. (header : Header) × BeginWith bytes.now header × (len ≡ planes_len header)) }
     ensures fault { IfErr result (IsHeaderFault bytes.now) }
-    ensures too_long { max_plan_bytes < length bytes.now → IsErrOf result PlanFault.TooLong }
+    ensures too_long { max_plan_bytes < length bytes.now → IsErrOf result PlanCallFault.TooLong }
     ensures only { (header : Header) → BeginWith bytes.now header → length bytes.now ≤ max_plan_bytes
         → IsOkAnd result (λ len. len ≡ planes_len header) }
 {
     if bytes.len() > MAX_PLAN_BYTES {
-        return Err(PlanFault::TooLong);
+        return Err(PlanCallFault::TooLong);
     }
     let mut reader = Reader { rest: bytes, at: 0 };
     let header = reader.header()?;

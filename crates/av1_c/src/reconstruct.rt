@@ -10,7 +10,7 @@ ghost use Rattle.av1_tile.specs.Output.{planes_of};
 ghost use Rattle.av1_c.specs.Faults.{malformed_at, invalid_leaf};
 ghost use Rattle.av1_c.specs.Plans.{AreWritten, ComeToPlanes, IsCause, IsWritingFault, status_for};
 
-use crate::fault::{PlanFault, Refusal};
+use crate::fault::{PlanCallFault, Refusal};
 use crate::status::{INVALID, MALFORMED, OUT_OF_MEMORY, TOO_LONG};
 use av1_calls::{DONE, ROOM_TOO_SMALL};
 use av1_plan::{Plan, check_plan, parse_plan};
@@ -23,12 +23,12 @@ use std::alloc::Global;
 /// # Errors
 ///
 /// `TooLong`, then `Malformed`, then `Invalid`. `Memory` may stand in place of the latter two.
-fn read(alloc: Global, bytes: &[u8]) -> Result<Plan, PlanFault>
+fn read(alloc: Global, bytes: &[u8]) -> Result<Plan, PlanCallFault>
     ensures found { IfOk result (λ plan. ArePlan bytes.now (plan_value plan) × (first_fault (plan_value plan) ≡ None)) }
     ensures fault { IfErr result (λ fault. (room : ℕ) → IsCause bytes.now room fault) }
 {
     if bytes.len() > MAX_PLAN_BYTES {
-        return Err(PlanFault::TooLong);
+        return Err(PlanCallFault::TooLong);
     }
     let plan = parse_plan(alloc, bytes)?;
     check_plan(&plan)?;
@@ -40,7 +40,7 @@ fn read(alloc: Global, bytes: &[u8]) -> Result<Plan, PlanFault>
 /// # Errors
 ///
 /// `RoomTooSmall`, then `Memory`.
-fn write_planes(alloc: Global, plan: &Plan, room: &mut [u8]) -> Result<usize, PlanFault>
+fn write_planes(alloc: Global, plan: &Plan, room: &mut [u8]) -> Result<usize, PlanCallFault>
     requires valid { first_fault (plan_value plan.now) ≡ None }
     ensures written { IfOk result (λ count. AreWritten (planes_of (plan_value plan.now)) room.old room.new count) }
     ensures fault { IfErr result (IsWritingFault (length (planes_of (plan_value plan.now))) (length room.old)) }
@@ -48,7 +48,7 @@ fn write_planes(alloc: Global, plan: &Plan, room: &mut [u8]) -> Result<usize, Pl
 {
     let len = planes_len(plan.header());
     if room.len() < len {
-        return Err(PlanFault::RoomTooSmall);
+        return Err(PlanCallFault::RoomTooSmall);
     }
     let mut sink = MemSink::new(alloc, len, usize::MAX, &[])?;
     match reconstruct_valid(alloc, plan, &mut sink) {
@@ -57,7 +57,7 @@ fn write_planes(alloc: Global, plan: &Plan, room: &mut [u8]) -> Result<usize, Pl
             Ok(len)
         }
         // The sink has room for all planes, so that nothing but running out of memory stops it.
-        Err(_) => Err(PlanFault::Memory),
+        Err(_) => Err(PlanCallFault::Memory),
     }
 }
 
@@ -67,7 +67,7 @@ fn write_planes(alloc: Global, plan: &Plan, room: &mut [u8]) -> Result<usize, Pl
 /// # Errors
 ///
 /// `TooLong`, then `Malformed`, then `Invalid`, then `RoomTooSmall`. `Memory` may stand in place of any but the first.
-fn reconstruct_into(alloc: Global, bytes: &[u8], room: &mut [u8]) -> Result<usize, PlanFault>
+fn reconstruct_into(alloc: Global, bytes: &[u8], room: &mut [u8]) -> Result<usize, PlanCallFault>
     ensures written { IfOk result (λ count. ComeToPlanes bytes.now (λ planes. AreWritten planes room.old room.new count)) }
     ensures fault { IfErr result (IsCause bytes.now (length room.old)) }
     ensures kept { OnErr result (room.new ≡ room.old) }

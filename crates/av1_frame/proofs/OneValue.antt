@@ -1,5 +1,5 @@
 -- Lists of one value that grow.
-use Rattle.std.proofs.Common.{ℕ, ◌+◌, ◌-◌, ◌≤◌, ◌≡◌, List, ◌++◌, length, take, replicate, ap, arith, ◌∙◌}
+use Rattle.std.proofs.Common.{ℕ, ◌-◌, ◌≤◌, ◌≡◌, List, ◌++◌, length, take, replicate, ap, arith, ◌∙◌}
 use Rattle.std.proofs.lemmas.List.{length-replicate, replicate-append-replicate, take_all}
 
 -- m of a value, filled up to n

@@ -1,5 +1,5 @@
 -- Padding, row by row, of a whole plane.
-use Rattle.std.proofs.Common.{ℕ, ◌+◌, ◌-◌, ◌*◌, ◌/◌, ◌%◌, ◌<◌, ◌≤◌, ◌≡◌, ◌⊎◌, List, length, ap, arith, ◌∙◌, sym, subst, cond, leb, ltb, ◌&&◌, inl, inr, refl}
+use Rattle.std.proofs.Common.{ℕ, ◌+◌, ◌-◌, ◌*◌, ◌/◌, ◌%◌, ◌<◌, ◌≤◌, ◌≡◌, ◌⊎◌, List, length, ap, arith, ◌∙◌, cond, leb, ltb, ◌&&◌, inl, inr, refl}
 use Rattle.std.proofs.lemmas.Bool.Decides.{nat_tests}
 use Rattle.std.proofs.lemmas.Bool.{cases_lt}
 use Rattle.av1_frame.specs.declared.plane.PlaneConfig.{PlaneConfig}
@@ -10,17 +10,12 @@ use Rattle.av1_frame.specs.Planes.{IsWhole, nearest, padded}
 use Rattle.av1_frame.proofs.Fits.{row_end_le}
 use Rattle.av1_frame.proofs.Gather.{gathered_twice, gathered_same, length-gathered, row_place, row_place_at, row_bound, row_stored, rows_more, side_place}
 use Rattle.av1_frame.proofs.Gather.{side_bound, side_place_at, sides_more}
-use Rattle.av1_frame.proofs.Regions.{same_storage}
 
 -- p with what stands at the place g k at each place k of storage
 abbrev pub gathered_plane : {T : Type 0} → Plane T → (ℕ → ℕ) → Plane T
 gathered_plane p g = record p { samples = gathered g p.samples }
 
 module _ {T : Type 0} (p q : Plane T) (g : ℕ → ℕ) where
-  pub gathered_whole : q ≡ gathered_plane p g → IsWhole p → IsWhole q
-  gathered_whole e h =
-      subst (λ (u : Plane T). IsStorage u.plane_cfg (length u.samples)) (sym e) (same_storage p.plane_cfg _ _ (length-gathered g p.samples) h)
-
   -- row r of storage
   pub row_in : (r stride : ℕ) → IsWhole p → q ≡ gathered_plane p g → stride ≡ p.plane_cfg.stride → r < p.plane_cfg.alloc_height →
       r * stride + stride ≤ length q.samples

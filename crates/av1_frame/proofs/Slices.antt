@@ -1,6 +1,9 @@
 -- Samples that are read by signed places.
 use Rattle.std.proofs.Common.{ℕ, List, refl, subst, ◌≤ℤ◌, ◌<ℤ◌, ◌+◌, ◌-◌, ◌*◌, ◌/◌, ◌%◌, ◌<◌, ◌≡◌, length, get_or, drop, map, slice_index, ap, arith, ◌∙◌, sym}
 use Rattle.std.proofs.Common.{ℤ, pos, negsuc, ◌+ℤ◌, ◌-ℤ◌, unsigned_abs}
+use Rattle.std.proofs.Math.Bridge.{le_prop}
+use Rattle.std.proofs.Math.Nat.{ℕ_set}
+use Rattle.std.specs.Borrow.{Bor}
 use Rattle.std.specs.Int.{int_min, int_max}
 use Rattle.std.proofs.lemmas.List.{get_or-map, get_or-drop, places}
 use Rattle.std.proofs.lemmas.Int.{ints, clamps}
@@ -151,3 +154,16 @@ all_from_sample num p x y r c h s t l =
 pub slice_plane_is : {T : Type 0} (s : PlaneSlice T) (p : Plane T) → s.samples.now ≡ p.samples → s.plane_cfg.now ≡ p.plane_cfg → slice_plane s ≡ p
 slice_plane_is s p e f =
     ap (λ (ws : List _). record p { samples = ws; plane_cfg = s.plane_cfg.now }) e ∙ ap (λ (cfg : PlaneConfig). record p { plane_cfg = cfg }) f
+
+-- that samples fill the rows of their settings has one proof
+storage_once : (cfg : PlaneConfig) (n : ℕ) → IsProp (IsStorage cfg n)
+storage_once cfg n = hlevel (ℕ_set, le_prop)
+
+-- one place of the same samples
+pub same_place : {T : Type 0} (samples : Bor (List T)) (cfg : Bor PlaneConfig) (x y v w : ℤ) (h k : IsStorage cfg.now (length samples.now)) → x ≡ v → y ≡ w →
+    ◌≡◌ {A = PlaneSlice T} (record { samples = samples; plane_cfg = cfg; x = x; y = y; whole = h })
+    (record { samples = samples; plane_cfg = cfg; x = v; y = w; whole = k })
+same_place {T} samples cfg x y v w h k e f =
+    let at : (x y : ℤ) → IsStorage cfg.now (length samples.now) → PlaneSlice T =
+    λ x y h. record { samples = samples; plane_cfg = cfg; x = x; y = y; whole = h } in
+    ap (at x y) (storage_once _ _ h k) ∙ ap (λ z. at z y k) e ∙ ap (λ z. at v z k) f

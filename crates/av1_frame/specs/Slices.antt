@@ -6,7 +6,6 @@ use Rattle.av1_frame.specs.declared.plane.PlaneConfig.{PlaneConfig}
 use Rattle.av1_frame.specs.declared.plane.Plane.{Plane}
 use Rattle.av1_frame.specs.declared.plane_slice.PlaneSlice.{PlaneSlice}
 use Rattle.av1_frame.specs.Samples.{part}
-use Rattle.av1_frame.specs.Planes.{IsWhole}
 
 -- column x and row y, counted from the first visible sample, are stored
 pub record IsStoredPlace (cfg : PlaneConfig) (x y : ℤ) : Type 0 where
@@ -50,6 +49,5 @@ abbrev pub slice_plane : {T : Type 0} → PlaneSlice T → Plane T
 slice_plane s = record { samples = s.samples.now; plane_cfg = s.plane_cfg.now }
 
 -- row r of the slice s is stored
-pub record RowIsStored {T : Type 0} (s : PlaneSlice T) (r : ℕ) : Type 0 where
-  pub whole : IsWhole (slice_plane s)
-  pub place : IsStoredPlace s.plane_cfg.now s.x (s.y +ℤ pos r)
+abbrev pub RowIsStored : {T : Type 0} → PlaneSlice T → ℕ → Type 0
+RowIsStored s r = IsStoredPlace s.plane_cfg.now s.x (s.y +ℤ pos r)

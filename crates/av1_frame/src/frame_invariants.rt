@@ -20,9 +20,8 @@ pub struct FrameInvariants<T> {
     pub h_in_b: usize,
     /// The interpolation filter.
     pub default_filter: FilterMode,
-    /// Whether the sharp filter gives way to the regular one along sides up to 4, as in AV1. In rav1e, and in a new
-    /// frame, it gives way to the smooth one.
-    pub short_by_av1: bool,
+    /// Whether the sharp filter gives way to the regular one along sides up to 4.
+    short_by_av1: bool,
     /// The depth of samples.
     pub bit_depth: usize,
     /// Whether the edges of directional prediction are filtered.
@@ -60,6 +59,23 @@ impl<T: Pixel> FrameInvariants<T> {
             ref_frames,
             slots: Slots::new(alloc)?,
         })
+    }
+
+    /// Whether the sharp filter gives way to the regular one along sides up to 4, as in AV1. In rav1e, and in a new
+    /// frame, it gives way to the smooth one.
+    #[inline]
+    pub fn follows_av1(&self) -> bool
+        ensures { result ≡ self.now.short_by_av1 }
+    {
+        self.short_by_av1
+    }
+
+    /// Says to what the sharp filter gives way along sides up to 4: where `yes`, to the regular one, as in AV1,
+    /// else to the smooth one, as in rav1e.
+    pub fn follow_av1(&mut self, yes: bool)
+        ensures { self.new ≡ record self.old { short_by_av1 = yes } }
+    {
+        self.short_by_av1 = yes;
     }
 
     /// Puts the planes of a frame into slot `slot`.

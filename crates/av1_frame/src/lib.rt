@@ -7,6 +7,8 @@
 //! - `Pixel` and `Coefficient` are numbers of a fixed width: number and value go back and forth, and samples are
 //!   ordered as their numbers are.
 //! - `clip` is the sample of a depth that is nearest to a number.
+//! - The samples of a `Plane` or a `PlaneSlice` fill the rows of its settings, and the visible ones lie among them. The
+//!   types say so, and no call asks for it but the constructors of slices and `Plane::set_sides`.
 //! - `PlaneRegion` and `PlaneSlice` only read: they hold a slice of samples and its settings, those of a plane or, by
 //!   `from_slice`, of memory that a caller holds, and copy nothing. A row of either is samples of that slice.
 //! - `fill_row` and `copy_row` change the first samples of a row, `fill_area` those of a rectangle.

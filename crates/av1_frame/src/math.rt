@@ -3,6 +3,7 @@
 ghost use Rattle.std.specs.Prelude.{◌≡◌, ◌/◌, ◌≤◌, ◌<◌, ◌^◌, ◌<ℤ◌, pos, ◌+ℤ◌, ◌≤ℤ◌};
 ghost use Rattle.std.specs.Int.{int_min, int_max};
 ghost use Rattle.av1_frame.specs.Arithmetic.{clip, round_shift};
+ghost use Rattle.av1_frame.specs.Slices.{within_pads};
 
 use crate::pixel::Pixel;
 
@@ -42,4 +43,13 @@ fn clip_number(value: i32, bit_depth: usize) -> u32
     ensures fits { result < 2 ^ bit_depth }
 {
     clamp(value, 0, (1 << bit_depth) - 1) as u32
+}
+
+/// The column or row from `-pad` to `side` that is nearest to `at`.
+pub(crate) fn within_pads(at: isize, pad: usize, side: usize) -> isize
+    requires pad { pad < 2 ^ 63 }
+    requires side { side < 2 ^ 63 }
+    ensures { result ≡ within_pads at pad side }
+{
+    at.max(-(pad as isize)).min(side as isize)
 }

@@ -12,13 +12,12 @@ impl<T: Pixel> Plane<T> {
     /// Makes each stored sample outside the visible rectangle that of the nearest visible place.
     /// The visible samples and the settings stay.
     pub fn pad(&mut self)
-        requires { IsWhole self.old }
         ensures all { self.new ≡ padded self.old }
         ensures samples { let cfg = self.old.plane_cfg in (x y : ℤ) → IsStoredPlace cfg x y →
             stored_sample T.num self.new x y ≡ sample_at T.num self.old (nearest_visible cfg.width x) (nearest_visible cfg.height y) }
         ensures whole { IsWhole self.new }
     {
-        let cfg = self.config();
+        let cfg = self.plane_cfg;
         let last = cfg.yorigin + cfg.height - 1;
         self.pad_rows();
         self.copy_row(cfg.yorigin, 0, cfg.yorigin);
@@ -27,7 +26,6 @@ impl<T: Pixel> Plane<T> {
 
     /// Copies the stored row `from` to the stored rows from `first` to before `end`.
     fn copy_row(&mut self, from: usize, first: usize, end: usize)
-        requires whole { IsWhole self.old }
         requires from { from < self.old.plane_cfg.alloc_height }
         requires order { first ≤ end }
         requires end { end ≤ self.old.plane_cfg.alloc_height }
@@ -39,7 +37,7 @@ impl<T: Pixel> Plane<T> {
                   self.old.samples;
             } }
     {
-        let stride = self.config().stride;
+        let stride = self.plane_cfg.stride;
         for y in first..end {
             self.copy_apart(from * stride, y * stride, stride);
         }
@@ -47,7 +45,6 @@ impl<T: Pixel> Plane<T> {
 
     /// Makes the samples left and right of the visible columns those of the nearest one, in each visible row.
     fn pad_rows(&mut self)
-        requires { IsWhole self.old }
         ensures { let cfg = self.old.plane_cfg
             in self.new ≡
             record self.old {
@@ -57,7 +54,7 @@ impl<T: Pixel> Plane<T> {
                   else k % cfg.stride)) self.old.samples;
             } }
     {
-        let cfg = self.config();
+        let cfg = self.plane_cfg;
         for y in cfg.yorigin..cfg.yorigin + cfg.height {
             pad_row(
                 self.part_mut(y * cfg.stride, cfg.stride),

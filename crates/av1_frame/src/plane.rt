@@ -13,6 +13,7 @@ use crate::plane_slice::PlaneSlice;
 use crate::storage::{Storage, part_of};
 use av1_blocks::OutOfMemory;
 use std::alloc::Global;
+use std::marker::Model;
 
 /// The settings of a plane, in samples.
 #[derive(Clone, Copy, Debug, PartialEq, Eq)]
@@ -69,11 +70,24 @@ pub struct PlaneOffset {
     pub y: isize,
 }
 
-/// A plane of samples: a visible rectangle in storage that may be larger on each side.
+/// A plane of samples: a visible rectangle in storage that may be larger on each side. The samples fill the rows of
+/// its settings, and the visible ones lie among them. Clauses see the samples and the settings.
 #[derive(Drop)]
 pub struct Plane<T> {
     samples: Storage<T>,
-    plane_cfg: PlaneConfig,
+    pub(crate) plane_cfg: PlaneConfig,
+}
+
+impl<T> Model for Plane<T> {
+    ghost use Rattle.std.specs.Prelude.{length};
+    ghost use Rattle.av1_frame.specs.Stored.{Plane as Stored};
+    ghost use Rattle.av1_frame.specs.Areas.{IsStorage};
+
+    ghost Value = { Stored T };
+
+    ghost view = { λ p. record { samples = p.samples; plane_cfg = p.plane_cfg } };
+
+    ghost invariant = { λ p. IsStorage p.plane_cfg (length p.samples) };
 }
 
 impl<T: Pixel> Plane<T> {
@@ -203,12 +217,11 @@ impl<T: Pixel> Plane<T> {
         ensures x { result.x ≡ po.x }
         ensures y { result.y ≡ po.y }
     {
-        PlaneSlice::from_slice(self.as_slice(), &self.plane_cfg, po)
+        PlaneSlice::from_slice(self.samples.as_slice(), &self.plane_cfg, po)
     }
 
     /// The visible rectangle, to read.
     pub fn as_region(&self) -> PlaneRegion<'_, T>
-        requires { IsWhole self.now }
         ensures samples { result.samples.now ≡ self.now.samples }
         ensures cfg { result.plane_cfg ≡ self.now.plane_cfg }
         ensures area { result.area ≡ stored_area self.now.plane_cfg (all_visible self.now.plane_cfg) }
@@ -224,7 +237,6 @@ impl<T: Pixel> Plane<T> {
 
     /// The visible rectangle, to read and write: what is written stands in the plane when the borrow ends.
     pub fn as_region_mut(&mut self) -> PlaneRegionMut<'_, T>
-        requires { IsWhole self.old }
         ensures same_reference { result.plane.ghost_name ≡ self.entry.ghost_name }
         ensures plane { result.plane.now ≡ self.old }
         ensures cfg { result.plane_cfg ≡ self.old.plane_cfg }
@@ -243,20 +255,18 @@ impl<T: Pixel> Plane<T> {
 
     /// The rectangle `area`, to read. A `Rect` counts from the first visible sample.
     pub fn region(&self, area: Area) -> PlaneRegion<'_, T>
-        requires whole { IsWhole self.now }
         requires area { IsStored self.now.plane_cfg area }
         ensures samples { result.samples.now ≡ self.now.samples }
         ensures cfg { result.plane_cfg ≡ self.now.plane_cfg }
         ensures area { result.area ≡ area_from self.now.plane_cfg (from_origin self.now.plane_cfg) area }
         ensures fits { IsReadable result }
     {
-        PlaneRegion::from_slice(self.as_slice(), self.plane_cfg, area)
+        PlaneRegion::from_slice(self.samples.as_slice(), self.plane_cfg, area)
     }
 
     /// The rectangle `area`, to read and write: what is written stands in the plane when the borrow ends.
     /// A `Rect` counts from the first visible sample.
     pub fn region_mut(&mut self, area: Area) -> PlaneRegionMut<'_, T>
-        requires whole { IsWhole self.old }
         requires area { IsStored self.old.plane_cfg area }
         ensures same_reference { result.plane.ghost_name ≡ self.entry.ghost_name }
         ensures plane { result.plane.now ≡ self.old }

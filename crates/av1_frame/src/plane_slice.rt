@@ -1,17 +1,17 @@
 //! Places in stored samples, to read from.
 
-ghost use Rattle.std.specs.Prelude.{◌≡◌, ◌-◌, ◌^◌, pos, ◌+ℤ◌, ◌-ℤ◌, ◌≤ℤ◌, ◌<ℤ◌, ◌<◌, length, FitsSigned};
+ghost use Rattle.std.specs.Prelude.{◌≡◌, ◌-◌, ◌^◌, pos, ◌+ℤ◌, ◌-ℤ◌, ◌≤ℤ◌, ◌<ℤ◌, ◌<◌, length, FitsSigned, ⊤};
 ghost use Rattle.std.specs.Int.{w64};
-ghost use Rattle.av1_frame.specs.Planes.{IsWhole};
-ghost use Rattle.av1_frame.specs.Slices.{RowIsStored, all_from, slice_plane, within_pads, row_from, stored_column, stored_row};
+ghost use Rattle.av1_frame.specs.Areas.{IsStorage};
 
+use crate::math::within_pads;
 use crate::pixel::Pixel;
 use crate::plane::{PlaneConfig, PlaneOffset};
 use crate::storage::part_of;
+use std::alloc::AllocError;
 
 /// A place in stored samples, which may lie outside them, and the rows from there on: of a plane, or of memory that a
-/// caller holds.
-#[derive(Clone, Copy)]
+/// caller holds. The samples fill the rows of the settings, and the visible ones lie among them.
 pub struct PlaneSlice<'a, T> {
     /// All that is stored, one row after another.
     pub(crate) samples: &'a [T],
@@ -21,9 +21,24 @@ pub struct PlaneSlice<'a, T> {
     pub(crate) x: isize,
     /// The row, counted from the first visible sample.
     pub(crate) y: isize,
+    pub(crate) ghost whole: { IsStorage plane_cfg.now (length samples.now) },
 }
 
+impl<'a, T: Copy> Clone for PlaneSlice<'a, T> {
+    ghost is_clone = { λ x y. y ≡ x };
+
+    ghost is_infallible = { λ _. ⊤ };
+
+    fn clone(&self) -> Result<PlaneSlice<'a, T>, AllocError> {
+        Ok(*self)
+    }
+}
+
+impl<'a, T: Copy> Copy for PlaneSlice<'a, T> {}
+
 impl<'a, T: Pixel> PlaneSlice<'a, T> {
+    ghost use Rattle.av1_frame.specs.Slices.{RowIsStored, all_from, slice_plane, within_pads, row_from, stored_column, stored_row};
+
     /// The place `po` in `samples`, which are stored as `plane_cfg` says. Nothing is copied: what is read is these
     /// samples.
     pub fn from_slice(
@@ -31,6 +46,7 @@ impl<'a, T: Pixel> PlaneSlice<'a, T> {
         plane_cfg: &'a PlaneConfig,
         po: PlaneOffset,
     ) -> PlaneSlice<'a, T>
+        requires { IsStorage plane_cfg.now (length samples.now) }
         ensures samples { result.samples.now ≡ samples.now }
         ensures cfg { result.plane_cfg.now ≡ plane_cfg.now }
         ensures x { result.x ≡ po.x }
@@ -47,17 +63,14 @@ impl<'a, T: Pixel> PlaneSlice<'a, T> {
     /// The nearest place that is at most the pads left of and above the visible samples, and at most the
     /// first column and row past them.
     pub fn clamp(&self) -> PlaneSlice<'a, T>
-        requires { IsWhole (slice_plane self.now) }
         ensures { let cfg = self.now.plane_cfg.now
             in result ≡ record self.now { x = within_pads self.now.x cfg.xpad cfg.width; y = within_pads self.now.y cfg.ypad cfg.height } }
     {
         let cfg = self.plane_cfg;
-        PlaneSlice {
-            samples: self.samples,
-            plane_cfg: self.plane_cfg,
-            x: within_pads(self.x, cfg.xpad, cfg.width),
-            y: within_pads(self.y, cfg.ypad, cfg.height),
-        }
+        let mut place = *self;
+        place.x = within_pads(self.x, cfg.xpad, cfg.width);
+        place.y = within_pads(self.y, cfg.ypad, cfg.height);
+        place
     }
 
     /// The place `xo` columns to the right and `yo` rows below.
@@ -66,12 +79,10 @@ impl<'a, T: Pixel> PlaneSlice<'a, T> {
         requires row { FitsSigned w64 (self.now.y +ℤ pos yo) }
         ensures { result ≡ record self.now { x = self.now.x +ℤ pos xo; y = self.now.y +ℤ pos yo } }
     {
-        PlaneSlice {
-            samples: self.samples,
-            plane_cfg: self.plane_cfg,
-            x: self.x.saturating_add_unsigned(xo),
-            y: self.y.saturating_add_unsigned(yo),
-        }
+        let mut place = *self;
+        place.x = self.x.saturating_add_unsigned(xo);
+        place.y = self.y.saturating_add_unsigned(yo);
+        place
     }
 
     /// The place `i` rows above.
@@ -79,12 +90,9 @@ impl<'a, T: Pixel> PlaneSlice<'a, T> {
         requires { FitsSigned w64 (self.now.y -ℤ pos i) }
         ensures { result ≡ record self.now { y = self.now.y -ℤ pos i } }
     {
-        PlaneSlice {
-            samples: self.samples,
-            plane_cfg: self.plane_cfg,
-            x: self.x,
-            y: self.y.saturating_sub_unsigned(i),
-        }
+        let mut place = *self;
+        place.y = self.y.saturating_sub_unsigned(i);
+        place
     }
 
     /// The place `i` columns to the left.
@@ -92,12 +100,9 @@ impl<'a, T: Pixel> PlaneSlice<'a, T> {
         requires { FitsSigned w64 (self.now.x -ℤ pos i) }
         ensures { result ≡ record self.now { x = self.now.x -ℤ pos i } }
     {
-        PlaneSlice {
-            samples: self.samples,
-            plane_cfg: self.plane_cfg,
-            x: self.x.saturating_sub_unsigned(i),
-            y: self.y,
-        }
+        let mut place = *self;
+        place.x = self.x.saturating_sub_unsigned(i);
+        place
     }
 
     /// Row `r` from the place on: the samples from its column to the end of the stored row.
@@ -135,7 +140,6 @@ impl<'a, T: Pixel> PlaneSlice<'a, T> {
 
     /// The stored column of the place.
     fn stored_column(&self) -> usize
-        requires whole { IsWhole (slice_plane self.now) }
         requires left { let cfg = self.now.plane_cfg.now in pos 0 ≤ℤ (pos cfg.xorigin +ℤ self.now.x) }
         requires right { let cfg = self.now.plane_cfg.now in (pos cfg.xorigin +ℤ self.now.x) <ℤ pos cfg.stride }
         ensures value { result ≡ stored_column self.now.plane_cfg.now self.now.x }
@@ -146,7 +150,6 @@ impl<'a, T: Pixel> PlaneSlice<'a, T> {
 
     /// The stored row of row `r` from the place on.
     fn stored_row(&self, r: usize) -> usize
-        requires whole { IsWhole (slice_plane self.now) }
         requires top { let cfg = self.now.plane_cfg.now in pos 0 ≤ℤ (pos cfg.yorigin +ℤ (self.now.y +ℤ pos r)) }
         requires bottom { let cfg = self.now.plane_cfg.now in (pos cfg.yorigin +ℤ (self.now.y +ℤ pos r)) <ℤ pos cfg.alloc_height }
         ensures value { result ≡ stored_row self.now.plane_cfg.now (self.now.y +ℤ pos r) }
@@ -155,13 +158,4 @@ impl<'a, T: Pixel> PlaneSlice<'a, T> {
         let first = self.plane_cfg.yorigin as isize + self.y;
         first.saturating_add_unsigned(r) as usize
     }
-}
-
-/// The column or row from `-pad` to `side` that is nearest to `at`.
-fn within_pads(at: isize, pad: usize, side: usize) -> isize
-    requires pad { pad < 2 ^ 63 }
-    requires side { side < 2 ^ 63 }
-    ensures { result ≡ within_pads at pad side }
-{
-    at.max(-(pad as isize)).min(side as isize)
 }

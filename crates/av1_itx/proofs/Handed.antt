@@ -1,5 +1,5 @@
 -- What the passes are handed: coefficients of a block, their rows and its columns.
-use Rattle.std.proofs.Common.{ℕ, ◌≡◌, ◌≤◌, ◌<◌, ◌+◌, ◌*◌, ◌/◌, ◌^◌, ℤ, List, IsTrue, map, length, arith, subst, sym, refl}
+use Rattle.std.proofs.Common.{ℕ, true, false, cond, ◌&&◌, ◌≡◌, ◌≤◌, ◌<◌, ◌+◌, ◌*◌, ◌/◌, ◌^◌, ℤ, List, IsTrue, map, length, arith, subst, sym, refl}
 use Rattle.av1_blocks.specs.declared.transform.TxSize.{TxSize}
 use Rattle.av1_blocks.specs.declared.transform.TxSize.TheVariants.{TX_4X4}
 use Rattle.av1_blocks.specs.declared.transform.TxType.TheVariants.{WHT_WHT}
@@ -9,8 +9,8 @@ use Rattle.av1_dct.specs.Arithmetic.{at, FitsBits}
 use Rattle.av1_itx.specs.declared.block.Block.{Block}
 use Rattle.av1_itx.specs.Kinds.{column_kind, row_kind}
 use Rattle.av1_itx.specs.Networks.{HasNetwork}
-use Rattle.av1_itx.specs.Residue.{column_power, column_range, row_input, row_power, row_range}
-use Rattle.av1_itx.specs.Scaffolding.{AreCoefficients, AreColumns, block_columns, block_rows}
+use Rattle.av1_itx.specs.Residue.{column_power, column_range, is_lossless, row_input, row_power, row_range}
+use Rattle.av1_itx.specs.Scaffolding.{AreCoefficients, AreColumns, block_columns, block_rows, column_bits}
 use Rattle.av1_itx.proofs.ExactRows.{network_row}
 use Rattle.av1_itx.proofs.Passes.{input-fits}
 use Rattle.av1_itx.proofs.Sizes.{both_run, sides}
@@ -59,14 +59,20 @@ rows_are block count cs scaled depth has fours eights within long filled =
       fit = λ c r hc hr. subst P (sym (filled c r hc (omega (arith, hr, within)))) (input-fits size block.tx_type block.bd cs r c);
     }
 
+pub bits_in : (block : Block) → block.bd ≤ 12 → (16 ≤ column_bits block) × (column_bits block ≤ 20)
+bits_in block few =
+    elim (block.by_av1 && is_lossless block.tx_type) as (λ b. (16 ≤ cond b 20 (column_range block.bd)) × (cond b 20 (column_range block.bd) ≤ 20))
+    [ true ↦ (omega arith, omega arith) | false ↦ (omega arith, omega (arith, few)) ]
+
 -- columns that rows have left
 pub columns_are : (block : Block) (buffer : List ℤ) → (8 ≤ block.bd) × (block.bd ≤ 12)
     → HasNetwork (column_kind block.tx_type) (column_power block.tx_size) → length buffer ≡ tx_height block.tx_size * tx_width block.tx_size
     → ((r c : ℕ) → r < tx_height block.tx_size → c < tx_width block.tx_size
-    → FitsBits (column_range block.bd) (at buffer (r * tx_width block.tx_size + c)))
+    → FitsBits (column_bits block) (at buffer (r * tx_width block.tx_size + c)))
     → AreColumns (block_columns block) buffer
 columns_are block buffer depth has long fit =
     let size = block.tx_size in
+    let bits = bits_in block depth.1 in
     let s = sides size in
     let g = groups size in
     record {
@@ -78,6 +84,6 @@ columns_are block buffer depth has long fit =
       power = (powers size).1;
       has = has;
       long = long;
-      range = (omega arith, omega arith);
+      range = (omega (arith, bits), bits.1);
       fit = fit;
     }

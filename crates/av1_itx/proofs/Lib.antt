@@ -18,6 +18,7 @@ pub mod Tiles
 pub mod Eights
 pub mod Copies
 pub mod Sizes
+pub mod Unclamped
 pub mod Handed
 pub mod Singles
 pub mod Shifts

@@ -1,7 +1,7 @@
 -- Inputs of 18 bits and a range up to 18: none of a transform's sums and products leaves 32 bits.
-use Rattle.std.proofs.Common.{unsigned_abs, Bool, ℕ, zero, suc, ◌≡◌, ◌+◌, ◌-◌, ◌*◌, ◌/◌, ◌^◌, ◌≤◌, ◌%◌, ◌==◌, nat_lt, max, true, false, cond, ℤ, pos}
+use Rattle.std.proofs.Common.{unsigned_abs, Bool, ◌&&◌, ◌≢◌, ℕ, zero, suc, ◌≡◌, ◌+◌, ◌-◌, ◌*◌, ◌/◌, ◌^◌, ◌≤◌, ◌%◌, ◌==◌, nat_lt, max, true, false, cond, ℤ, pos}
 use Rattle.std.proofs.Common.{negsuc, ◌+ℤ◌}
-use Rattle.std.proofs.Common.{◌-ℤ◌, ◌*ℤ◌, List, reverse, All, arith, ap, refl, sym, ◌∙◌, inl, inr, w32, FitsSigned}
+use Rattle.std.proofs.Common.{◌-ℤ◌, ◌*ℤ◌, List, reverse, All, arith, ap, refl, sym, subst, ◌∙◌, inl, inr, w32, FitsSigned}
 use Rattle.std.specs.Int.{int_shr}
 use Rattle.std.proofs.lemmas.Bool.{cases_lt}
 use Rattle.std.proofs.lemmas.Int.{ints, int_wrap_fits, unsigned_abs-mul}
@@ -9,11 +9,13 @@ use Rattle.std.proofs.Math.Nat.{mul-le-mul}
 use Rattle.av1_dct.specs.Arithmetic.{AllFit, FitsBits, at, clamp_value, round12}
 use Rattle.av1_dct.specs.Operations.{Operations, AreRight32}
 use Rattle.av1_lists.specs.Lists.{by_index}
-use Rattle.av1_dct.proofs.Fits.{all-fit, by_index-fits, clamp_value-fits, cond-fits}
+use Rattle.av1_dct.proofs.Fits.{all-fit, by_index-fits, clamp_value-fits, clamped_same, cond-fits, fits_wider}
 use Rattle.av1_dct.proofs.NoWrap.{Weight, cos128-small, neg-small, turn-same, plus-same, minus-same, cond-same, no_wrap}
 use Rattle.av1_lists.proofs.Lists.{by_index-all, by_index-same}
 use Rattle.av1_blocks.specs.declared.transform.TxSize.{TxSize}
+use Rattle.av1_blocks.specs.declared.transform.TxSize.TheVariants.{TX_4X4}
 use Rattle.av1_blocks.specs.declared.transform.TxType.{TxType}
+use Rattle.av1_blocks.specs.declared.transform.TxType.TheVariants.{WHT_WHT}
 use Rattle.av1_blocks.specs.Transforms.{coded, tx_height}
 use Rattle.av1_frame.specs.Arithmetic.{round_shift}
 use Rattle.av1_itx.proofs.Fills.{four_same}
@@ -27,11 +29,12 @@ use Rattle.av1_itx.specs.Identity.{exact, scaled_with, scaled, identity_with}
 use Rattle.av1_itx.specs.Kinds.{column_kind, exact_kind, row_kind, row_kind_by}
 use Rattle.av1_itx.specs.Walsh.{walsh_with, walsh}
 use Rattle.av1_itx.specs.Networks.{network_with, network}
-use Rattle.av1_itx.specs.Residue.{column_input, column_network, column_power, column_range, column_shift, residue, residue_by, row_power, row_range, row_shift}
-use Rattle.av1_itx.specs.Residue.{transformed_column, transformed_row}
+use Rattle.av1_itx.specs.Residue.{column_input, column_network, column_power, column_range, column_shift, column_value, is_lossless, residue, residue_by}
+use Rattle.av1_itx.specs.Residue.{row_power, row_range, row_shift, transformed_column, transformed_row}
 use Rattle.av1_itx.proofs.Steps.{start-fits}
 use Rattle.av1_itx.proofs.Outputs.{half-fits, rounds-fit}
 use Rattle.av1_itx.proofs.Passes.{inputs-fit, row_is, row_past}
+use Rattle.av1_itx.proofs.Unclamped.{few_fit, lossless_fits}
 
 -- both weights of a turn are small
 pub record Weights (w : ℤ × ℤ) : Type 0 where
@@ -178,7 +181,7 @@ module _ (ops : Operations) (right : AreRight32 ops) where
   adst-same range (suc zero) x r h = adst4-same x h
   adst-same range (suc (suc k)) x r h = more-same range (suc (suc k)) x r h
 
-  walsh-same : (x : List ℤ) → AllFit 18 x → walsh_with ops x ≡ walsh x
+  walsh-same : (x : List ℤ) → AllFit 20 x → walsh_with ops x ≡ walsh x
   unfolding walsh_with
   walsh-same x f =
       let a0 = f 0 in
@@ -207,16 +210,32 @@ module _ (ops : Operations) (right : AreRight32 ops) where
   network-same FLIPADST range k x r h = ap reverse (adst-same range k x r h)
   network-same IDENTITY range k x r h = by_index-same (2 * 2 ^ k) _ _ (λ i _. scaled-same k (at x i) (h i))
   network-same EXACT_IDENTITY range k x r h = refl
-  network-same WHT range k x r h = walsh-same x h
+  network-same WHT range k x r h = walsh-same x (λ i. fits_wider 18 20 _ (omega arith) (h i))
 
 pub never_wraps : (ops : Operations) → AreRight32 ops → (kind : TxType1D) (range k : ℕ) (x : List ℤ) → range ≤ 18 → All (FitsBits 18) x →
     network_with ops kind range k x ≡ network kind range k x
 never_wraps ops right kind range k x r h = network-same ops right kind range k x r (all-fit 18 18 x (omega arith) h)
 
--- what a column's transform takes
-pub column_inputs : (size : TxSize) (depth : ℕ) (f : ℕ → ℤ) → depth ≤ 12 → All (FitsBits 18) (column_input size depth f)
-column_inputs size depth f h =
-    by_index-all (FitsBits 18) (tx_height size) _ (λ r l. clamp_value-fits {w = 18} (round_shift (f r) (row_shift size)) (column_range depth) (omega arith))
+-- those of the columns of a lossless block have up to 20 bits
+pub walsh_never_wraps : (ops : Operations) → AreRight32 ops → (range k : ℕ) (x : List ℤ) → All (FitsBits 20) x →
+    network_with ops WHT range k x ≡ network WHT range k x
+unfolding network_with
+walsh_never_wraps ops right range k x h = walsh-same ops right x (all-fit 20 20 x (omega arith) h)
+
+-- what a column's transform takes where it is clamped,
+pub column_inputs : (by_av1 : Bool) (size : TxSize) (type : TxType) (depth : ℕ) (f : ℕ → ℤ) → depth ≤ 12 → (by_av1 && is_lossless type) ≡ false →
+    All (FitsBits 18) (column_input by_av1 size type depth f)
+column_inputs by_av1 size type depth f h clamped =
+    let taken = λ (b : Bool) (v : ℤ). cond b v (clamp_value v (column_range depth)) in
+    by_index-all (FitsBits 18) (tx_height size) _
+    (λ r l. let v = round_shift (f r) (row_shift size) in
+    subst (λ b. FitsBits 18 (taken b v)) (sym clamped) (clamp_value-fits {w = 18} v (column_range depth) (omega (arith, h))))
+
+-- and where it isn't
+pub lossless_inputs : (depth : ℕ) (cs : List ℤ) (c : ℕ) → depth ≤ 12 → All (FitsBits (depth + 8)) cs →
+    All (FitsBits 20) (column_input true TX_4X4 WHT_WHT depth (λ r. at (transformed_row true TX_4X4 WHT_WHT depth cs r) c))
+lossless_inputs depth cs c h fit =
+    by_index-all (FitsBits 20) 4 _ (λ r l. lossless_fits depth cs r c h (λ i _. all-fit (depth + 8) (depth + 8) cs (omega arith) fit i))
 
 -- ---- identities that never wrap
 
@@ -249,10 +268,47 @@ shallow_row by_av1 size type depth cs r c few =
       | inr b ↦ row_past by_av1 size type depth cs r c b ∙ sym (row_past false size type depth cs r c b)
     ]
 
-pub shallow_residue : (by_av1 : Bool) (size : TxSize) (type : TxType) (depth : ℕ) (cs : List ℤ) (r c : ℕ) → depth ≤ 10 →
-    residue_by by_av1 size type depth cs r c ≡ residue size type depth cs r c
+-- the columns of two blocks that take the same
+columns_same : (by_av1 : Bool) (size : TxSize) (type : TxType) (depth : ℕ) (cs : List ℤ) (r c : ℕ)
+    → ((y : ℕ) → column_value by_av1 size type depth (at (transformed_row by_av1 size type depth cs y) c)
+    ≡ column_value false size type depth (at (transformed_row false size type depth cs y) c))
+    → residue_by by_av1 size type depth cs r c ≡ residue size type depth cs r c
 unfolding residue_by transformed_column column_network
-shallow_residue by_av1 size type depth cs r c few =
+columns_same by_av1 size type depth cs r c same =
     ap (λ zs. round_shift (at (network (column_kind type) (column_range depth) (column_power size) zs) r) (column_shift type))
-    (by_index-same (tx_height size) _ _
-    (λ y hy. ap (λ z. clamp_value (round_shift z (row_shift size)) (column_range depth)) (shallow_row by_av1 size type depth cs y c few)))
+    (by_index-same (tx_height size) _ _ (λ y hy. same y))
+
+clamped_alike : (by_av1 : Bool) (size : TxSize) (type : TxType) (depth : ℕ) (z : ℤ) → type ≢ WHT_WHT →
+    column_value by_av1 size type depth z ≡ column_value false size type depth z
+clamped_alike false size type depth z other = refl
+clamped_alike true size type depth z other =
+    (elim type as (λ t. t ≢ WHT_WHT → column_value true size t depth z ≡ column_value false size t depth z)
+    [ WHT_WHT ↦ (λ o. absurd (o refl)) | _ ↦ (λ o. refl) ]) other
+
+pub shallow_residue : (by_av1 : Bool) (size : TxSize) (type : TxType) (depth : ℕ) (cs : List ℤ) (r c : ℕ) → depth ≤ 10 → type ≢ WHT_WHT →
+    residue_by by_av1 size type depth cs r c ≡ residue size type depth cs r c
+shallow_residue by_av1 size type depth cs r c few other =
+    columns_same by_av1 size type depth cs r c (λ y. clamped_alike by_av1 size type depth _ other
+    ∙ ap (column_value false size type depth) (shallow_row by_av1 size type depth cs y c few))
+
+-- ---- lossless blocks whose coefficients have few bits
+
+-- rows are the same by both rules: they have no identity
+lossless_row : (by_av1 : Bool) (size : TxSize) (depth : ℕ) (cs : List ℤ) (r c : ℕ) →
+    at (transformed_row by_av1 size WHT_WHT depth cs r) c ≡ at (transformed_row false size WHT_WHT depth cs r) c
+unfolding transformed_row
+lossless_row false size depth cs r c = refl
+lossless_row true size depth cs r c = refl
+
+-- and what the columns take, which needs no clamp
+lossless_taken : (by_av1 : Bool) (depth : ℕ) (cs : List ℤ) (r c : ℕ) → All (FitsBits 17) cs →
+    column_value by_av1 TX_4X4 WHT_WHT depth (at (transformed_row by_av1 TX_4X4 WHT_WHT depth cs r) c)
+    ≡ column_value false TX_4X4 WHT_WHT depth (at (transformed_row false TX_4X4 WHT_WHT depth cs r) c)
+lossless_taken false depth cs r c fit = refl
+lossless_taken true depth cs r c fit =
+    ap (column_value true TX_4X4 WHT_WHT depth) (lossless_row true TX_4X4 depth cs r c)
+    ∙ sym (clamped_same (column_range depth) _ (fits_wider 16 (column_range depth) _ (omega arith) (few_fit depth cs r c fit)))
+
+pub lossless_residue : (by_av1 : Bool) (depth : ℕ) (cs : List ℤ) (r c : ℕ) → All (FitsBits 17) cs →
+    residue_by by_av1 TX_4X4 WHT_WHT depth cs r c ≡ residue TX_4X4 WHT_WHT depth cs r c
+lossless_residue by_av1 depth cs r c fit = columns_same by_av1 TX_4X4 WHT_WHT depth cs r c (λ y. lossless_taken by_av1 depth cs y c fit)

@@ -1,5 +1,5 @@
 -- What the transforms give: numbers of 24 bits, where their inputs have 20.
-use Rattle.std.proofs.Common.{ℕ, zero, suc, ◌≤◌, ◌-◌, ◌*◌, ◌%◌, ◌^◌, ◌==◌, ℤ, pos, negsuc, ◌+ℤ◌, ◌-ℤ◌, ◌*ℤ◌, List, arith, w32, FitsSigned}
+use Rattle.std.proofs.Common.{ℕ, zero, suc, ◌≤◌, ◌-◌, ◌*◌, ◌%◌, ◌^◌, ◌==◌, ℤ, pos, negsuc, ◌+ℤ◌, ◌-ℤ◌, ◌*ℤ◌, neg_ℤ, ◌≤ℤ◌, ◌<ℤ◌, List, arith, w32, FitsSigned}
 use Rattle.std.specs.Int.{int_shr}
 use Rattle.std.proofs.lemmas.Int.{ints, SFits-int_wrap}
 use Rattle.av1_dct.specs.Arithmetic.{at, FitsBits, AllFit, round12}
@@ -13,7 +13,7 @@ use Rattle.av1_itx.specs.Adst.{adst_rounds_with, adst_more, adst_more_with}
 use Rattle.av1_itx.specs.Identity.{exact, scaled, scaled_with, identity_with}
 use Rattle.av1_itx.specs.Walsh.{walsh, walsh_with}
 use Rattle.av1_itx.specs.Networks.{network, network_with}
-use Rattle.av1_itx.proofs.Widths.{four_fit, reverse-fits}
+use Rattle.av1_itx.proofs.Widths.{each_of_four, four_fit, reverse-fits}
 use Rattle.av1_itx.proofs.Steps.{start-fits, round-fits}
 
 shr12-fits : (z : ℤ) → FitsSigned w32 z → FitsBits 24 (int_shr z 12)
@@ -59,30 +59,46 @@ pub half-fits : (z : ℤ) → FitsBits 22 z → FitsBits 22 (int_shr z 1)
 half-fits (pos a) f = record { low = omega (arith, ints); high = omega (arith, ints, f.high) }
 half-fits (negsuc a) f = record { low = omega (arith, ints, f.low); high = omega (arith, ints) }
 
-walsh-fits : (x : List ℤ) → AllFit 20 x → AllFit 24 (walsh x)
+-- a number from -p to p - 1
+pub record Within (p : ℕ) (z : ℤ) : Type 0 where
+  pub low : neg_ℤ (pos p) ≤ℤ z
+  pub high : z <ℤ pos p
+
+halved : (z : ℤ) → ((pos 2 *ℤ int_shr z 1) ≤ℤ z) × (z ≤ℤ (pos 2 *ℤ int_shr z 1 +ℤ pos 1))
+halved (pos a) = (omega (arith, ints), omega (arith, ints))
+halved (negsuc a) = (omega (arith, ints), omega (arith, ints))
+
+-- the Walsh-Hadamard transform gives twice as much at most
+pub walsh_within : (p : ℕ) (x : List ℤ) → 1 ≤ p → ((i : ℕ) → Within p (at x i)) → (i : ℕ) → Within (2 * p) (at (walsh x) i)
 unfolding walsh_with
-walsh-fits x f =
+walsh_within p x some f =
     let a0 = f 0 in
     let a1 = f 1 in
     let a2 = f 2 in
     let a3 = f 3 in
-    let sum : FitsBits 22 (at x 0 +ℤ at x 1 -ℤ (at x 2 -ℤ at x 3)) =
-    record {
-      low = omega (arith, ints, a0.low, a1.low, a2.high, a3.low, a0.high, a1.high, a2.low, a3.high);
-      high = omega (arith, ints, a0.low, a1.low, a2.high, a3.low, a0.high, a1.high, a2.low, a3.high);
-    } in
-    let h = half-fits _ sum in
-    four_fit 24 _ _ _ _
+    let h = halved (at x 0 +ℤ at x 1 -ℤ (at x 2 -ℤ at x 3)) in
+    each_of_four (Within (2 * p)) _ _ _ _ (record { low = omega (arith, ints); high = omega (arith, ints) })
     (record {
-      low = omega (arith, ints, a0.low, a1.low, a2.high, a3.low, a0.high, a1.high, a2.low, a3.high, h.low, h.high);
-      high = omega (arith, ints, a0.low, a1.low, a2.high, a3.low, a0.high, a1.high, a2.low, a3.high, h.low, h.high);
+      low = omega (arith, ints, h.0, h.1, a0.low, a0.high, a1.low, a1.high, a2.low, a2.high, a3.low, a3.high);
+      high = omega (arith, ints, h.0, h.1, a0.low, a0.high, a1.low, a1.high, a2.low, a2.high, a3.low, a3.high);
     })
-    (record { low = omega (arith, ints, a3.low, a3.high, h.low, h.high); high = omega (arith, ints, a3.low, a3.high, h.low, h.high) })
-    (record { low = omega (arith, ints, a1.low, a1.high, h.low, h.high); high = omega (arith, ints, a1.low, a1.high, h.low, h.high) })
     (record {
-      low = omega (arith, ints, a2.low, a3.high, a2.high, a3.low, a1.low, a1.high, h.low, h.high);
-      high = omega (arith, ints, a2.low, a3.high, a2.high, a3.low, a1.low, a1.high, h.low, h.high);
+      low = omega (arith, ints, h.0, h.1, a0.low, a0.high, a1.low, a1.high, a2.low, a2.high, a3.low, a3.high);
+      high = omega (arith, ints, h.0, h.1, a0.low, a0.high, a1.low, a1.high, a2.low, a2.high, a3.low, a3.high);
     })
+    (record {
+      low = omega (arith, ints, h.0, h.1, a0.low, a0.high, a1.low, a1.high, a2.low, a2.high, a3.low, a3.high);
+      high = omega (arith, ints, h.0, h.1, a0.low, a0.high, a1.low, a1.high, a2.low, a2.high, a3.low, a3.high);
+    })
+    (record {
+      low = omega (arith, ints, h.0, h.1, a0.low, a0.high, a1.low, a1.high, a2.low, a2.high, a3.low, a3.high);
+      high = omega (arith, ints, h.0, h.1, a0.low, a0.high, a1.low, a1.high, a2.low, a2.high, a3.low, a3.high);
+    })
+
+walsh-fits : (x : List ℤ) → AllFit 20 x → AllFit 24 (walsh x)
+walsh-fits x f = λ i.
+    let w = walsh_within 524288 x (omega arith) (λ k. record { low = (f k).low; high = (f k).high }) i in
+    record { low = omega (arith, ints, w.low); high = omega (arith, ints, w.high) }
 
 pub rounds-fit : (range k c : ℕ) (v : List ℤ) → range ≤ 20 → AllFit 20 v → AllFit 20 (adst_rounds range k c v)
 unfolding adst_rounds_with

@@ -1,5 +1,6 @@
 -- The rows and the columns of a block.
-use Rattle.std.proofs.Common.{ℕ, Bool, true, false, cond, ltb, ◌≡◌, ◌≤◌, ◌<◌, ◌+◌, ◌*◌, ◌/◌, ◌^◌, ℤ, pos, ◌*ℤ◌, List, All, arith, ap, sym, subst, ◌∙◌, refl}
+use Rattle.std.proofs.Common.{ℕ, Bool, true, false, cond, ltb, ◌&&◌, ◌≡◌, ◌≤◌, ◌<◌, ◌+◌, ◌*◌, ◌/◌, ◌^◌, ℤ, pos, ◌*ℤ◌, List, All, arith, ap, sym, subst, ◌∙◌}
+use Rattle.std.proofs.Common.{refl}
 use Rattle.std.proofs.Common.{inl, inr, length, min}
 use Rattle.std.specs.Int.{int_shr}
 use Rattle.std.proofs.lemmas.Bool.{cases_lt}
@@ -9,6 +10,7 @@ use Rattle.std.proofs.Math.Nat.{div-eq_of_lt, mul-le-mul_right}
 use Rattle.std.proofs.lemmas.List.{get_or_past}
 use Rattle.av1_blocks.specs.declared.transform.TxSize.{TxSize}
 use Rattle.av1_blocks.specs.declared.transform.TxType.{TxType}
+use Rattle.av1_blocks.specs.declared.transform.TxType.TheVariants.{WHT_WHT}
 use Rattle.av1_blocks.specs.Transforms.{tx_width, tx_height, coded, coded_area}
 use Rattle.av1_dct.specs.Arithmetic.{at, FitsBits, clamp_value}
 use Rattle.av1_dct.specs.Columns.{column_of}
@@ -16,9 +18,9 @@ use Rattle.av1_lists.specs.Lists.{by_index}
 use Rattle.av1_dct.proofs.Zero.{IsZero, clamp-zero, cond-zero, by_index-zero}
 use Rattle.av1_frame.specs.Arithmetic.{round_shift}
 use Rattle.av1_itx.specs.Kinds.{row_kind_by, column_kind}
-use Rattle.av1_itx.specs.Networks.{network}
+use Rattle.av1_itx.specs.Networks.{network, network_with}
 use Rattle.av1_itx.specs.Residue.{row_value, row_input, row_power, row_range, row_shift, is_two_to_one, is_lossless, transformed_row}
-use Rattle.av1_itx.specs.Residue.{column_network, column_power, column_range, column_shift, transformed_column, residue_by}
+use Rattle.av1_itx.specs.Residue.{column_network, column_power, column_range, column_shift, column_value, transformed_column, residue_by}
 use Rattle.av1_lists.proofs.Lists.{by_index-all, by_index-same}
 use Rattle.av1_dct.proofs.Fits.{zero_fits, clamp_value-fits, all-fit}
 use Rattle.av1_itx.proofs.Lines.{place_in}
@@ -89,24 +91,35 @@ row-fits by_av1 size type depth cs r c h =
       | inr b ↦ subst P (sym (row_past by_av1 size type depth cs r c b)) (zero_fits 24)
     ]
 
--- the columns of a block whose rows were clamped fit
-pub column-fits : (size : TxSize) (type : TxType) (depth : ℕ) (buf : List ℤ) (r c : ℕ) → depth ≤ 12
-    → ((y : ℕ) → y < tx_height size → FitsBits (column_range depth) (at buf (y * tx_width size + c)))
-    → FitsBits 24 (at (network (column_kind type) (column_range depth) (column_power size) (column_of (tx_height size) (tx_width size) c buf)) r)
-column-fits size type depth buf r c h fit =
-    network-fits (column_kind type) (column_range depth) (column_power size) _ (omega arith)
-    (all-fit (column_range depth) 20 _ (omega arith) (by_index-all (FitsBits (column_range depth)) _ _ fit)) r
+-- the columns of values of so many bits
+pub column-fits : (size : TxSize) (type : TxType) (bits : ℕ) (buf : List ℤ) (r c : ℕ) → bits ≤ 20
+    → ((y : ℕ) → y < tx_height size → FitsBits bits (at buf (y * tx_width size + c)))
+    → FitsBits 24 (at (network (column_kind type) bits (column_power size) (column_of (tx_height size) (tx_width size) c buf)) r)
+column-fits size type bits buf r c h fit =
+    network-fits (column_kind type) bits (column_power size) _ h (all-fit bits 20 _ h (by_index-all (FitsBits bits) _ _ fit)) r
+
+-- the transform of a lossless block's columns has no range
+column_by : (by_av1 : Bool) (type : TxType) (depth k : ℕ) (x : List ℤ) →
+    network (column_kind type) (cond (by_av1 && is_lossless type) 20 (column_range depth)) k x ≡ network (column_kind type) (column_range depth) k x
+unfolding network_with
+column_by false type depth k x = refl
+column_by true type depth k x =
+    elim type as
+    (λ t. network (column_kind t) (cond (true && is_lossless t) 20 (column_range depth)) k x ≡ network (column_kind t) (column_range depth) k x)
+    [ WHT_WHT ↦ refl | _ ↦ refl ]
 
 -- both passes
 pub residue_is : (by_av1 : Bool) (size : TxSize) (type : TxType) (depth : ℕ) (cs buf : List ℤ) (r c : ℕ) (z : ℤ)
-    → z ≡ at (network (column_kind type) (column_range depth) (column_power size) (column_of (tx_height size) (tx_width size) c buf)) r
+    → z ≡ at (network (column_kind type) (cond (by_av1 && is_lossless type) 20 (column_range depth)) (column_power size)
+    (column_of (tx_height size) (tx_width size) c buf)) r
     → ((y : ℕ) → y < tx_height size → at buf (y * tx_width size + c) ≡
-    clamp_value (round_shift (at (transformed_row by_av1 size type depth cs y) c) (row_shift size)) (column_range depth))
+    column_value by_av1 size type depth (at (transformed_row by_av1 size type depth cs y) c))
     → round_shift z (column_shift type) ≡ residue_by by_av1 size type depth cs r c
 unfolding residue_by transformed_column column_network
 residue_is by_av1 size type depth cs buf r c z is h =
     ap (λ v. round_shift v (column_shift type))
-    (is ∙ ap (λ zs. at (network (column_kind type) (column_range depth) (column_power size) zs) r) (by_index-same _ _ _ h))
+    (is ∙ ap (λ zs. at zs r) (column_by by_av1 type depth (column_power size) _)
+    ∙ ap (λ zs. at (network (column_kind type) (column_range depth) (column_power size) zs) r) (by_index-same _ _ _ h))
 
 -- a coefficient by how its block is scaled
 pub row_value-is : (size : TxSize) (type : TxType) (depth : ℕ) (t l : Bool) (v z : ℤ) → t ≡ is_two_to_one size → l ≡ is_lossless type →
@@ -124,6 +137,12 @@ shifted-zero z b h =
     let some = pow_pos b in
     let small : (0 + 2 ^ b / 2) / 2 ^ b ≡ 0 = div-eq_of_lt (half_below (2 ^ b) some) in
     ap (λ y. round_shift y b) h ∙ ap pos small
+
+-- what a column takes for 0
+pub taken-zero : (by_av1 : Bool) (size : TxSize) (type : TxType) (depth : ℕ) (z : ℤ) → z ≡ pos 0 → column_value by_av1 size type depth z ≡ pos 0
+taken-zero by_av1 size type depth z none =
+    let shifted = shifted-zero z (row_shift size) none in
+    cond-zero (by_av1 && is_lossless type) _ _ shifted (clamp-zero _ (column_range depth) shifted)
 
 input-zero : (size : TxSize) (type : TxType) (depth : ℕ) (cs : List ℤ) (r c : ℕ) → IsZero cs → row_input size type depth cs r c ≡ pos 0
 unfolding row_input
@@ -162,7 +181,7 @@ residue-zero by_av1 size type depth cs r c h =
     let z = zero_line cs (λ i l. h i (pos 0) l) in
     let n = network-zero (column_kind type) (column_range depth)
     (column_power size) _
-    (by_index-zero (tx_height size) _ (λ y. clamp-zero _ (column_range depth) (shifted-zero _ (row_shift size) (row-zero by_av1 size type depth cs y c z)))) in
+    (by_index-zero (tx_height size) _ (λ y. taken-zero by_av1 size type depth _ (row-zero by_av1 size type depth cs y c z))) in
     shifted-zero _ (column_shift type) (n.at r)
 
 -- the residue is that of any coefficients that are the same at all places
@@ -188,4 +207,4 @@ unfolding residue_by transformed_column column_network
 residue-same by_av1 size type depth xs ys same r c =
     ap (λ zs. round_shift (at (network (column_kind type) (column_range depth) (column_power size) zs) r) (column_shift type))
     (by_index-same (tx_height size) _ _
-    (λ y hy. ap (λ z. clamp_value (round_shift z (row_shift size)) (column_range depth)) (row-same by_av1 size type depth xs ys same y c)))
+    (λ y hy. ap (column_value by_av1 size type depth) (row-same by_av1 size type depth xs ys same y c)))

@@ -3,42 +3,33 @@ use Rattle.std.proofs.Common.{ℕ, Bool, ◌≡◌, ◌≤◌, ◌<◌, ◌+◌,
 use Rattle.av1_blocks.specs.declared.transform.TxSize.{TxSize}
 use Rattle.av1_blocks.specs.declared.transform.TxType.{TxType}
 use Rattle.av1_blocks.specs.Transforms.{tx_width, tx_height, coded}
-use Rattle.av1_dct.specs.Arithmetic.{at, clamp_value}
+use Rattle.av1_dct.specs.Arithmetic.{at}
 use Rattle.av1_dct.specs.Columns.{column_of}
 use Rattle.av1_dct.proofs.Places.{at-by_index}
-use Rattle.av1_dct.proofs.Zero.{clamp-zero}
-use Rattle.av1_frame.specs.Arithmetic.{round_shift}
 use Rattle.av1_lists.specs.Lists.{by_index}
 use Rattle.av1_lists.proofs.Lists.{by_index-same, length-by_index}
 use Rattle.av1_itx.specs.declared.block.Block.{Block}
 use Rattle.av1_itx.specs.Kinds.{row_kind_by}
 use Rattle.av1_itx.specs.Networks.{network}
-use Rattle.av1_itx.specs.Residue.{column_range, row_input, row_power, row_range, row_shift, transformed_row}
-use Rattle.av1_itx.proofs.Passes.{row_is, row_past, shifted-zero}
+use Rattle.av1_itx.specs.Residue.{column_value, row_input, row_power, row_range, transformed_row}
+use Rattle.av1_itx.proofs.Passes.{row_is, row_past, taken-zero}
 use Rattle.av1_itx.proofs.Zeros.{network-zero, zero_line}
-
--- what the columns take of a row's value z
-abbrev pub taken_by_columns : TxSize → ℕ → ℤ → ℤ
-taken_by_columns size depth z = clamp_value (round_shift z (row_shift size)) (column_range depth)
-
-taken-zero : (size : TxSize) (depth : ℕ) (z : ℤ) → z ≡ pos 0 → pos 0 ≡ taken_by_columns size depth z
-taken-zero size depth z none = sym (clamp-zero _ (column_range depth) (shifted-zero z (row_shift size) none))
 
 -- past the last row of coefficients
 pub taken-past : (by_av1 : Bool) (size : TxSize) (type : TxType) (depth : ℕ) (cs : List ℤ) (r c : ℕ) → coded (tx_height size) ≤ r →
-    pos 0 ≡ taken_by_columns size depth (at (transformed_row by_av1 size type depth cs r) c)
-taken-past by_av1 size type depth cs r c past = taken-zero size depth _ (row_past by_av1 size type depth cs r c past)
+    column_value by_av1 size type depth (at (transformed_row by_av1 size type depth cs r) c) ≡ pos 0
+taken-past by_av1 size type depth cs r c past = taken-zero by_av1 size type depth _ (row_past by_av1 size type depth cs r c past)
 
 -- a row of zeros
 pub taken-none : (by_av1 : Bool) (size : TxSize) (type : TxType) (depth : ℕ) (cs : List ℤ) (r c : ℕ) → r < coded (tx_height size) →
     ((x : ℕ) → x < tx_width size → row_input size type depth cs r x ≡ pos 0)
-    → pos 0 ≡ taken_by_columns size depth (at (transformed_row by_av1 size type depth cs r) c)
+    → column_value by_av1 size type depth (at (transformed_row by_av1 size type depth cs r) c) ≡ pos 0
 taken-none by_av1 size type depth cs r c lt none =
     let w = tx_width size in
     let f = row_input size type depth cs r in
     let zeros = zero_line (by_index w f) (λ x hx. let h : x < w = omega (arith, hx, length-by_index w f) in at-by_index w f x h ∙ none x h) in
     let n = network-zero (row_kind_by by_av1 type) (row_range depth) (row_power size) (by_index w f) zeros in
-    taken-zero size depth _ (sym (row_is by_av1 size type depth cs r c lt) ∙ n.at c)
+    taken-zero by_av1 size type depth _ (sym (row_is by_av1 size type depth cs r c lt) ∙ n.at c)
 
 -- column r of a list whose columns are rows of coefficients, transformed
 pub tile_row : (block : Block) (cs tile : List ℤ) (r x : ℕ) → r < coded (tx_height block.tx_size)

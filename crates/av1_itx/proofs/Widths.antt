@@ -3,7 +3,7 @@ use Rattle.std.proofs.Common.{ℕ, zero, suc, ◌≡◌, ◌-◌, ◌*◌, ◌^�
 use Rattle.std.proofs.Common.{inl, inr}
 use Rattle.std.proofs.lemmas.Bool.{cases_lt}
 use Rattle.std.proofs.lemmas.List.{take_all, map-id, get_or_past, get_or-reverse, length-reverse}
-use Rattle.av1_dct.specs.Arithmetic.{AllFit, FitsBits}
+use Rattle.av1_dct.specs.Arithmetic.{AllFit, FitsBits, at}
 use Rattle.av1_lists.specs.Sides.{IsTransformSide}
 use Rattle.av1_dct.proofs.Fits.{zero_fits, all-fit}
 
@@ -21,12 +21,16 @@ is_length (suc (suc (suc (suc (suc (suc k)))))) n low high e = absurd (omega ari
 pub whole_is : (n : ℕ) (f : List ℤ → List ℤ) (xs ys : List ℤ) → length xs ≡ n → length ys ≡ n → take n ys ≡ f (take n xs) → ys ≡ f xs
 whole_is n f xs ys lx ly e = sym (take_all n ys (omega arith)) ∙ e ∙ ap f (take_all n xs (omega arith))
 
+-- what holds of four numbers and of 0 holds at each place of their list
+pub each_of_four : (P : ℤ → Type 0) (x y z w : ℤ) → P (pos 0) → P x → P y → P z → P w → (i : ℕ) → P (at (x ∷ y ∷ z ∷ w ∷ []) i)
+each_of_four P x y z w none hx hy hz hw zero = hx
+each_of_four P x y z w none hx hy hz hw (suc zero) = hy
+each_of_four P x y z w none hx hy hz hw (suc (suc zero)) = hz
+each_of_four P x y z w none hx hy hz hw (suc (suc (suc zero))) = hw
+each_of_four P x y z w none hx hy hz hw (suc (suc (suc (suc i)))) = none
+
 pub four_fit : (b : ℕ) (x y z w : ℤ) → FitsBits b x → FitsBits b y → FitsBits b z → FitsBits b w → AllFit b (x ∷ y ∷ z ∷ w ∷ [])
-four_fit b x y z w hx hy hz hw zero = hx
-four_fit b x y z w hx hy hz hw (suc zero) = hy
-four_fit b x y z w hx hy hz hw (suc (suc zero)) = hz
-four_fit b x y z w hx hy hz hw (suc (suc (suc zero))) = hw
-four_fit b x y z w hx hy hz hw (suc (suc (suc (suc i)))) = zero_fits b
+four_fit b x y z w hx hy hz hw = each_of_four (FitsBits b) x y z w (zero_fits b) hx hy hz hw
 
 pub reverse-fits : (b : ℕ) (xs : List ℤ) → AllFit b xs → AllFit b (reverse xs)
 reverse-fits b xs f = λ i.

@@ -1,6 +1,7 @@
 -- The 2D inverse transform process of the AV1 specification: an inverse transform along each row of coefficients, then
 -- one down each column.
-use Rattle.std.specs.Prelude.{ℕ, ◌+◌, ◌-◌, ◌*◌, ◌==◌, ◌||◌, nat_lt, max, if◌then◌else◌, Bool, true, false, ℤ, pos, ◌*ℤ◌}
+use Rattle.std.specs.Prelude.{ℕ, ◌+◌, ◌-◌, ◌*◌, ◌==◌, ◌||◌, ◌&&◌, nat_lt, max, if◌then◌else◌, Bool, true, false, ℤ}
+use Rattle.std.specs.Prelude.{pos, ◌*ℤ◌}
 use Rattle.std.specs.Prelude.{List, []}
 use Rattle.std.specs.Int.{int_shr}
 use Rattle.av1_blocks.specs.declared.transform.TxSize.{TxSize}
@@ -92,23 +93,29 @@ transformed_row by_av1 size type depth coefficients r =
     (by_index (tx_width size) (row_input size type depth coefficients r))
     else []
 
+-- what a column takes for the value z of a row: it is rounded and clamped, but in lossless blocks AV1 does not clamp
+abbrev pub column_value : (by_av1 : Bool) → TxSize → TxType → ℕ → ℤ → ℤ
+column_value by_av1 size type depth z =
+    let v = round_shift z (row_shift size) in
+    if by_av1 && is_lossless type then v else clamp_value v (column_range depth)
+
 -- what a column takes whose values after the rows are f 0, f 1 and so on
-abbrev pub column_input : TxSize → ℕ → (ℕ → ℤ) → List ℤ
-column_input size depth f =
-    by_index (tx_height size) (λ r. clamp_value (round_shift (f r) (row_shift size)) (column_range depth))
+abbrev pub column_input : (by_av1 : Bool) → TxSize → TxType → ℕ → (ℕ → ℤ) → List ℤ
+column_input by_av1 size type depth f = by_index (tx_height size) (λ r. column_value by_av1 size type depth (f r))
 
 -- such a column after its transform
-unfoldable pub column_network : TxSize → TxType → ℕ → (ℕ → ℤ) → List ℤ
-column_network size type depth f =
-    network (column_kind type) (column_range depth) (column_power size) (column_input size depth f)
+unfoldable pub column_network : (by_av1 : Bool) → TxSize → TxType → ℕ → (ℕ → ℤ) → List ℤ
+column_network by_av1 size type depth f =
+    network (column_kind type) (column_range depth) (column_power size) (column_input by_av1 size type depth f)
 
 -- column c after its transform
 unfoldable pub transformed_column : (by_av1 : Bool) → TxSize → TxType → ℕ → List ℤ → ℕ → List ℤ
 transformed_column by_av1 size type depth coefficients c =
-    column_network size type depth (λ r. at (transformed_row by_av1 size type depth coefficients r) c)
+    column_network by_av1 size type depth (λ r. at (transformed_row by_av1 size type depth coefficients r) c)
 
--- The residue of a block's coefficients: what is added to the sample at row r and column c. Whether identities along
--- rows never wrap, as AV1 has it, `by_av1` says; down columns none does.
+-- The residue of a block's coefficients: what is added to the sample at row r and column c. By AV1's rule (`by_av1`)
+-- identities along rows never wrap, and lossless blocks are not clamped between the passes. Identities down columns
+-- never wrap by either rule.
 unfoldable pub residue_by : (by_av1 : Bool) → TxSize → TxType → ℕ → List ℤ → ℕ → ℕ → ℤ
 residue_by by_av1 size type depth coefficients r c =
     round_shift (at (transformed_column by_av1 size type depth coefficients c) r) (column_shift type)

@@ -1,5 +1,5 @@
 -- What the crate's own functions promise one another on the way. No public contract cites this file.
-use Rattle.std.specs.Prelude.{◌≡◌, true, ℕ, ◌+◌, ◌*◌, ◌/◌, ◌^◌, ◌≤◌, ◌<◌, List, length, ℤ, pos}
+use Rattle.std.specs.Prelude.{◌≡◌, true, ◌&&◌, if◌then◌else◌, ℕ, ◌+◌, ◌*◌, ◌/◌, ◌^◌, ◌≤◌, ◌<◌, List, length, ℤ, pos}
 use Rattle.av1_blocks.specs.declared.transform.TxType.{TxType}
 use Rattle.av1_blocks.specs.Transforms.{tx_width, tx_height, coded, coded_area}
 use Rattle.av1_lists.specs.Sides.{IsTransformSide}
@@ -14,8 +14,8 @@ use Rattle.av1_itx.specs.declared.lane_columns.Columns.{Columns}
 use Rattle.av1_itx.specs.Kinds.{column_kind, row_kind, row_kind_by}
 use Rattle.av1_itx.specs.Networks.{HasNetwork, network}
 use Rattle.av1_itx.specs.LaneGroups.{is_cosine}
-use Rattle.av1_itx.specs.Residue.{column_power, column_range, row_power, row_range, row_shift, row_value}
-use Rattle.av1_itx.specs.Residue.{transformed_row}
+use Rattle.av1_itx.specs.Residue.{column_power, column_range, column_value, is_lossless}
+use Rattle.av1_itx.specs.Residue.{row_power, row_range, row_shift, row_value, transformed_row}
 use Rattle.std.specs.Prelude.{map}
 use Rattle.std.specs.Borrow.{RattleType}
 use Rattle.std.specs.Mem.{type_size}
@@ -65,6 +65,10 @@ block_rows block count = record {
   range = row_range block.bd;
 }
 
+-- how many bits hold what the columns of a block take
+abbrev pub column_bits : Block → ℕ
+column_bits block = if block.by_av1 && is_lossless block.tx_type then 20 else column_range block.bd
+
 -- All columns of a block.
 abbrev pub block_columns : Block → Columns
 block_columns block = record {
@@ -73,17 +77,15 @@ block_columns block = record {
   width = tx_width block.tx_size;
   height = tx_height block.tx_size;
   power = column_power block.tx_size;
-  range = column_range block.bd;
+  range = column_bits block;
 }
 
 -- what the columns of a block take of its coefficients, row by row
 abbrev pub AreRowsDone : Block → (coefficients buffer : List ℤ) → Type 0
 AreRowsDone block coefficients buffer = (r c : ℕ) → r < tx_height block.tx_size → c < tx_width block.tx_size →
     at buffer (r * tx_width block.tx_size + c) ≡
-    clamp_value
-    (round_shift (at (transformed_row block.by_av1 block.tx_size block.tx_type block.bd coefficients r) c)
-    (row_shift block.tx_size))
-    (column_range block.bd)
+    column_value block.by_av1 block.tx_size block.tx_type block.bd
+    (at (transformed_row block.by_av1 block.tx_size block.tx_type block.bd coefficients r) c)
 
 -- A rectangle among so many samples that has the sides of a block.
 pub record IsPlaceFor (block : Block) (place : Place) (count : ℕ) : Type 0 where

@@ -4,11 +4,12 @@ use av1_blocks::{TxSize, TxType};
 
 /// A block whose coefficients are transformed.
 #[derive(Clone, Copy)]
-pub(crate) struct Block {
-    pub(crate) tx_size: TxSize,
-    pub(crate) tx_type: TxType,
-    /// Whether identities along its rows never wrap, as AV1 has it.
-    pub(crate) by_av1: bool,
+pub struct Block {
+    pub tx_size: TxSize,
+    pub tx_type: TxType,
+    /// Whether it goes by AV1's rule: no identity along its rows wraps, and if it is lossless (`WHT_WHT`), nothing is
+    /// clamped between the passes. By rav1e's rule identities wrap at 32 bits, and every block is clamped.
+    pub by_av1: bool,
     /// How many bits a sample has.
-    pub(crate) bd: usize,
+    pub bd: usize,
 }

@@ -3,10 +3,10 @@
 ghost use Rattle.std.specs.Prelude.{◌≡◌, ◌≤◌};
 ghost use Rattle.av1_itx.specs.LaneGroups.{lane_groups};
 ghost use Rattle.av1_itx.specs.Residue.{column_range, row_shift};
-ghost use Rattle.av1_itx.specs.Scaffolding.{AreColumns, AreTransformed, block_columns};
+ghost use Rattle.av1_itx.specs.Scaffolding.{AreColumns, AreTransformed, block_columns, column_bits};
 
 use crate::block::Block;
-use crate::kinds::get_1d_tx_types;
+use crate::kinds::{get_1d_tx_types, is_lossless};
 use crate::lane_columns::Columns;
 use crate::lanes::{CosineColumns, LANES, is_cosine, run_columns};
 use av1_blocks::TxSize;
@@ -37,13 +37,26 @@ pub(crate) fn row_shift_of(tx_size: TxSize) -> usize
     }
 }
 
-/// How many bits values within the columns are clamped to.
+/// How many bits values are clamped to between the passes, and within the columns.
 pub(crate) fn column_range_of(bd: usize) -> usize
     requires { (8 ≤ bd) × (bd ≤ 12) }
     ensures value { result ≡ column_range bd }
     ensures bounds { (16 ≤ result) × (result ≤ 18) }
 {
     (bd + 6).max(16)
+}
+
+/// How many bits hold what the columns of a block take. In lossless blocks AV1 does not clamp between the passes, and
+/// their rows give no value of more than 20 bits.
+pub(crate) fn column_bits_of(block: Block) -> usize
+    requires { (8 ≤ block.bd) × (block.bd ≤ 12) }
+    ensures value { result ≡ column_bits block }
+    ensures bounds { (16 ≤ result) × (result ≤ 20) }
+{
+    if block.by_av1 && is_lossless(block.tx_type) {
+        return 20;
+    }
+    column_range_of(block.bd)
 }
 
 // All columns of a block.
@@ -59,7 +72,7 @@ fn columns_of(block: Block) -> Columns
         width: block.tx_size.width(),
         height: block.tx_size.height(),
         power: block.tx_size.height_log2() - 1,
-        range: column_range_of(block.bd),
+        range: column_bits_of(block),
     }
 }
 

@@ -18,6 +18,7 @@ ghost use Rattle.av1_itx.specs.Scaffolding.{AreCoefficients, IsPlaceFor, IsSingl
 use crate::adding::{add_all, raise_all};
 use crate::block::Block;
 use crate::columns::{column_pass, column_range_of};
+use crate::kinds::is_lossless;
 use crate::lanes::{CosineColumns, LANES, Lanes, Uncounted};
 use crate::rows::row_pass;
 use crate::single::{first_of, is_single, top_value};
@@ -31,7 +32,8 @@ pub struct TxScratch {
     buffer: Vec<i32>,
     scaled: Vec<i32>,
     lanes: Lanes,
-    /// Whether identities along rows never wrap, as AV1 has it. New scratch has them wrap at 32 bits, as rav1e does.
+    /// Whether blocks go by AV1's rule: identities along rows never wrap, and in lossless blocks (`WHT_WHT`) nothing is
+    /// clamped between the passes. New scratch goes by rav1e's: identities wrap at 32 bits, and all blocks are clamped.
     pub by_av1: bool,
     ghost long: { (vec_len buffer ≡ 4096) × (vec_len scaled ≡ 2048) },
 }
@@ -85,11 +87,7 @@ fn column_shift_of(tx_type: TxType) -> usize
     ensures small { result ≤ 4 }
     ensures one_of { (result ≡ 0) ⊎ (result ≡ 4) }
 {
-    if matches!(tx_type, TxType::WHT_WHT) {
-        0
-    } else {
-        4
-    }
+    if is_lossless(tx_type) { 0 } else { 4 }
 }
 
 // A rectangle of a slice whose rows stand `stride` apart.
@@ -193,8 +191,8 @@ fn add_over<T: Pixel, R: CosineColumns>(
 ///
 /// The coefficient of row r and column c stands at `c * min(height, 32) + r` of `input`; the rows and columns from 32
 /// on have none. Those that `input` is too short for are 0, and cost nothing: a codec that knows the last column with a
-/// coefficient hands over the columns up to it. All samples outside the rectangle stay. Whether identities along rows
-/// wrap, `by_av1` of the scratch says.
+/// coefficient hands over the columns up to it. All samples outside the rectangle stay. `by_av1` of the
+/// scratch chooses AV1's rule or rav1e's.
 pub fn inverse_transform_add_to<T: Pixel>(
     scratch: &mut TxScratch,
     input: &[T::Coeff],
@@ -234,26 +232,25 @@ pub fn inverse_transform_add_to<T: Pixel>(
     );
 }
 
-/// The same over room of any owner, as of C. Nothing is counted.
+/// The same over room of any owner, as of C, by the rule that `block` names. Nothing is counted.
 pub fn inverse_transform_add_in<T: Pixel>(
     room: &mut TxRoom,
     input: &[T::Coeff],
     samples: &mut [T],
     stride: usize,
     area: StoredArea,
-    tx_size: TxSize,
-    tx_type: TxType,
-    bd: usize,
+    block: Block,
 )
-    requires depths { IsDepth bd }
-    requires depth { bd ≤ T.BITS }
-    requires valid { IsTrue (valid_av1_transform tx_size tx_type) }
-    requires lossless { tx_type ≡ WHT_WHT → tx_size ≡ TX_4X4 }
-    requires input_fits { (i : ℕ) → i < coded_area tx_size → FitsBits (bd + 8) (at (map T.Coeff.val input.now) i) }
+    requires depths { IsDepth block.bd }
+    requires depth { block.bd ≤ T.BITS }
+    requires valid { IsTrue (valid_av1_transform block.tx_size block.tx_type) }
+    requires lossless { block.tx_type ≡ WHT_WHT → block.tx_size ≡ TX_4X4 }
+    requires input_fits { (i : ℕ) → i < coded_area block.tx_size → FitsBits (block.bd + 8) (at (map T.Coeff.val input.now) i) }
     requires rows { AreRows stride area (length samples.old) }
-    requires width { area.width ≡ tx_width tx_size }
-    requires height { area.height ≡ tx_height tx_size }
-    ensures painted { samples.new ≡ paint stride area (λ r c v. T.pixel (clip bd (pos (T.num v) +ℤ residue tx_size tx_type bd (map T.Coeff.val input.now) r c)))
+    requires width { area.width ≡ tx_width block.tx_size }
+    requires height { area.height ≡ tx_height block.tx_size }
+    ensures painted { samples.new ≡ paint stride area
+        (λ r c v. T.pixel (clip block.bd (pos (T.num v) +ℤ residue_by block.by_av1 block.tx_size block.tx_type block.bd (map T.Coeff.val input.now) r c)))
         samples.old }
 {
     add_over(
@@ -263,12 +260,7 @@ pub fn inverse_transform_add_in<T: Pixel>(
         input,
         samples,
         Place { stride, area },
-        Block {
-            tx_size,
-            tx_type,
-            by_av1: false,
-            bd,
-        },
+        block,
     );
 }
 

@@ -2,6 +2,7 @@
 
 ghost use Rattle.std.specs.Prelude.{◌≡◌, if◌then◌else◌};
 ghost use Rattle.av1_itx.specs.Kinds.{column_kind, row_kind, row_kind_by};
+ghost use Rattle.av1_itx.specs.Residue.{is_lossless};
 ghost use Rattle.av1_itx.specs.declared.kinds.TxType1D.TheVariants.{EXACT_IDENTITY, IDENTITY};
 
 use av1_blocks::TxType;
@@ -47,6 +48,13 @@ pub fn get_1d_tx_types(tx_type: TxType) -> (TxType1D, TxType1D)
         TxType::H_FLIPADST => (TxType1D::IDENTITY, TxType1D::FLIPADST),
         TxType::WHT_WHT => (TxType1D::WHT, TxType1D::WHT),
     }
+}
+
+/// Whether a type loses nothing: it is the one of lossless blocks.
+pub(crate) fn is_lossless(tx_type: TxType) -> bool
+    ensures { result ≡ is_lossless tx_type }
+{
+    matches!(tx_type, TxType::WHT_WHT)
 }
 
 // The identity, which never wraps where `by_av1` says so.

@@ -1,20 +1,20 @@
 //! Laws of the transforms, each a function that does nothing and ensures it.
 
-ghost use Rattle.std.specs.Prelude.{◌≡◌, ℕ, ◌*◌, ◌^◌, ◌≤◌, ◌↔◌, Bool, IsTrue, max, ℤ, pos, List, length, replicate, reverse};
+ghost use Rattle.std.specs.Prelude.{◌≡◌, ◌≢◌, false, true, ◌&&◌, ℕ, ◌+◌, ◌*◌, ◌^◌, ◌≤◌, ◌↔◌, Bool, IsTrue, max, ℤ, pos, List, length, replicate, reverse};
 ghost use Rattle.std.specs.List.{All};
 ghost use Rattle.av1_blocks.specs.declared.transform.TxSize.{TxSize};
 ghost use Rattle.av1_blocks.specs.declared.transform.TxSize.TheVariants.{TX_4X4};
 ghost use Rattle.av1_blocks.specs.declared.transform.TxType.{TxType};
 ghost use Rattle.av1_blocks.specs.declared.transform.TxType.TheVariants.{WHT_WHT};
 ghost use Rattle.av1_blocks.specs.Transforms.{tx_width, tx_height, valid_av1_transform};
-ghost use Rattle.av1_dct.specs.Arithmetic.{FitsBits};
+ghost use Rattle.av1_dct.specs.Arithmetic.{at, FitsBits};
 ghost use Rattle.av1_dct.specs.Operations.{AreRight32, Operations};
 ghost use Rattle.av1_itx.specs.declared.kinds.TxType1D.{TxType1D};
-ghost use Rattle.av1_itx.specs.declared.kinds.TxType1D.TheVariants.{ADST, FLIPADST};
+ghost use Rattle.av1_itx.specs.declared.kinds.TxType1D.TheVariants.{ADST, FLIPADST, WHT};
 ghost use Rattle.av1_itx.specs.Kinds.{column_kind, row_kind};
 ghost use Rattle.av1_itx.specs.Walsh.{walsh};
 ghost use Rattle.av1_itx.specs.Networks.{HasNetwork, network, network_with};
-ghost use Rattle.av1_itx.specs.Residue.{HasNetworks, column_input, column_range, residue, residue_by};
+ghost use Rattle.av1_itx.specs.Residue.{HasNetworks, column_input, column_range, is_lossless, residue, residue_by, transformed_row};
 
 /// A law: coefficients that are all zero have no residue, whatever the size, the type and the depth. So a block without
 /// coefficients needs no inverse transform.
@@ -49,21 +49,31 @@ pub fn valid_types_are_those_that_run()
 
 /// A law: where every input is a number of 18 signed bits and the range is at most 18, no sum and no product of an
 /// inverse transform leaves 32 bits. Operations that may give any number at all where a result does not fit still give
-/// the same outputs.
+/// the same outputs. Of the lossless transform that holds for inputs of 20 bits.
 pub fn networks_never_wrap()
-    ensures { (ops : Operations) → AreRight32 ops → (kind : TxType1D) (range k : ℕ) (x : List ℤ) → range ≤ 18 → All (FitsBits 18) x →
+    ensures narrow { (ops : Operations) → AreRight32 ops → (kind : TxType1D) (range k : ℕ) (x : List ℤ) → range ≤ 18 → All (FitsBits 18) x →
         network_with ops kind range k x ≡ network kind range k x }
+    ensures lossless { (ops : Operations) → AreRight32 ops → (range k : ℕ) (x : List ℤ) → All (FitsBits 20) x →
+        network_with ops WHT range k x ≡ network WHT range k x }
 {}
 
-/// A law: at depths up to 10 no identity along rows wraps, so that each residue is the same by rav1e's rule and by
-/// AV1's.
+/// A law: at depths up to 10 no identity along rows wraps. So each residue but a lossless one is the same by rav1e's
+/// rule and by AV1's. A lossless one is the same where its coefficients have no more than 17 bits, as all have at a
+/// depth of 8: rav1e's clamp between the passes changes nothing there.
 pub fn shallow_identities_never_wrap()
-    ensures { (by_av1 : Bool) (size : TxSize) (type : TxType) (depth : ℕ) (coefficients : List ℤ) (r c : ℕ) → depth ≤ 10 →
+    ensures identities { (by_av1 : Bool) (size : TxSize) (type : TxType) (depth : ℕ) (coefficients : List ℤ) (r c : ℕ) → depth ≤ 10 → type ≢ WHT_WHT →
         residue_by by_av1 size type depth coefficients r c ≡ residue size type depth coefficients r c }
+    ensures lossless { (by_av1 : Bool) (depth : ℕ) (coefficients : List ℤ) (r c : ℕ) → All (FitsBits 17) coefficients →
+        residue_by by_av1 TX_4X4 WHT_WHT depth coefficients r c ≡ residue TX_4X4 WHT_WHT depth coefficients r c }
 {}
 
 /// A law: at depths up to 12 the transforms of the columns have such inputs and such a range, whatever the rows gave.
+/// In lossless blocks AV1 does not clamp what the rows give. It has 20 bits there, and the lossless transform needs no
+/// more.
 pub fn columns_never_wrap()
     ensures range { (depth : ℕ) → depth ≤ 12 → column_range depth ≤ 18 }
-    ensures inputs { (size : TxSize) (depth : ℕ) (f : ℕ → ℤ) → depth ≤ 12 → All (FitsBits 18) (column_input size depth f) }
+    ensures inputs { (by_av1 : Bool) (size : TxSize) (type : TxType) (depth : ℕ) (f : ℕ → ℤ) → depth ≤ 12 → (by_av1 && is_lossless type) ≡ false →
+        All (FitsBits 18) (column_input by_av1 size type depth f) }
+    ensures lossless { (depth : ℕ) (coefficients : List ℤ) (c : ℕ) → depth ≤ 12 → All (FitsBits (depth + 8)) coefficients →
+        All (FitsBits 20) (column_input true TX_4X4 WHT_WHT depth (λ r. at (transformed_row true TX_4X4 WHT_WHT depth coefficients r) c)) }
 {}

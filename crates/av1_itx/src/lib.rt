@@ -23,14 +23,15 @@
 //!   of `output`.
 //! - the laws, functions that do nothing: zeros have no residue and are not changed by any transform, a flipped
 //!   transform is the plain one reversed, the Walsh-Hadamard transform loses nothing, every valid type has its two
-//!   transforms, and nothing wraps at 32 bits where inputs and range have 18, as those of the columns always do; so at
-//!   depths up to 10 no identity does.
+//!   transforms, and nothing wraps at 32 bits where inputs and range have 18, as those of the columns have wherever
+//!   they are clamped; so at depths up to 10 no identity does.
 //!
 //! A block is one of `TxSize`'s, `w` columns by `h` rows of samples. Its coefficients stand column by column, at most
 //! 32 of each column and 32 columns: that of row r and column c at `c * min(h, 32) + r`. Those past the end of the list
 //! that a call is given are 0. `bd` is the depth of the samples in bits, and `range` the number of bits that values
 //! within a transform are clamped to. At a depth of 12 sums of the rows can leave 32 bits; they wrap there, as in
-//! rav1e, and the definitions say so. By AV1's rule, which `by_av1` of a scratch chooses, identities don't.
+//! rav1e, and the definitions say so. By AV1's rule, which `by_av1` of a scratch or a block chooses, identities don't,
+//! and in lossless blocks (`WHT_WHT`) nothing is clamped between the passes.
 #![tactic(auto)]
 
 mod adding;
@@ -53,6 +54,7 @@ mod words;
 pub use adst::{
     av1_iadst4, av1_iadst8, av1_iadst16, av1_iflipadst4, av1_iflipadst8, av1_iflipadst16,
 };
+pub use block::Block;
 pub use identity::{av1_iidentity4, av1_iidentity8, av1_iidentity16, av1_iidentity32};
 pub use inverse::{
     TxRoom, TxScratch, inverse_transform_add, inverse_transform_add_in, inverse_transform_add_to,

@@ -12,8 +12,8 @@ ghost use Rattle.av1_itx.specs.Residue.{is_lossless, is_two_to_one, row_input, r
 ghost use Rattle.av1_itx.specs.Scaffolding.{AreCoefficients, AreRowsDone, block_rows};
 
 use crate::block::Block;
-use crate::columns::{column_range_of, row_shift_of};
-use crate::kinds::row_kind_of;
+use crate::columns::{column_bits_of, row_shift_of};
+use crate::kinds::{is_lossless, row_kind_of};
 use crate::lane_columns::Columns;
 use crate::lanes::{LANES, run_columns};
 use crate::words::BlockWord;
@@ -41,7 +41,7 @@ pub(crate) fn scaling_of(tx_size: TxSize, tx_type: TxType) -> Scaling
     let (width, height) = (tx_size.width(), tx_size.height());
     Scaling {
         two_to_one: width == 2 * height || height == 2 * width,
-        lossless: matches!(tx_type, TxType::WHT_WHT),
+        lossless: is_lossless(tx_type),
     }
 }
 
@@ -276,7 +276,7 @@ fn rows_of<C: Coefficient, W: BlockWord>(
 {
     let (m, w) = (W::LANES, block.tx_size.width());
     let rows = block.tx_size.height().min(32);
-    let (shift, range) = (row_shift_of(block.tx_size), column_range_of(block.bd));
+    let (shift, range) = (row_shift_of(block.tx_size), column_bits_of(block));
     fill_rows(input, scaled, block);
     let columns = (input.len() / rows + 1).min(w);
     let groups = live_groups::<W>(scaled, rows, w, columns);
@@ -294,7 +294,8 @@ fn rows_of<C: Coefficient, W: BlockWord>(
     clear(&mut buffer[live * w..]);
 }
 
-/// Each row of a block, transformed, and rounded and clamped as the columns take it: `buffer` has the block row by row.
+/// Each row of a block, transformed, and as the columns take it: rounded, and clamped but in lossless blocks by AV1's
+/// rule. `buffer` has the block row by row.
 /// The rows from 32 on are zeros. `scaled` is room for the inputs of all rows that have coefficients.
 pub(crate) fn row_pass<C: Coefficient>(
     input: &[C],

@@ -18,6 +18,7 @@ use Rattle.av1_plan.specs.declared.geometry.TransformBlock.{TransformBlock}
 use Rattle.av1_plan.specs.declared.header.Header.{Header}
 use Rattle.av1_plan.specs.CodingOrder.{IsOnGrid, IsQuarterInside, cells_of}
 use Rattle.av1_plan.specs.Geometry.{xdec, ydec, block_at, block_count, blocks_across, carries_chroma, covers_plane, has_block, is_inside, plane_area}
+use Rattle.av1_plan.specs.Geometry.{coded_width, coded_height}
 use Rattle.av1_plan.specs.Geometry.{plane_height, plane_place, plane_size, plane_tx_size, plane_width, transform_block}
 use Rattle.av1_plan.specs.Plan.{LeafValue}
 use Rattle.av1_plan.proofs.ValidLeaves.{IsValidLeaf, fitting_transforms}
@@ -197,11 +198,11 @@ block_there h p a c r hc hr in_x in_y =
     (lt-ltb n _ (in_count r across c (block_height a.size / tx_height a.tx_size) hc hr)) (lt-ltb spot.x (plane_width h p) in_x)
     (lt-ltb spot.y (plane_height h p) in_y)
 
-pub luma_width : (h : Header) → plane_width h 0 ≡ h.width
+pub luma_width : (h : Header) → plane_width h 0 ≡ coded_width h
 unfolding plane_width xdec
 luma_width h = omega arith
 
-pub luma_height : (h : Header) → plane_height h 0 ≡ h.height
+pub luma_height : (h : Header) → plane_height h 0 ≡ coded_height h
 unfolding plane_height ydec
 luma_height h = omega arith
 
@@ -231,7 +232,7 @@ held_at x at w n lo pos en =
 module _ (h : Header) (l : LeafValue) (frame : IsWholeFrame h) (grid : IsOnGrid h l) (valid : IsValidLeaf h l) where
   -- what lies in a transform block of the leaf that begins in the frame is written
   own_written : (x y : ℕ) → l.x ≤ x → x < l.x + block_width l.size → l.y ≤ y → y < l.y + block_height l.size
-      → l.x + (x - l.x) / tx_width l.tx_size * tx_width l.tx_size < h.width → l.y + (y - l.y) / tx_height l.tx_size * tx_height l.tx_size < h.height
+      → l.x + (x - l.x) / tx_width l.tx_size * tx_width l.tx_size < coded_width h → l.y + (y - l.y) / tx_height l.tx_size * tx_height l.tx_size < coded_height h
       → is_written h 0 (steps_in h 0 l) x y ≡ true
   unfolding plane_area plane_place plane_size plane_tx_size xdec ydec covers_plane blocks_across
   own_written x y x0 x1 y0 y1 in_x in_y =
@@ -276,14 +277,14 @@ module _ (h : Header) (earlier : List LeafValue) (l : LeafValue) (later : List L
   valid : IsValidLeaf h l
   valid = cut_valid h 0 earlier l later is
 
-  inside : (l.x < h.width) × (l.y < h.height)
+  inside : (l.x < coded_width h) × (l.y < coded_height h)
   unfolding is_inside
   inside =
-      let (column, row) = and_parts (nat_lt l.x h.width) (nat_lt l.y h.height) grid.within in
-      (ltb-true l.x h.width column, ltb-true l.y h.height row)
+      let (column, row) = and_parts (nat_lt l.x (coded_width h)) (nat_lt l.y (coded_height h)) grid.within in
+      (ltb-true l.x (coded_width h) column, ltb-true l.y (coded_height h) row)
 
   -- before the leaf
-  near_written : (x y : ℕ) → x < l.x + block_width l.size → y < l.y + block_height l.size → (x < l.x) ⊎ (y < l.y) → x < h.width → y < h.height
+  near_written : (x y : ℕ) → x < l.x + block_width l.size → y < l.y + block_height l.size → (x < l.x) ⊎ (y < l.y) → x < coded_width h → y < coded_height h
       → is_written h 0 (leaves_steps h 0 earlier) x y ≡ true
   near_written x y x1 y1 near in_x in_y =
       let cells = whole_cells l.size in
@@ -299,22 +300,22 @@ module _ (h : Header) (earlier : List LeafValue) (l : LeafValue) (later : List L
         | inr o ↦ inr (let p = in_cells_before y l.y grid.cell_y o in omega (arith, ey, p))
       ])
 
-  ends_down : block_width l.size ≡ 4 → l.y + block_height l.size ≤ h.height
+  ends_down : block_width l.size ≡ 4 → l.y + block_height l.size ≤ coded_height h
   ends_down four =
       beside_four (block_width l.size) (block_height l.size)
-      (side_log2 (block_height l.size) - 2) l.y h.height (narrow_sizes l.size).0 four (sides_power l.size).1 grid.side_y is.frame.height
+      (side_log2 (block_height l.size) - 2) l.y (coded_height h) (narrow_sizes l.size).0 four (sides_power l.size).1 grid.side_y is.frame.height
       inside.1 quarter.high
 
-  ends_across : block_height l.size ≡ 4 → l.x + block_width l.size ≤ h.width
+  ends_across : block_height l.size ≡ 4 → l.x + block_width l.size ≤ coded_width h
   ends_across four =
       beside_four (block_height l.size) (block_width l.size)
-      (side_log2 (block_width l.size) - 2) l.x h.width (narrow_sizes l.size).1 four (sides_power l.size).0 grid.side_x is.frame.width
+      (side_log2 (block_width l.size) - 2) l.x (coded_width h) (narrow_sizes l.size).1 four (sides_power l.size).0 grid.side_x is.frame.width
       inside.0 quarter.wide
 
   -- what is read in each direction
   luma_written : (x y : ℕ) → x < l.x + block_width l.size → y < l.y + block_height l.size
-      → (l.x ≤ x → l.x + (x - l.x) / tx_width l.tx_size * tx_width l.tx_size < h.width) →
-      (l.y ≤ y → l.y + (y - l.y) / tx_height l.tx_size * tx_height l.tx_size < h.height)
+      → (l.x ≤ x → l.x + (x - l.x) / tx_width l.tx_size * tx_width l.tx_size < coded_width h) →
+      (l.y ≤ y → l.y + (y - l.y) / tx_height l.tx_size * tx_height l.tx_size < coded_height h)
       → (x < l.x → block_width l.size ≡ 4) → (y < l.y → block_height l.size ≡ 4) → is_written h 0 (leaves_steps h 0 (earlier ++ l ∷ [])) x y ≡ true
   luma_written x y x1 y1 coded_x coded_y before_x before_y =
       ap (λ ss. is_written h 0 ss x y) (steps_with h 0 earlier l later is)
@@ -352,11 +353,11 @@ module _ (h : Header) (earlier : List LeafValue) (l : LeafValue) (later : List L
       let odd = odd_cells carried in
       let sides = in_plane_block h l.size 1 valid.size in
       let x = reads_at (xdec h 1) (block_width l.size) (tx_width l.tx_size) (side_log2 (block_width l.size) - 2)
-      (side_log2 (tx_width l.tx_size) - 2) l.x h.width c i
+      (side_log2 (tx_width l.tx_size) - 2) l.x (coded_width h) c i
       (sides_power l.size).0 (tx_power l.tx_size).0 (halved_x h 1) narrow fits.width grid.side_x is.frame.width inside.0 odd.0
       (subst (λ n. c < n) sides.width hc) hi in
       let y = reads_at (ydec h 1) (block_height l.size) (tx_height l.tx_size) (side_log2 (block_height l.size) - 2)
-      (side_log2 (tx_height l.tx_size) - 2) l.y h.height r j
+      (side_log2 (tx_height l.tx_size) - 2) l.y (coded_height h) r j
       (sides_power l.size).1 (tx_power l.tx_size).1 low short fits.height grid.side_y is.frame.height inside.1 odd.1 (subst (λ n. r < n) sides.height hr) hj in
       luma_written _ _ x.ends y.ends x.coded y.coded x.before y.before
 

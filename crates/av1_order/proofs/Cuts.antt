@@ -6,7 +6,7 @@ use Rattle.std.proofs.lemmas.List.{append-nil, length-append, map-append}
 use Rattle.std.proofs.lemmas.List.Elements.{All-map, recursion_from_All}
 use Rattle.av1_plan.specs.declared.header.Header.{Header}
 use Rattle.av1_plan.specs.CodingOrder.{IsOnGrid as IsLeafOnGrid, cells_of, placed}
-use Rattle.av1_plan.specs.Geometry.{xdec, ydec}
+use Rattle.av1_plan.specs.Geometry.{xdec, ydec, coded_width, coded_height}
 use Rattle.av1_plan.specs.Plan.{LeafValue}
 use Rattle.av1_plan.specs.Tree.{Placed}
 use Rattle.av1_plan.specs.Validity.{fault_of}
@@ -56,31 +56,32 @@ module _ (h : Header) (p : ℕ) (earlier : List LeafValue) (l : LeafValue) (late
   pub cut_valid : IsValidLeaf h l
   cut_valid = valid_leaf h l cut_faultless
 
-  cut_follows : Follows (h.width / 4) (h.height / 4) (λ x y. false) (map (placed (coding_in h p)) earlier) (starts (cells_of l)) × IsOnGrid (cells_of l)
+  cut_follows : Follows (coded_width h / 4) (coded_height h / 4) (λ x y. false) (map (placed (coding_in h p)) earlier) (starts (cells_of l)) ×
+      IsOnGrid (cells_of l)
   cut_follows =
       let code = placed (coding_in h p) in
-      let w = h.width / 4 in
-      let t = h.height / 4 in
+      let w = coded_width h / 4 in
+      let t = coded_height h / 4 in
       let some = is.frame.some in
       let whole = is.frame.width in
       let (e, all) = frame_follows w t is.ordered.0 (omega arith) in
       follows_cut w t (λ x y. false) e (map code earlier) (code l) (map code later)
       (subst (λ (ls : List (Placed Coding)). Follows w t (λ x y. false) ls e) (is.ordered.2 ∙ map-append code earlier (l ∷ later)) all)
 
-  pub cut_before : Follows (h.width / 4) (h.height / 4) (λ x y. false) (map (placed (coding_in h p)) earlier) (starts (cells_of l))
+  pub cut_before : Follows (coded_width h / 4) (coded_height h / 4) (λ x y. false) (map (placed (coding_in h p)) earlier) (starts (cells_of l))
   cut_before = cut_follows.0
 
   pub cut_on_grid : IsOnGrid (cells_of l)
   cut_on_grid = cut_follows.1
 
   -- what is written of the plane when the leaf's turn comes is told by the last cell of each unit
-  pub written_at_turn : (x y : ℕ) → IsVisible (xdec h p) (ydec h p) (h.width / 4) (h.height / 4) x y
+  pub written_at_turn : (x y : ℕ) → IsVisible (xdec h p) (ydec h p) (coded_width h / 4) (coded_height h / 4) x y
       → is_written h p (leaves_steps h p earlier) x y ≡ starts (cells_of l) (last (xdec h p) (x / 4)) (last (ydec h p) (y / 4))
   written_at_turn x y here =
       let sx = xdec h p in
       let sy = ydec h p in
-      let w = h.width / 4 in
-      let t = h.height / 4 in
+      let w = coded_width h / 4 in
+      let t = coded_height h / 4 in
       let code = placed (coding_in h p) in
       let whole_x = is.frame.width in
       let whole_y = is.frame.height in
@@ -102,7 +103,7 @@ module _ (h : Header) (p : ℕ) (earlier : List LeafValue) (l : LeafValue) (late
   pub steps_with : leaves_steps h p (earlier ++ l ∷ []) ≡ leaves_steps h p earlier ++ steps_in h p l
   steps_with =
       let code = placed (coding_in h p) in
-      let steps = plane_steps (xdec h p) (ydec h p) (h.width / 4) (h.height / 4) in
+      let steps = plane_steps (xdec h p) (ydec h p) (coded_width h / 4) (coded_height h / 4) in
       ap steps (map-append code earlier (l ∷ []))
-      ∙ plane_steps-append (xdec h p) (ydec h p) (h.width / 4) (h.height / 4) (map code earlier) (code l ∷ [])
+      ∙ plane_steps-append (xdec h p) (ydec h p) (coded_width h / 4) (coded_height h / 4) (map code earlier) (code l ∷ [])
       ∙ ap (λ ss. steps (map code earlier) ++ ss) (append-nil (steps_in h p l))

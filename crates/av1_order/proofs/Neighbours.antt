@@ -14,7 +14,7 @@ use Rattle.av1_blocks.specs.declared.partition.BlockSize.TheVariants.{BLOCK_4X4}
 use Rattle.av1_blocks.specs.Blocks.{block_width, block_height}
 use Rattle.av1_plan.specs.declared.header.Header.{Header}
 use Rattle.av1_plan.specs.CodingOrder.{IsOnGrid as IsLeafOnGrid, cells_of, placed}
-use Rattle.av1_plan.specs.Geometry.{xdec, ydec, covers_plane, is_inside, plane_area, plane_height, plane_size, plane_width}
+use Rattle.av1_plan.specs.Geometry.{xdec, ydec, covers_plane, is_inside, plane_area, plane_height, plane_size, plane_width, coded_width, coded_height}
 use Rattle.av1_plan.specs.Plan.{LeafValue}
 use Rattle.av1_plan.specs.Tree.{Block}
 use Rattle.av1_plan.specs.Validity.{fault_of}
@@ -140,7 +140,7 @@ some_or true l o = refl
 some_or false l o = refl
 
 -- leaves that follow one another in a plane, and a cell of the frame
-module _ (h : Header) (p : ℕ) (cx cy : ℕ) (here : IsInFrame (h.width / 4) (h.height / 4) cx cy) where
+module _ (h : Header) (p : ℕ) (cx cy : ℕ) (here : IsInFrame (coded_width h / 4) (coded_height h / 4) cx cy) where
   abbrev held_by : LeafValue → Bool
   held_by l = leaf_holds l cx cy
 
@@ -148,7 +148,7 @@ module _ (h : Header) (p : ℕ) (cx cy : ℕ) (here : IsInFrame (h.width / 4) (h
   show = λ shown l. if leaf_holds l cx cy then Some l else shown
 
   abbrev Follow : (d e : ℕ → ℕ → Bool) → List LeafValue → Type 0
-  Follow d e ls = Follows (h.width / 4) (h.height / 4) d (map (placed (coding_in h p)) ls) e
+  Follow d e ls = Follows (coded_width h / 4) (coded_height h / 4) d (map (placed (coding_in h p)) ls) e
 
   found_coded : (ls : List LeafValue) → is_some (find held_by ls) ≡ is_coded (map (placed (coding_in h p)) ls) cx cy
   found_coded [] = refl
@@ -222,14 +222,14 @@ module _ (h : Header) (p : ℕ) (cx cy : ℕ) (here : IsInFrame (h.width / 4) (h
 
 module _ (h : Header) (p : ℕ) (frame : IsWholeFrame h) (x y : ℕ) (column : x < plane_width h p) (row : y < plane_height h p) where
   -- the last cell of a visible sample's unit lies in the frame
-  pub cell_in_frame : IsInFrame (h.width / 4) (h.height / 4) (last_cell (xdec h p) x) (last_cell (ydec h p) y)
+  pub cell_in_frame : IsInFrame (coded_width h / 4) (coded_height h / 4) (last_cell (xdec h p) x) (last_cell (ydec h p) y)
   cell_in_frame =
       let here = visible_in h p frame x y column row in
       let across = here.column in
       let along = here.row in
       let w = frame.width in
       let t = frame.height in
-      framed (xdec h p) (ydec h p) (h.width / 4) (h.height / 4) (halved_x h p) (halved_y h p) (omega arith) (omega arith) (x / 4) (y / 4)
+      framed (xdec h p) (ydec h p) (coded_width h / 4) (coded_height h / 4) (halved_x h p) (halved_y h p) (omega arith) (omega arith) (x / 4) (y / 4)
       (record { column = omega arith; row = omega arith })
 
   same_tests : (ls : List LeafValue) → All (IsLeafOnGrid h) ls → All (λ l. fault_of h l ≡ None) ls
@@ -245,8 +245,8 @@ pub areas_tile : AreasTile
 areas_tile h p leaves is x y column row =
     let sx = xdec h p in
     let sy = ydec h p in
-    let w = h.width / 4 in
-    let t = h.height / 4 in
+    let w = coded_width h / 4 in
+    let t = coded_height h / 4 in
     let some = is.frame.some in
     let whole = is.frame.width in
     let trees = is.ordered.0 in
@@ -340,7 +340,7 @@ module _ (h : Header) (p : ℕ) (earlier : List LeafValue) (l : LeafValue) (late
       let here = cell_in_frame h p is.frame x y column row in
       ap is_some (find_same (λ l. in_area h p l x y) (λ l. leaf_holds l cx cy) earlier (earlier_tests x y column row))
       ∙ found_coded h p cx cy here earlier
-      ∙ coded_after (h.width / 4) (h.height / 4) (λ x y. false) (starts (cells_of l)) (map (placed (coding_in h p)) earlier)
+      ∙ coded_after (coded_width h / 4) (coded_height h / 4) (λ x y. false) (starts (cells_of l)) (map (placed (coding_in h p)) earlier)
       (cut_before h p earlier l later is) cx cy here
       ∙ near_starts (cells_of l) (cut_on_grid h p earlier l later is) cx cy x1 y1 near
 
@@ -379,17 +379,17 @@ module _ (h : Header) (p : ℕ) (earlier : List LeafValue) (l : LeafValue) (late
           bottom = omega (arith, some_y);
         }))
 
-    inside : (l.x < h.width) × (l.y < h.height)
+    inside : (l.x < coded_width h) × (l.y < coded_height h)
     unfolding is_inside
     inside =
-        let (column, row) = and_parts (nat_lt l.x h.width) (nat_lt l.y h.height) (cut_grid h p earlier l later is).within in
-        (ltb-true l.x h.width column, ltb-true l.y h.height row)
+        let (column, row) = and_parts (nat_lt l.x (coded_width h)) (nat_lt l.y (coded_height h)) (cut_grid h p earlier l later is).within in
+        (ltb-true l.x (coded_width h) column, ltb-true l.y (coded_height h) row)
 
-    begins_across : units.x < h.width / 4 / 2 ^ xdec h p
-    begins_across = let w = is.frame.width in let x = inside.0 in begins_in (xdec h p) (l.x / 4) (h.width / 4) (halved_x h p) (omega arith) (omega arith)
+    begins_across : units.x < coded_width h / 4 / 2 ^ xdec h p
+    begins_across = let w = is.frame.width in let x = inside.0 in begins_in (xdec h p) (l.x / 4) (coded_width h / 4) (halved_x h p) (omega arith) (omega arith)
 
-    begins_down : units.y < h.height / 4 / 2 ^ ydec h p
-    begins_down = let w = is.frame.height in let y = inside.1 in begins_in (ydec h p) (l.y / 4) (h.height / 4) rows_low (omega arith) (omega arith)
+    begins_down : units.y < coded_height h / 4 / 2 ^ ydec h p
+    begins_down = let w = is.frame.height in let y = inside.1 in begins_in (ydec h p) (l.y / 4) (coded_height h / 4) rows_low (omega arith) (omega arith)
 
     pub neighbours_noted : NeighboursAreNoted h p earlier l
     neighbours_noted =

@@ -8,6 +8,7 @@ use Rattle.av1_blocks.specs.Blocks.{block_width, block_height}
 use Rattle.av1_blocks.specs.Transforms.{tx_width, tx_height}
 use Rattle.av1_plan.specs.declared.header.Header.{Header}
 use Rattle.av1_plan.specs.Geometry.{xdec, ydec, covers_plane, plane_size, plane_tx_size, plane_area, plane_width, plane_height, blocks_across, block_count}
+use Rattle.av1_plan.specs.Geometry.{coded_width, coded_height}
 use Rattle.av1_plan.specs.Geometry.{block_at, has_block, transform_block, transform_blocks}
 use Rattle.av1_plan.specs.CodingOrder.{cells_of, IsOnGrid}
 use Rattle.av1_plan.specs.Plan.{LeafValue}
@@ -104,7 +105,7 @@ module _ (h : Header) (p : ℕ) (l : LeafValue) (frame : IsWholeFrame h) (grid :
       ∙ mul_comm (units_in.columns / (coding_in h p l).columns) (units_in.rows / (coding_in h p l).rows)
 
   abbrev pub numbered_in : ℕ → Option Step
-  numbered_in = numbered (xdec h p) (ydec h p) (h.width / 4) (h.height / 4) (widened (xdec h p) (ydec h p) (cells_of l)) (coding_in h p l)
+  numbered_in = numbered (xdec h p) (ydec h p) (coded_width h / 4) (coded_height h / 4) (widened (xdec h p) (ydec h p) (cells_of l)) (coding_in h p l)
 
   -- the columns and rows of transforms left of number n and above it
   abbrev pub column_of : ℕ → ℕ
@@ -115,8 +116,8 @@ module _ (h : Header) (p : ℕ) (l : LeafValue) (frame : IsWholeFrame h) (grid :
 
   abbrev pub begins : ℕ → Bool
   begins n =
-      nat_lt (units_in.x + column_of n * (coding_in h p l).columns) (h.width / 4 / 2 ^ xdec h p)
-      && nat_lt (units_in.y + row_of n * (coding_in h p l).rows) (h.height / 4 / 2 ^ ydec h p)
+      nat_lt (units_in.x + column_of n * (coding_in h p l).columns) (coded_width h / 4 / 2 ^ xdec h p)
+      && nat_lt (units_in.y + row_of n * (coding_in h p l).rows) (coded_height h / 4 / 2 ^ ydec h p)
 
   -- block n, where it begins in the visible plane
   pub block_is : (n : ℕ) → n < block_count area_in
@@ -129,9 +130,10 @@ module _ (h : Header) (p : ℕ) (l : LeafValue) (frame : IsWholeFrame h) (grid :
       let t = plane_tx_size h l.size l.tx_size p in
       let low : ydec h p ≤ 1 = omega (arith, halved_x h p, halved_y h p) in
       number_is h p area_in units_in.x units_in.y (units_in.columns / (coding_in h p l).columns) (tx_width t / 4) (tx_height t / 4)
-      (h.width / 4 / 2 ^ xdec h p) (h.height / 4 / 2 ^ ydec h p) n
+      (coded_width h / 4 / 2 ^ xdec h p) (coded_height h / 4 / 2 ^ ydec h p) n
       (place_is p l.x (xdec h p) (halved_x h p) (luma_x h p) grid.cell_x) (place_is p l.y (ydec h p) low (luma_y h p) grid.cell_y)
-      (tx_units t).0 (tx_units t).1 (visible_units h.width (xdec h p) (halved_x h p) frame.width) (visible_units h.height (ydec h p) low frame.height) across_is
+      (tx_units t).0 (tx_units t).1 (visible_units (coded_width h) (xdec h p) (halved_x h p) frame.width)
+          (visible_units (coded_height h) (ydec h p) low frame.height) across_is
       (lt-ltb n (block_count area_in) lt)
 
   pub same_number : (n : ℕ) → n < block_count area_in → option_map (place_of (xdec h p) (ydec h p)) (numbered_in n) ≡ transform_block h p area_in n
@@ -160,10 +162,10 @@ module _ (h : Header) (p : ℕ) (l : LeafValue) (frame : IsWholeFrame h) (grid :
       let c = coding_in h p l in
       let a = units_in in
       let rows = a.rows / c.rows in
-      let by_blocks = block_steps (xdec h p) (ydec h p) (h.width / 4) (h.height / 4) b c 0 rows in
+      let by_blocks = block_steps (xdec h p) (ydec h p) (coded_width h / 4) (coded_height h / 4) b c 0 rows in
       let once : List Step = record { block = b; right = 0; down = 0; columns = a.columns; rows = a.rows } ∷ [] in
       coded_steps (carries (xdec h p) (ydec h p) (cells_of l)) (is_inter l.kind) (carries_is h p l ∙ covered) intra once by_blocks
-      ∙ block_numbered (xdec h p) (ydec h p) (h.width / 4) (h.height / 4) b c rows
+      ∙ block_numbered (xdec h p) (ydec h p) (coded_width h / 4) (coded_height h / 4) b c rows
       ∙ ap (λ n. filter_map numbered_in (range_with_len 0 n)) (sym count_is)
 
   blocks_covered : is_inter l.kind ≡ false → covers_plane h l.x l.y l.size p ≡ true →
@@ -183,7 +185,7 @@ module _ (h : Header) (p : ℕ) (l : LeafValue) (frame : IsWholeFrame h) (grid :
       let b = widened (xdec h p) (ydec h p) (cells_of l) in
       let c = coding_in h p l in
       let a = units_in in
-      let by_blocks = block_steps (xdec h p) (ydec h p) (h.width / 4) (h.height / 4) b c 0 (a.rows / c.rows) in
+      let by_blocks = block_steps (xdec h p) (ydec h p) (coded_width h / 4) (coded_height h / 4) b c 0 (a.rows / c.rows) in
       let once : List Step = record { block = b; right = 0; down = 0; columns = a.columns; rows = a.rows } ∷ [] in
       no_steps (carries (xdec h p) (ydec h p) (cells_of l)) (carries_is h p l ∙ e) (if is_inter l.kind then once else by_blocks)
 

@@ -10,7 +10,7 @@ use Rattle.av1_blocks.specs.declared.transform.TxType.TheVariants.{DCT_DCT}
 use Rattle.av1_plan.specs.declared.geometry.TransformBlock.{TransformBlock}
 use Rattle.av1_plan.specs.declared.header.Header.{Header}
 use Rattle.av1_plan.specs.declared.leaf.LeafKind.TheVariants.{Intra}
-use Rattle.av1_plan.specs.Geometry.{xdec, ydec, block_at, block_count, blocks_across, carries_chroma, covers_plane, has_block, plane_area, plane_height}
+use Rattle.av1_plan.specs.Geometry.{coded_width, coded_height, xdec, ydec, block_at, block_count, blocks_across, carries_chroma, covers_plane, has_block, plane_area, plane_height}
 use Rattle.av1_plan.specs.Geometry.{plane_place, plane_size, plane_tx_size, plane_width, transform_block}
 use Rattle.av1_plan.specs.Plan.{LeafValue}
 use Rattle.av1_plan.specs.Tree.{Placed}
@@ -27,8 +27,6 @@ header = record {
   version = 1;
   width = 8;
   height = 8;
-  shown_width = 8;
-  shown_height = 8;
   depth = 8;
   sampling = 0;
   filter = REGULAR;
@@ -72,29 +70,29 @@ corner x y = record { x = x; y = y }
 -- ---- answers: above right of the third leaf stands the second, and right of the fourth the frame ends
 
 third_block : leaf_block header 0 third 0 ≡ Some (corner 0 4)
-unfolding header third corner xdec ydec plane_width plane_height plane_area plane_place plane_size plane_tx_size blocks_across block_count block_at has_block
+unfolding header third corner xdec ydec coded_width coded_height plane_width plane_height plane_area plane_place plane_size plane_tx_size blocks_across block_count block_at has_block
     transform_block
 third_block = refl
 
 third_answer : answer_above_right header 0 third 0 (corner 0 4) ≡ true
-unfolding header third corner xdec ydec plane_width plane_area plane_place plane_size plane_tx_size blocks_across table_top_right
+unfolding header third corner xdec ydec coded_width coded_height plane_width plane_area plane_place plane_size plane_tx_size blocks_across table_top_right
 third_answer = refl
 
 third_written : is_written_above header 0 (steps_before header 0 (first ∷ second ∷ []) third 0) 4 4 ≡ true
-unfolding header first second third xdec ydec plane_width plane_height plane_tx_size is_in
+unfolding header first second third xdec ydec coded_width coded_height plane_width plane_height plane_tx_size is_in
 third_written = refl
 
 fourth_answer : answer_above_right header 0 fourth 0 (corner 4 4) ≡ false
-unfolding header fourth corner xdec ydec plane_width plane_area plane_place plane_size plane_tx_size blocks_across table_top_right
+unfolding header fourth corner xdec ydec coded_width coded_height plane_width plane_area plane_place plane_size plane_tx_size blocks_across table_top_right
 fourth_answer = refl
 
 -- below left of the second leaf stands the third, whose turn comes later
 second_answer : answer_below_left header 0 second 0 (corner 4 0) ≡ false
-unfolding header second corner xdec ydec plane_height plane_area plane_place plane_size plane_tx_size blocks_across table_bottom_left
+unfolding header second corner xdec ydec coded_width coded_height plane_height plane_area plane_place plane_size plane_tx_size blocks_across table_bottom_left
 second_answer = refl
 
 second_written : is_written_left header 0 (steps_before header 0 (first ∷ []) second 0) 4 4 ≡ false
-unfolding header first second xdec ydec plane_width plane_height plane_tx_size is_in
+unfolding header first second xdec ydec coded_width coded_height plane_width plane_height plane_tx_size is_in
 second_written = refl
 
 -- ---- neighbours: the fourth leaf's area is all of chroma

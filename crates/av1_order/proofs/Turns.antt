@@ -10,7 +10,7 @@ use Rattle.av1_blocks.specs.Transforms.{tx_width, tx_height}
 use Rattle.av1_plan.specs.declared.geometry.TransformBlock.{TransformBlock}
 use Rattle.av1_plan.specs.declared.header.Header.{Header}
 use Rattle.av1_plan.specs.CodingOrder.{IsOnGrid}
-use Rattle.av1_plan.specs.Geometry.{xdec, ydec, covers_plane, plane_area, plane_width, plane_height}
+use Rattle.av1_plan.specs.Geometry.{xdec, ydec, covers_plane, plane_area, plane_width, plane_height, coded_width, coded_height}
 use Rattle.av1_plan.specs.Plan.{LeafValue}
 use Rattle.av1_plan.proofs.ValidLeaves.{IsValidLeaf}
 use Rattle.av1_avail.specs.Agreement.{top_right_before, bottom_left_before}
@@ -37,13 +37,13 @@ use Rattle.av1_order.proofs.Rectangles.{placed as held_cell}
 use Rattle.av1_order.proofs.Sizes.{tx_some, tx_units}
 
 -- the visible sides, in units
-pub plane_columns : (h : Header) (p : ℕ) → IsWholeFrame h → plane_width h p ≡ 4 * (h.width / 4 / 2 ^ xdec h p)
+pub plane_columns : (h : Header) (p : ℕ) → IsWholeFrame h → plane_width h p ≡ 4 * (coded_width h / 4 / 2 ^ xdec h p)
 unfolding plane_width
-plane_columns h p frame = visible_units h.width (xdec h p) (halved_x h p) frame.width
+plane_columns h p frame = visible_units (coded_width h) (xdec h p) (halved_x h p) frame.width
 
-pub plane_rows : (h : Header) (p : ℕ) → IsWholeFrame h → plane_height h p ≡ 4 * (h.height / 4 / 2 ^ ydec h p)
+pub plane_rows : (h : Header) (p : ℕ) → IsWholeFrame h → plane_height h p ≡ 4 * (coded_height h / 4 / 2 ^ ydec h p)
 unfolding plane_height
-plane_rows h p frame = visible_units h.height (ydec h p) (omega (arith, halved_x h p, halved_y h p)) frame.height
+plane_rows h p frame = visible_units (coded_height h) (ydec h p) (omega (arith, halved_x h p, halved_y h p)) frame.height
 
 -- ---- over plain values
 
@@ -78,12 +78,12 @@ in_run w t c r i ew et h = omega arith
 
 module _ (h : Header) (p : ℕ) (l : LeafValue) (frame : IsWholeFrame h) (grid : IsOnGrid h l) (valid : IsValidLeaf h l) (n : ℕ) (b : TransformBlock)
     (at : leaf_block h p l n ≡ Some b) (before : List Step)
-    (asked : IsAsked (xdec h p) (ydec h p) (h.width / 4) (h.height / 4) before (step_at h p l frame grid valid n)
+    (asked : IsAsked (xdec h p) (ydec h p) (coded_width h / 4) (coded_height h / 4) before (step_at h p l frame grid valid n)
     (supersample_chroma_bsize l.size (xdec h p) (ydec h p)) (tx_in h p l))
-    (answered : IsAnswered (xdec h p) (ydec h p) (h.width / 4) (h.height / 4) before (step_at h p l frame grid valid n)
+    (answered : IsAnswered (xdec h p) (ydec h p) (coded_width h / 4) (coded_height h / 4) before (step_at h p l frame grid valid n)
     (supersample_chroma_bsize l.size (xdec h p) (ydec h p)) (tx_in h p l))
-    (told : EdgesAreTold (xdec h p) (ydec h p) (h.width / 4) (h.height / 4) before (step_at h p l frame grid valid n))
-    (lies : IsPlaced (xdec h p) (ydec h p) (h.width / 4) (h.height / 4) (step_at h p l frame grid valid n)) where
+    (told : EdgesAreTold (xdec h p) (ydec h p) (coded_width h / 4) (coded_height h / 4) before (step_at h p l frame grid valid n))
+    (lies : IsPlaced (xdec h p) (ydec h p) (coded_width h / 4) (coded_height h / 4) (step_at h p l frame grid valid n)) where
   abbrev s : Step
   s = step_at h p l frame grid valid n
 
@@ -169,13 +169,13 @@ module _ (h : Header) (p : ℕ) (l : LeafValue) (frame : IsWholeFrame h) (grid :
         above_right =
             above_is
             ∙ ap (λ (u : Bool). have_y && u && right_table) (end_same b.x (tx_width t) (plane_width h p) _ _ _ x_is wide columns)
-            ∙ ap (λ (u : Bool). have_y && nat_lt (left sx sy s + width_of sx sy s) (4 * (h.width / 4 / 2 ^ sx)) && u) (table_above 0 some)
+            ∙ ap (λ (u : Bool). have_y && nat_lt (left sx sy s + width_of sx sy s) (4 * (coded_width h / 4 / 2 ^ sx)) && u) (table_above 0 some)
             ∙ answered.top_right cx cy refl refl
             ∙ sym (written_above_same sx sy before b.x (tx_width t) b.y (plane_width h p) (plane_height h p) _ _ _ _ _ x_is wide y_is columns rows);
         below_left =
             below_is ∙ and_turned in_height have_x left_table
             ∙ ap (λ (u : Bool). have_x && u && left_table) (end_same b.y (tx_height t) (plane_height h p) _ _ _ y_is high rows)
-            ∙ ap (λ (u : Bool). have_x && nat_lt (top sx sy s + height_of sx sy s) (4 * (h.height / 4 / 2 ^ sy)) && u) (table_left 0 some)
+            ∙ ap (λ (u : Bool). have_x && nat_lt (top sx sy s + height_of sx sy s) (4 * (coded_height h / 4 / 2 ^ sy)) && u) (table_left 0 some)
             ∙ answered.bottom_left cx cy refl refl
             ∙ sym (written_left_same sx sy before b.x b.y (tx_height t) (plane_width h p) (plane_height h p) _ _ _ _ _ x_is y_is high columns rows);
         run_above = λ i near some_rows visible.
@@ -283,7 +283,7 @@ module _ (h : Header) (p : ℕ) (earlier : List LeafValue) (l : LeafValue) (late
       let placed = block_placed h p earlier l later trees frame grid valid is.valid ordered intra covered n within s numbered in
       let told = block_told h p earlier l later trees frame grid valid is.valid ordered intra covered n within s numbered in
       edge_answered h p l frame grid valid n b at before
-      (is_asked (xdec h p) (ydec h p) (h.width / 4) (h.height / 4) (halved_x h p) low before s placed told size (tx_in h p l) sizes)
+      (is_asked (xdec h p) (ydec h p) (coded_width h / 4) (coded_height h / 4) (halved_x h p) low before s placed told size (tx_in h p l) sizes)
       (block_answered h p earlier l later trees frame grid valid is.valid ordered intra covered n within s numbered size (tx_in h p l) sizes)
       (block_edges h p earlier l later trees frame grid valid is.valid ordered intra covered n within s numbered)
       placed

@@ -7,7 +7,7 @@ use Rattle.av1_blocks.specs.Blocks.{block_width, block_height}
 use Rattle.av1_blocks.specs.Transforms.{tx_width, tx_height}
 use Rattle.av1_plan.specs.declared.header.Header.{Header}
 use Rattle.av1_plan.specs.CodingOrder.{IsOnGrid, cells_of}
-use Rattle.av1_plan.specs.Geometry.{xdec, ydec, covers_plane, plane_area, plane_size}
+use Rattle.av1_plan.specs.Geometry.{xdec, ydec, covers_plane, plane_area, plane_size, coded_width, coded_height}
 use Rattle.av1_plan.specs.Plan.{LeafValue}
 use Rattle.av1_plan.proofs.ValidLeaves.{IsValidLeaf, valid_leaf}
 use Rattle.av1_avail.specs.Order.{is_in}
@@ -70,7 +70,7 @@ module _ (h : Header) (p : ℕ) (l : LeafValue) (grid : IsOnGrid h l) (valid : I
       record {
         one =
             coded_whole (carries sx sy (cells_of l)) (is_inter l.kind) (carries_is h p l ∙ covered) inter (whole_step h p l ∷ [])
-            (block_steps sx sy (h.width / 4) (h.height / 4) b c 0 (u.rows / c.rows));
+            (block_steps sx sy (coded_width h / 4) (coded_height h / 4) b c 0 (u.rows / c.rows));
         x = whole_area.x;
         y = whole_area.y;
         columns = whole_area.columns;
@@ -85,7 +85,7 @@ module _ (h : Header) (p : ℕ) (l : LeafValue) (grid : IsOnGrid h l) (valid : I
       let u = area sx sy b in
       let c = coding_in h p l in
       not_coded (carries sx sy (cells_of l)) (is_inter l.kind) (carries_is h p l ∙ uncovered) (whole_step h p l ∷ [])
-      (block_steps sx sy (h.width / 4) (h.height / 4) b c 0 (u.rows / c.rows))
+      (block_steps sx sy (coded_width h / 4) (coded_height h / 4) b c 0 (u.rows / c.rows))
 
 pub inter_is_whole : InterIsWhole
 inter_is_whole h p l grid faultless inter =

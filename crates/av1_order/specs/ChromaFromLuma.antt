@@ -7,7 +7,7 @@ use Rattle.av1_blocks.specs.Blocks.{block_width, block_height}
 use Rattle.av1_blocks.specs.Transforms.{tx_width, tx_height}
 use Rattle.av1_plan.specs.declared.header.Header.{Header}
 use Rattle.av1_plan.specs.CodingOrder.{IsQuarterInside}
-use Rattle.av1_plan.specs.Geometry.{xdec, ydec, carries_chroma, plane_size}
+use Rattle.av1_plan.specs.Geometry.{xdec, ydec, carries_chroma, plane_size, coded_width, coded_height}
 use Rattle.av1_plan.specs.Plan.{LeafValue}
 use Rattle.av1_order.specs.Turns.{IsCodedPlan, is_written, leaves_steps}
 
@@ -37,8 +37,8 @@ abbrev pub ReadsWritten : Header → LeafValue → List LeafValue → (c r : ℕ
 ReadsWritten h l leaves c r =
     (i j : ℕ) → i < 2 ^ xdec h 1 → j < 2 ^ ydec h 1
     → is_written h 0 (leaves_steps h 0 leaves)
-    (luma_place (xdec h 1) (block_width l.size) l.x h.width (tx_width l.tx_size) c i)
-    (luma_place (ydec h 1) (block_height l.size) l.y h.height (tx_height l.tx_size) r j)
+    (luma_place (xdec h 1) (block_width l.size) l.x (coded_width h) (tx_width l.tx_size) c i)
+    (luma_place (ydec h 1) (block_height l.size) l.y (coded_height h) (tx_height l.tx_size) r j)
     ≡ true
 
 -- It is so of each leaf that carries chroma and has no side past 32, once its own luma steps and those of the leaves

@@ -5,7 +5,8 @@ use Rattle.std.specs.Prelude.{is_some, List, ◌∷◌, ◌++◌, find, fold, co
 use Rattle.av1_blocks.specs.Blocks.{block_width, block_height}
 use Rattle.av1_plan.specs.declared.header.Header.{Header}
 use Rattle.av1_plan.specs.CodingOrder.{IsOnGrid, cells_of}
-use Rattle.av1_plan.specs.Geometry.{xdec, ydec, covers_plane, plane_area, plane_height, plane_width}
+use Rattle.av1_plan.specs.Geometry.{xdec, ydec, covers_plane, plane_area, plane_height, plane_width, coded_width}
+use Rattle.av1_plan.specs.Geometry.{coded_height}
 use Rattle.av1_plan.specs.Plan.{LeafValue}
 use Rattle.av1_plan.specs.Validity.{fault_of}
 use Rattle.av1_avail.specs.Order.{is_in}
@@ -65,7 +66,7 @@ AreasTile =
 abbrev pub LastCellsLieInside : Type 0
 LastCellsLieInside =
     (h : Header) (p : ℕ) → IsWholeFrame h → (x y : ℕ) → x < plane_width h p → y < plane_height h p
-    → (last_cell (xdec h p) x < h.width / 4) × (last_cell (ydec h p) y < h.height / 4)
+    → (last_cell (xdec h p) x < coded_width h / 4) × (last_cell (ydec h p) y < coded_height h / 4)
 
 -- At each leaf of a plan that covers a part of the plane, the record of the leaves before it shows its neighbours.
 abbrev pub LeavesFindNeighbours : Type 0

@@ -9,6 +9,7 @@ use Rattle.av1_plan.specs.declared.leaf.LeafKind.{LeafKind}
 use Rattle.av1_plan.specs.declared.leaf.LeafKind.TheVariants.{Intra, Single, Compound}
 use Rattle.av1_plan.specs.CodingOrder.{placed, IsOnGrid}
 use Rattle.av1_plan.specs.Geometry.{xdec, ydec, covers_plane, plane_area, plane_tx_size, transform_blocks}
+use Rattle.av1_plan.specs.Geometry.{coded_width, coded_height}
 use Rattle.av1_plan.specs.Plan.{LeafValue}
 use Rattle.av1_plan.specs.Tree.{Tree, frame_leaves}
 use Rattle.av1_plan.specs.Validity.{fault_of}
@@ -31,7 +32,7 @@ coding_in h p l = record {
 
 -- its steps there
 abbrev pub steps_in : Header → ℕ → LeafValue → List Step
-steps_in h p l = leaf_steps (xdec h p) (ydec h p) (h.width / 4) (h.height / 4) (placed (coding_in h p) l)
+steps_in h p l = leaf_steps (xdec h p) (ydec h p) (coded_width h / 4) (coded_height h / 4) (placed (coding_in h p) l)
 
 -- where a step begins in its plane, in samples
 abbrev pub place_of : (sx sy : ℕ) → Step → TransformBlock
@@ -39,9 +40,9 @@ place_of sx sy s = record { x = left sx sy s; y = top sx sy s }
 
 -- a frame whose sides are multiples of 8 samples
 pub record IsWholeFrame (h : Header) : Type 0 where
-  pub some : 0 < h.width
-  pub width : h.width % 8 ≡ 0
-  pub height : h.height % 8 ≡ 0
+  pub some : 0 < coded_width h
+  pub width : coded_width h % 8 ≡ 0
+  pub height : coded_height h % 8 ≡ 0
 
 -- The steps of a leaf that is not inter are its transform blocks that begin in the visible plane, in raster order,
 -- where it covers a part of the plane; else it has none.
@@ -62,5 +63,5 @@ abbrev pub PlansAreFrames : Type 0
 PlansAreFrames =
     (h : Header) (p : ℕ) (leaves : List LeafValue) (trees : List (Tree Coding 4)) → IsWholeFrame h →
     All (λ l. fault_of h l ≡ None) leaves
-    → frame_leaves (h.width / 4) (h.height / 4) trees ≡ map (placed (coding_in h p)) leaves
-    → IsFrame (xdec h p) (ydec h p) (h.width / 4) (h.height / 4) trees
+    → frame_leaves (coded_width h / 4) (coded_height h / 4) trees ≡ map (placed (coding_in h p)) leaves
+    → IsFrame (xdec h p) (ydec h p) (coded_width h / 4) (coded_height h / 4) trees

@@ -9,7 +9,8 @@ use Rattle.av1_blocks.specs.Transforms.{tx_width, tx_height}
 use Rattle.av1_plan.specs.declared.geometry.TransformBlock.{TransformBlock}
 use Rattle.av1_plan.specs.declared.header.Header.{Header}
 use Rattle.av1_plan.specs.CodingOrder.{AreInCodingOrder, IsOnGrid, cells_of, placed}
-use Rattle.av1_plan.specs.Geometry.{xdec, ydec, blocks_across, covers_plane, plane_area, plane_height, plane_tx_size}
+use Rattle.av1_plan.specs.Geometry.{xdec, ydec, blocks_across, covers_plane, plane_area, plane_height}
+use Rattle.av1_plan.specs.Geometry.{plane_tx_size, coded_width, coded_height}
 use Rattle.av1_plan.specs.Geometry.{plane_width, transform_block}
 use Rattle.av1_plan.specs.Plan.{LeafValue}
 use Rattle.av1_plan.specs.Validity.{fault_of}
@@ -29,7 +30,7 @@ module _ (h : Header) (p : ℕ) where
   -- the steps of leaves in the plane
   abbrev pub leaves_steps : List LeafValue → List Step
   leaves_steps leaves =
-      plane_steps (xdec h p) (ydec h p) (h.width / 4) (h.height / 4) (map (placed (coding_in h p)) leaves)
+      plane_steps (xdec h p) (ydec h p) (coded_width h / 4) (coded_height h / 4) (map (placed (coding_in h p)) leaves)
 
   -- they write the sample at column x of row y
   abbrev pub is_written : List Step → (x y : ℕ) → Bool
@@ -43,7 +44,8 @@ module _ (h : Header) (p : ℕ) where
       let c = coding_in h p l in
       let right = n % (u.columns / c.columns) * c.columns in
       let down = n / (u.columns / c.columns) * c.rows in
-      if nat_lt (u.x + right) (h.width / 4 / 2 ^ xdec h p) && nat_lt (u.y + down) (h.height / 4 / 2 ^ ydec h p)
+      if nat_lt (u.x + right) (coded_width h / 4 / 2 ^ xdec h p)
+          && nat_lt (u.y + down) (coded_height h / 4 / 2 ^ ydec h p)
       then Some (record { block = b; right = right; down = down; columns = c.columns; rows = c.rows }) else None
 
   -- the steps before block n of a leaf: those of the leaves before it, and those of its blocks of lower numbers

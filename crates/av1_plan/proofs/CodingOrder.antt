@@ -1,5 +1,5 @@
 -- The leaves of a plan are those of trees of marks. Places are counted in cells of 4 by 4 samples of luma.
-use Rattle.std.proofs.Common.{◌≡◌, ℕ, zero, suc, ◌+◌, ◌-◌, ◌*◌, ◌/◌, ◌^◌, ◌≤◌, ◌<◌, nat_lt, inl, inr, Bool, true, false, ◌&&◌, if◌then◌else◌, List, [], ◌∷◌}
+use Rattle.std.proofs.Common.{◌≡◌, ◌%◌, ℕ, zero, suc, ◌+◌, ◌-◌, ◌*◌, ◌/◌, ◌^◌, ◌≤◌, ◌<◌, nat_lt, inl, inr, Bool, true, false, ◌&&◌, if◌then◌else◌, List, [], ◌∷◌}
 use Rattle.std.proofs.Common.{◌++◌, length, map, refl, sym, ap, subst, ◌∙◌, append_assoc, None, pos, arith}
 use Rattle.std.proofs.Math.Nat.{mul_comm}
 use Rattle.std.proofs.Math.Logic.{∥∥₁_map}
@@ -19,7 +19,7 @@ use Rattle.av1_plan.specs.declared.plan.Plan.{Plan}
 use Rattle.av1_plan.specs.Values.{plan_value}
 use Rattle.av1_plan.specs.CodingOrder.{cells_of, placed, AreInCodingOrder}
 use Rattle.av1_plan.specs.Format.{Format, ◌++>◌, lone, in_turn}
-use Rattle.av1_plan.specs.Geometry.{is_inside}
+use Rattle.av1_plan.specs.Geometry.{is_inside, coded_width, coded_height}
 use Rattle.av1_plan.specs.Grammar.{leaf, half_side, quarter_side, whole_size, part_size, leaf_part, mark, wide_stripes, tall_stripes, parts, block}
 use Rattle.av1_plan.specs.Grammar.{superblock_row}
 use Rattle.av1_plan.specs.Grammar.{superblocks, plan}
@@ -58,11 +58,11 @@ same_rectangle a b c d x y columns rows e f g h = rw (quarter a x e, quarter b y
 
 -- ---- nodes
 
-module _ {A : Type 0} (filler : A) (code : LeafValue → A) (h : Header) (columns rows : ℕ) (width_is : h.width ≡ 4 * columns)
-    (height_is : h.height ≡ 4 * rows) where
+module _ {A : Type 0} (filler : A) (code : LeafValue → A) (h : Header) (columns rows : ℕ) (width_is : coded_width h ≡ 4 * columns)
+    (height_is : coded_height h ≡ 4 * rows) where
   inside_cells : (x y : ℕ) → is_inside h (4 * x) (4 * y) ≡ (nat_lt x columns && nat_lt y rows)
   unfolding is_inside
-  inside_cells x y = cells_inside h.width h.height columns rows x y width_is height_is
+  inside_cells x y = cells_inside (coded_width h) (coded_height h) columns rows x y width_is height_is
 
   kept_inside : (x y : ℕ) (leaves : List (Placed A)) → is_inside h (4 * x) (4 * y) ≡ true → kept columns rows x y leaves ≡ leaves
   kept_inside x y leaves e = ap (λ (b : Bool). if b then leaves else []) (sym (inside_cells x y) ∙ e)
@@ -290,12 +290,15 @@ module _ {A : Type 0} (filler : A) (code : LeafValue → A) (h : Header) (column
 side_cells : (n : ℕ) → IsSide n → n ≡ 4 * (n / 4)
 side_cells n side = omega (arith, side.whole)
 
-across_is : (n : ℕ) → 8 ≤ n → n ≡ 4 * (n / 4) → (across : ℕ) × ((n + 63) / 64 ≡ suc across) × ((n / 4 + 15) / 16 ≡ suc across) × (16 * across < n / 4) ×
-    (n / 4 ≤ 16 * suc across)
-across_is n le whole = ((n - 1) / 64, omega (arith, le, whole), omega (arith, le, whole), omega (arith, le, whole), omega (arith, le, whole))
+-- what is shown has as many superblocks as what is coded
+superblocks_of : (shown n : ℕ) → shown ≤ n → n < shown + 8 → n % 8 ≡ 0 → (shown + 63) / 64 ≡ (n / 4 + 15) / 16
+superblocks_of shown n within near whole = omega (arith, within, near, whole)
 
-rows_fit : (n : ℕ) → n ≡ 4 * (n / 4) → ((n + 63) / 64 ≡ (n / 4 + 15) / 16) × (16 * (0 + (n / 4 + 15) / 16) < n / 4 + 16)
-rows_fit n whole = (omega (arith, whole), omega (arith, whole))
+across_is : (n : ℕ) → 8 ≤ n → (across : ℕ) × ((n / 4 + 15) / 16 ≡ suc across) × (16 * across < n / 4) × (n / 4 ≤ 16 * suc across)
+across_is n le = ((n / 4 - 1) / 16, omega (arith, le), omega (arith, le), omega (arith, le))
+
+rows_fit : (n : ℕ) → 16 * (0 + (n / 4 + 15) / 16) < n / 4 + 16
+rows_fit n = omega arith
 
 -- the leaves of a plan are those of trees of marks, whatever code says of them
 pub plan_trees : {A : Type 0} (filler : A) (code : LeafValue → A) (p : PlanValue) → IsSpelled plan p → AreInCodingOrder p.header code p.leaves
@@ -304,14 +307,16 @@ plan_trees filler code p s =
     let pieces = plan_pieces p s in
     let h = p.header in
     let frame = header_is h pieces.header in
-    let width_is = side_cells h.width frame.width in
-    let height_is = side_cells h.height frame.height in
-    let (across, count, across_count, last, end) = across_is h.width frame.width.least width_is in
-    let (down, fits) = rows_fit h.height height_is in
+    let width_is = side_cells (coded_width h) frame.width in
+    let height_is = side_cells (coded_height h) frame.height in
+    let count = superblocks_of h.width (coded_width h) frame.shown_width.within frame.shown_width.near frame.width.whole in
+    let down = superblocks_of h.height (coded_height h) frame.shown_height.within frame.shown_height.near frame.height.whole in
+    let (across, across_count, last, end) = across_is (coded_width h) frame.width.least in
     let rows_spelled = subst (λ (n : ℕ). IsSpelled (in_turn (superblock_row h) 0 n) p.leaves) down pieces.leaves in
     let (trees, trees_count, are) =
-    all_trees filler code h (h.width / 4) (h.height / 4) width_is height_is ((h.height / 4 + 15) / 16) across 0 p.leaves count last end fits rows_spelled in
-    (trees, trees_count ∙ ap (λ (n : ℕ). (h.height / 4 + 15) / 16 * n) (sym across_count) ∙ mul_comm _ _, are)
+    all_trees filler code h (coded_width h / 4) (coded_height h / 4) width_is height_is ((coded_height h / 4 + 15) / 16) across 0 p.leaves
+    (count ∙ across_count) last end (rows_fit (coded_height h)) rows_spelled in
+    (trees, trees_count ∙ ap (λ (n : ℕ). (coded_height h / 4 + 15) / 16 * n) (sym across_count) ∙ mul_comm _ _, are)
 
 some_leaf : LeafValue
 some_leaf = record {

@@ -10,7 +10,7 @@ use Rattle.av1_blocks.specs.Filters.{filter_number}
 use Rattle.av1_plan.specs.declared.header.Header.{Header}
 use Rattle.av1_plan.specs.declared.planes.SlotPlanes.{SlotPlanes}
 use Rattle.av1_plan.specs.Format.{one, two, any, Kind, Format, done, asks, ◌>>=◌, IsAdmitted, field, lone, ◌++>◌, in_turn}
-use Rattle.av1_plan.specs.Geometry.{coded_side, plane_len, has_slot}
+use Rattle.av1_plan.specs.Geometry.{coded_width, coded_height, plane_len, has_slot}
 use Rattle.av1_plan.specs.Grammar.{where_, byte_from, is_side, is_depth, version, slots, frame, header, sample, plane, reference, slot_planes, references, plan}
 use Rattle.av1_plan.specs.Grammar.{plan_behind, superblocks}
 use Rattle.av1_plan.specs.Plan.{PlanValue, slot_value, slot_values, ArePresent}
@@ -129,18 +129,12 @@ choice_back : (b : Bool) → (choice b == 1) ≡ b
 choice_back true = refl
 choice_back false = refl
 
--- a side that is coded is that of the one that is shown
-coded_back : (n shown coded : ℕ) → IsSide coded → IsShown n shown coded → coded_side shown ≡ coded
-coded_back n shown coded side is = omega (arith, side.whole, is.within, is.near)
-
--- the frame that shows these sides
-abbrev framed : (version shown_width shown_height depth sampling : ℕ) → FilterMode → Bool → List ℕ → (mask : ℕ) → Header
-framed version shown_width shown_height depth sampling filter edge_filter xs mask = record {
+-- the frame of these fields
+abbrev framed : (version width height depth sampling : ℕ) → FilterMode → Bool → List ℕ → (mask : ℕ) → Header
+framed version width height depth sampling filter edge_filter xs mask = record {
   version = version;
-  width = coded_side shown_width;
-  height = coded_side shown_height;
-  shown_width = shown_width;
-  shown_height = shown_height;
+  width = width;
+  height = height;
   depth = depth;
   sampling = sampling;
   filter = filter;
@@ -149,13 +143,6 @@ framed version shown_width shown_height depth sampling filter edge_filter xs mas
   mask = mask;
 }
 
-framed_is : (h : Header) → IsReadFrame h →
-    framed h.version h.shown_width h.shown_height h.depth h.sampling h.filter h.edge_filter h.slots h.mask ≡ h
-framed_is h is =
-    ap (λ (w : ℕ). let g : Header = record h { width = w; height = coded_side h.shown_height } in g)
-    (coded_back h.version h.shown_width h.width is.width is.shown_width)
-    ∙ ap (λ (w : ℕ). let g : Header = record h { height = w } in g) (coded_back h.version h.shown_height h.height is.height is.shown_height)
-
 version_spelled : (n : ℕ) → 1 ≤ n → n ≤ 3 → IsSpelled version n
 version_spelled zero least most = absurd (omega (arith, least))
 version_spelled (suc zero) least most = record { values = first_letters.field ∷ []; spells = first_letters.spells }
@@ -163,17 +150,17 @@ version_spelled (suc (suc zero)) least most = record { values = second_letters.f
 version_spelled (suc (suc (suc zero))) least most = record { values = third_letters.field ∷ []; spells = third_letters.spells }
 version_spelled (suc (suc (suc (suc n)))) least most = absurd (omega (arith, most))
 
-frame_spelled : (version shown_width shown_height depth sampling : ℕ) (filter : FilterMode) (edge_filter : Bool) (xs : List ℕ) (mask : ℕ)
-    → IsReadFrame (framed version shown_width shown_height depth sampling filter edge_filter xs mask)
-    → IsSpelled (frame version) (framed version shown_width shown_height depth sampling filter edge_filter xs mask)
+frame_spelled : (version width height depth sampling : ℕ) (filter : FilterMode) (edge_filter : Bool) (xs : List ℕ) (mask : ℕ)
+    → IsReadFrame (framed version width height depth sampling filter edge_filter xs mask)
+    → IsSpelled (frame version) (framed version width height depth sampling filter edge_filter xs mask)
 unfolding frame
-frame_spelled version shown_width shown_height depth sampling filter edge_filter xs mask is =
-    let h : Header = framed version shown_width shown_height depth sampling filter edge_filter xs mask in
+frame_spelled version width height depth sampling filter edge_filter xs mask is =
+    let h : Header = framed version width height depth sampling filter edge_filter xs mask in
     let number = filter_number filter in
-    let end : IsSpelled (done (framed version shown_width shown_height depth sampling (filter_of number) (choice edge_filter == 1) xs mask)) h =
+    let end : IsSpelled (done (framed version width height depth sampling (filter_of number) (choice edge_filter == 1) xs mask)) h =
     subst (λ (g : Header). IsSpelled (done g) h)
-    (ap (λ (f : FilterMode). framed version shown_width shown_height depth sampling f edge_filter xs mask) (sym (filter_back filter))
-    ∙ ap (λ (b : Bool). framed version shown_width shown_height depth sampling (filter_of number) b xs mask) (sym (choice_back edge_filter)))
+    (ap (λ (f : FilterMode). framed version width height depth sampling f edge_filter xs mask) (sym (filter_back filter))
+    ∙ ap (λ (b : Bool). framed version width height depth sampling (filter_of number) b xs mask) (sym (choice_back edge_filter)))
     (done_spelled h) in
     let s9 = asks_spelled (any one) _ mask h (record { fits = is.mask; admitted = refl }) end in
     let s8 = bind_spelled slots _ xs h (seven_spelled xs is.slots.count is.slots.range) s9 in
@@ -182,21 +169,16 @@ frame_spelled version shown_width shown_height depth sampling filter edge_filter
     let s6 = asks_spelled (byte_from 0 3) _ number h (byte_admitted 0 3 number (lit< tt) (zero_le number) (below_four number is.filter)) s7 in
     let s5 = asks_spelled (byte_from 0 2) _ sampling h (byte_admitted 0 2 sampling (lit< tt) (zero_le _) is.sampling) s6 in
     let s4 = asks_spelled (where_ one is_depth) _ depth h (depth_admitted depth is.depth) s5 in
-    let s3 = asks_spelled (where_ two (is_side version)) _ shown_height h
-    (side_admitted version shown_height (coded_side shown_height) is.most_version is.height is.shown_height) s4 in
-    asks_spelled (where_ two (is_side version)) _ shown_width h
-    (side_admitted version shown_width (coded_side shown_width) is.most_version is.width is.shown_width) s3
+    let s3 = asks_spelled (where_ two (is_side version)) _ height h
+    (side_admitted version height (coded_height h) is.most_version is.height is.shown_height) s4 in
+    asks_spelled (where_ two (is_side version)) _ width h
+    (side_admitted version width (coded_width h) is.most_version is.width is.shown_width) s3
 
 pub header_spelled : (h : Header) → IsReadFrame h → IsSpelled header h
 unfolding header
 header_spelled h is =
-    let g : Header = framed h.version h.shown_width h.shown_height h.depth h.sampling h.filter h.edge_filter h.slots h.mask in
-    let same : g ≡ h = framed_is h is in
-    let spelled =
-    frame_spelled h.version h.shown_width h.shown_height h.depth h.sampling h.filter h.edge_filter h.slots h.mask (subst IsReadFrame (sym same) is)
-    in
     bind_spelled version frame h.version h (version_spelled h.version is.least_version is.most_version)
-    (subst (λ (k : Header). IsSpelled (frame h.version) k) same spelled)
+    (frame_spelled h.version h.width h.height h.depth h.sampling h.filter h.edge_filter h.slots h.mask is)
 
 -- ---- reference samples
 

@@ -9,6 +9,7 @@ use Rattle.av1_plan.specs.declared.header.Header.{Header}
 use Rattle.av1_plan.specs.Grammar.{half_side, quarter_side, cut_by, admits_stripes, is_mark, mark}
 use Rattle.av1_plan.specs.Spelling.{IsSpelled}
 use Rattle.av1_plan.proofs.Pieces.{spelled_asks, spelled_done}
+use Rattle.av1_plan.specs.Geometry.{coded_width, coded_height}
 
 -- whether a node that is cut so has four leaves above one another or side by side
 abbrev pub is_striped : PartitionType → Bool
@@ -44,16 +45,16 @@ spelled_mark h level x y cut s =
 pub record IsStriped (h : Header) (level x y : ℕ) : Type 0 where
   pub version : 2 ≤ h.version
   pub level_2 : 2 ≤ level
-  pub right : x + 2 * half_side level ≤ h.width
-  pub below : y + 2 * half_side level ≤ h.height
+  pub right : x + 2 * half_side level ≤ coded_width h
+  pub below : y + 2 * half_side level ≤ coded_height h
 
 pub striped_is : (h : Header) (level x y : ℕ) → admits_stripes h level x y ≡ true → IsStriped h level x y
 unfolding admits_stripes
 striped_is h level x y e =
     let (front, below) =
-    and_parts (nat_le 2 h.version && nat_le 2 level && nat_le (x + 2 * half_side level) h.width) (nat_le (y + 2 * half_side level) h.height) e
+    and_parts (nat_le 2 h.version && nat_le 2 level && nat_le (x + 2 * half_side level) (coded_width h)) (nat_le (y + 2 * half_side level) (coded_height h)) e
     in
-    let (first, right) = and_parts (nat_le 2 h.version && nat_le 2 level) (nat_le (x + 2 * half_side level) h.width) front in
+    let (first, right) = and_parts (nat_le 2 h.version && nat_le 2 level) (nat_le (x + 2 * half_side level) (coded_width h)) front in
     let (version, two) = and_parts (nat_le 2 h.version) (nat_le 2 level) first in
     record { version = leb-true 2 h.version version; level_2 = leb-true 2 level two; right = leb-true _ _ right; below = leb-true _ _ below }
 

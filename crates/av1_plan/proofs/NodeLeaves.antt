@@ -10,7 +10,7 @@ use Rattle.av1_blocks.specs.declared.partition.BlockSize.TheVariants.{BLOCK_4X4}
 use Rattle.av1_blocks.specs.Blocks.{block_width, block_height}
 use Rattle.av1_plan.specs.declared.header.Header.{Header}
 use Rattle.av1_plan.specs.Format.{Format, ◌++>◌, lone, in_turn}
-use Rattle.av1_plan.specs.Geometry.{is_inside}
+use Rattle.av1_plan.specs.Geometry.{is_inside, coded_width, coded_height}
 use Rattle.av1_plan.specs.Grammar.{leaf, half_side, quarter_side, whole_size, part_size, leaf_part, mark, wide_stripes, tall_stripes, parts, block}
 use Rattle.av1_plan.specs.Grammar.{superblock_row}
 use Rattle.av1_plan.specs.Grammar.{superblocks}
@@ -95,8 +95,8 @@ pub record IsPlace (h : Header) (size : BlockSize) (x y : ℕ) : Type 0 where
   pub end_y : y % 64 + block_height size ≤ 64
   pub within : is_inside h x y ≡ true
   pub shape : h.version ≡ 1 → (block_width size ≤ 2 * block_height size) × (block_height size ≤ 2 * block_width size)
-  pub wide : block_width size ≡ 4 * block_height size → x + block_width size ≤ h.width
-  pub high : block_height size ≡ 4 * block_width size → y + block_height size ≤ h.height
+  pub wide : block_width size ≡ 4 * block_height size → x + block_width size ≤ coded_width h
+  pub high : block_height size ≡ 4 * block_width size → y + block_height size ≤ coded_height h
 
 -- neither is more than twice the other
 pub record AreNear (columns rows : ℕ) : Type 0 where
@@ -107,8 +107,8 @@ pub record AreNear (columns rows : ℕ) : Type 0 where
 -- from the second version on a part of so many columns and rows of cells that ends in the frame
 pub record IsStripe (h : Header) (columns rows x y : ℕ) : Type 0 where
   pub version : 2 ≤ h.version
-  pub right : 4 * x + 4 * columns ≤ h.width
-  pub below : 4 * y + 4 * rows ≤ h.height
+  pub right : 4 * x + 4 * columns ≤ coded_width h
+  pub below : 4 * y + 4 * rows ≤ coded_height h
 
 -- what the sides of a part are to each other
 abbrev IsShaped : Header → (columns rows x y : ℕ) → Type 0
@@ -126,8 +126,8 @@ near_tall n = let some = pow_pos n in record { some = (omega (arith, some), omeg
 -- the sides of a part in samples
 record HasShape (h : Header) (width height x y : ℕ) : Type 0 where
   shape : h.version ≡ 1 → (width ≤ 2 * height) × (height ≤ 2 * width)
-  wide : width ≡ 4 * height → 4 * x + width ≤ h.width
-  high : height ≡ 4 * width → 4 * y + height ≤ h.height
+  wide : width ≡ 4 * height → 4 * x + width ≤ coded_width h
+  high : height ≡ 4 * width → 4 * y + height ≤ coded_height h
 
 shape_is : (h : Header) (width height columns rows x y : ℕ) → width ≡ 4 * columns → height ≡ 4 * rows → IsShaped h columns rows x y →
     HasShape h width height x y
@@ -194,7 +194,8 @@ quarters : (d c : ℕ) → IsOn (4 * d) c → IsOn d c × IsOn d (c + d) × IsOn
 quarters d c (q, e) = ((4 * q, omega (arith, e)), (4 * q + 1, omega (arith, e)), (4 * q + 2, omega (arith, e)), (4 * q + 3, omega (arith, e)))
 
 -- a node that is cut into stripes ends in the frame
-stripe_ends : (h : Header) (k x y : ℕ) → IsStriped h (suc (suc k)) (4 * x) (4 * y) → (4 * x + 16 * 2 ^ k ≤ h.width) × (4 * y + 16 * 2 ^ k ≤ h.height)
+stripe_ends : (h : Header) (k x y : ℕ) → IsStriped h (suc (suc k)) (4 * x) (4 * y) →
+    (4 * x + 16 * 2 ^ k ≤ coded_width h) × (4 * y + 16 * 2 ^ k ≤ coded_height h)
 stripe_ends h k x y is =
     let side : 2 * half_side (suc (suc k)) ≡ 16 * 2 ^ k = omega (arith, pow-succ' 2 k, pow-succ' 2 (suc k)) in
     (omega (arith, side, is.right), omega (arith, side, is.below))

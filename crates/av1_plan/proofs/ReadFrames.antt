@@ -6,7 +6,7 @@ use Rattle.std.proofs.lemmas.Bool.{eqb-true, leb-true, and_parts, or_cases}
 use Rattle.std.proofs.lemmas.List.Elements.{All-nil, All-cons}
 use Rattle.av1_plan.specs.declared.header.Header.{Header}
 use Rattle.av1_plan.specs.Format.{IsAdmitted}
-use Rattle.av1_plan.specs.Geometry.{coded_side}
+use Rattle.av1_plan.specs.Geometry.{coded_side, coded_width, coded_height}
 use Rattle.av1_plan.specs.Grammar.{byte_from, version_of, version, is_side, is_depth, slots, frame, header, references, superblocks, plan, plan_behind}
 use Rattle.av1_plan.specs.Plan.{PlanValue}
 use Rattle.av1_plan.specs.ReadPlans.{IsSide, IsShown, AreSlots, IsReadFrame}
@@ -90,7 +90,7 @@ version_is n s =
     subst (λ (m : ℕ). (1 ≤ m) × (m ≤ 3)) (spelled_done _ n t) (named_version letters)
 
 pub frame_is : (n : ℕ) (h : Header) → 1 ≤ n → n ≤ 3 → IsSpelled (frame n) h → IsReadFrame h
-unfolding frame
+unfolding frame coded_width coded_height
 frame_is n h least_version most_version s1 =
     let (width, width_in, s2) = spelled_asks _ _ h s1 in
     let (height, height_in, s3) = spelled_asks _ _ h s2 in

@@ -27,6 +27,7 @@ use Rattle.av1_plan.proofs.NodeLeaves.{all_leaves}
 use Rattle.av1_plan.proofs.ReadFrames.{depth_is, header_is, plan_pieces}
 use Rattle.av1_plan.proofs.ReadLeaves.{leaf_is}
 use Rattle.av1_plan.proofs.ReadReferences.{references_are}
+use Rattle.av1_plan.specs.Geometry.{coded_width, coded_height}
 
 -- ---- a plan that is spelled
 
@@ -97,10 +98,10 @@ pub kept_frame : (p : PlanValue) → ∥ IsSpelled plan p ∥₁ → IsReadFrame
 kept_frame p spelled = record {
   least_version = ∥∥₁_elim spelled (orders 1 p.header.version) (λ s. (spelled_frame p s).least_version);
   most_version = ∥∥₁_elim spelled (orders p.header.version 3) (λ s. (spelled_frame p s).most_version);
-  width = ∥∥₁_elim spelled (sides p.header.width) (λ s. (spelled_frame p s).width);
-  height = ∥∥₁_elim spelled (sides p.header.height) (λ s. (spelled_frame p s).height);
-  shown_width = ∥∥₁_elim spelled (shown_sides p.header.version p.header.shown_width p.header.width) (λ s. (spelled_frame p s).shown_width);
-  shown_height = ∥∥₁_elim spelled (shown_sides p.header.version p.header.shown_height p.header.height) (λ s. (spelled_frame p s).shown_height);
+  width = ∥∥₁_elim spelled (sides (coded_width p.header)) (λ s. (spelled_frame p s).width);
+  height = ∥∥₁_elim spelled (sides (coded_height p.header)) (λ s. (spelled_frame p s).height);
+  shown_width = ∥∥₁_elim spelled (shown_sides p.header.version p.header.width (coded_width p.header)) (λ s. (spelled_frame p s).shown_width);
+  shown_height = ∥∥₁_elim spelled (shown_sides p.header.version p.header.height (coded_height p.header)) (λ s. (spelled_frame p s).shown_height);
   depth = depth_is p.header.depth (∥∥₁_elim spelled (tests (is_depth p.header.depth) true) (λ s. depth_holds p.header.depth (spelled_frame p s).depth));
   sampling = ∥∥₁_elim spelled (orders p.header.sampling 2) (λ s. (spelled_frame p s).sampling);
   filter = ∥∥₁_elim spelled le_prop (λ s. (spelled_frame p s).filter);

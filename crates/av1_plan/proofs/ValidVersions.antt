@@ -8,7 +8,7 @@ use Rattle.av1_plan.specs.declared.leaf.LeafKind.{LeafKind}
 use Rattle.av1_plan.specs.declared.leaf.LeafKind.TheVariants.{Intra, Single, Compound}
 use Rattle.av1_plan.specs.Plan.{LeafValue}
 use Rattle.av1_plan.specs.Geometry.{carries_chroma, has_block, has_slot, plane_area, plane_height, plane_place, plane_size, plane_tx_size, plane_width}
-use Rattle.av1_plan.specs.Geometry.{xdec, ydec}
+use Rattle.av1_plan.specs.Geometry.{coded_width, coded_height, xdec, ydec}
 use Rattle.av1_plan.specs.Validity.{admits_references, are_coefficients, fault_of, has_block_size, has_coefficients, has_modes, has_plane_coefficients}
 use Rattle.av1_plan.specs.Validity.{has_reference}
 use Rattle.av1_plan.specs.Validity.{has_references, has_transforms, has_vectors, is_coefficient}
@@ -39,9 +39,8 @@ references_stay h (Single mode reference mv) = refl
 references_stay h (Compound mode references mvs) = refl
 
 coefficients_stay : (h : Header) (l : LeafValue) → has_coefficients (header_in 3 h) l ≡ has_coefficients (header_in 2 h) l
-unfolding has_coefficients has_plane_coefficients are_coefficients is_coefficient has_block plane_area plane_place plane_size plane_tx_size plane_width
-    plane_height
-    carries_chroma xdec ydec
+unfolding has_coefficients has_plane_coefficients are_coefficients is_coefficient has_block plane_area plane_place plane_size plane_tx_size
+    coded_width coded_height plane_width plane_height carries_chroma xdec ydec
 coefficients_stay h l = refl
 
 no_fault : (h : Header) (l : LeafValue) → has_block_size h l.size ≡ true → has_transforms h l.size l.tx_size l.tx_type l.uv_type ≡ true →

@@ -15,7 +15,7 @@ use Rattle.av1_blocks.specs.Blocks.{block_width, block_height}
 use Rattle.av1_plan.specs.declared.header.Header.{Header}
 use Rattle.av1_plan.specs.CodingOrder.{IsTwoToOne}
 use Rattle.av1_plan.specs.Format.{Format, done, asks, ◌>>=◌, one, two, width, lone, ◌++>◌}
-use Rattle.av1_plan.specs.Geometry.{xdec, ydec, shown_columns, shown_rows, has_slot, is_inside, carries_chroma}
+use Rattle.av1_plan.specs.Geometry.{coded_width, coded_height, xdec, ydec, shown_columns, shown_rows, has_slot, is_inside, carries_chroma}
 use Rattle.av1_plan.specs.Grammar.{is_magic, is_side, version_of, version, slots, frame, header, reference, slot_planes, references, leaf, quarter_side}
 use Rattle.av1_plan.specs.Grammar.{part_size}
 use Rattle.av1_plan.specs.Grammar.{leaf_part}
@@ -37,11 +37,11 @@ unfolding references slot_planes reference shown_columns shown_rows xdec ydec ha
 references_same n h = refl
 
 inside_same : (n : ℕ) (h : Header) (x y : ℕ) → is_inside h x y ≡ is_inside (header_in n h) x y
-unfolding is_inside
+unfolding is_inside coded_width coded_height
 inside_same n h x y = refl
 
 part_same : (n : ℕ) (h : Header) (size : BlockSize) (x y : ℕ) → leaf_part h size x y ≡ leaf_part (header_in n h) size x y
-unfolding leaf_part leaf is_inside carries_chroma xdec ydec
+unfolding leaf_part leaf is_inside coded_width coded_height carries_chroma xdec ydec
 part_same n h size x y = refl
 
 -- ---- what stands behind the header
@@ -93,7 +93,7 @@ module _ (P : List LeafValue → Type 0) (split : (xs ys : List LeafValue) → P
       )
 
   block_taken : (k : ℕ) → k ≤ 4 → (x y : ℕ) → TakesOverList P split (block h k x y) (block (header_in n h) k x y)
-  unfolding block is_inside
+  unfolding block is_inside coded_width coded_height
   block_taken zero le x y = part_taken _ x y
   block_taken (suc k) le x y =
       let node : (x y : ℕ) → TakesOverList P split (block h k x y) (block (header_in n h) k x y) = block_taken k (omega (arith, le)) in
@@ -149,18 +149,18 @@ next_of (done x) v = done x
 next_of (asks k next) v = next v
 
 -- the version and the sides that a frame shows are those of its fields
-frame_fields : (m v w : ℕ) (vs : List ℕ) (h : Header) → Spells (frame m) (v ∷ w ∷ vs) h → (h.version ≡ m) × (h.shown_width ≡ v) × (h.shown_height ≡ w)
+frame_fields : (m v w : ℕ) (vs : List ℕ) (h : Header) → Spells (frame m) (v ∷ w ∷ vs) h → (h.version ≡ m) × (h.width ≡ v) × (h.height ≡ w)
 unfolding frame slots
 frame_fields m v w vs h s =
-    let view : Header → Header = λ g. record g { version = m; shown_width = v; shown_height = w } in
+    let view : Header → Header = λ g. record g { version = m; width = v; height = w } in
     let rest = next_of (next_of (frame m) v) w in
     let same = spelled_twice rest vs h (view h) s.1.1 (seen view rest vs h s.1.1).0 in
-    (ap (λ (g : Header). g.version) same, ap (λ (g : Header). g.shown_width) same, ap (λ (g : Header). g.shown_height) same)
+    (ap (λ (g : Header). g.version) same, ap (λ (g : Header). g.width) same, ap (λ (g : Header). g.height) same)
 
 -- the sides that a header of one version shows are admitted in another, too
 pub record KeepsSides (m n : ℕ) (h : Header) : Type 0 where
-  pub width : is_side m h.shown_width ≡ true → is_side n h.shown_width ≡ true
-  pub height : is_side m h.shown_height ≡ true → is_side n h.shown_height ≡ true
+  pub width : is_side m h.width ≡ true → is_side n h.width ≡ true
+  pub height : is_side m h.height ≡ true → is_side n h.height ≡ true
 
 frame_seen : (m n : ℕ) (vs : List ℕ) (h : Header) → KeepsSides m n h → Spells (frame m) vs h
     → Spells (frame n) vs (header_in n h) × (text (frame n) vs ≡ text (frame m) vs)
@@ -360,7 +360,7 @@ second_keeps_first rest p t =
 -- a node that is cut into stripes is so in each version that has them
 high_mark : (n : ℕ) (h : Header) (level x y v : ℕ) → 2 ≤ n → 8 ≤ v → v ≤ 9 → admits_stripes h level x y ≡ true →
     is_mark (header_in n h) level x y v ≡ true
-unfolding is_mark admits_stripes
+unfolding is_mark admits_stripes coded_width coded_height
 high_mark n h level x y v late least most e =
     let is = striped_is h level x y e in
     or_right (nat_le v 3) _
@@ -382,13 +382,13 @@ whole_side v whole e = rw whole e
 pub third_keeps_second : ThirdKeepsSecond
 third_keeps_second rest p t =
     text_in (λ ls. Unit {0}) (λ xs ys u. (tt, tt)) 2 3 (codes "RPL2") (codes "RPL3") second_letters third_letters
-    (λ h second. marks_kept 3 (lit≤ tt) h) rest p t (record { width = any_side p.header.shown_width; height = any_side p.header.shown_height }) tt
+    (λ h second. marks_kept 3 (lit≤ tt) h) rest p t (record { width = any_side p.header.width; height = any_side p.header.height }) tt
 
 pub second_has_rest : SecondHasRest
 second_has_rest rest p t wide high =
     text_in (λ ls. Unit {0}) (λ xs ys u. (tt, tt)) 3 2 (codes "RPL3") (codes "RPL2") third_letters second_letters
     (λ h third. marks_kept 2 (lit≤ tt) h) rest p t
-    (record { width = whole_side p.header.shown_width wide; height = whole_side p.header.shown_height high }) tt
+    (record { width = whole_side p.header.width wide; height = whole_side p.header.height high }) tt
 
 -- ---- no stripes where no side is more than twice the other
 

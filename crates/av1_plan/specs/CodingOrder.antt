@@ -3,7 +3,7 @@
 use Rattle.std.specs.Prelude.{◌≡◌, ℕ, ◌+◌, ◌*◌, ◌/◌, ◌%◌, ◌≤◌, true, List, length, map}
 use Rattle.av1_blocks.specs.Blocks.{block_width, block_height}
 use Rattle.av1_plan.specs.declared.header.Header.{Header}
-use Rattle.av1_plan.specs.Geometry.{is_inside}
+use Rattle.av1_plan.specs.Geometry.{is_inside, coded_width, coded_height}
 use Rattle.av1_plan.specs.Plan.{LeafValue}
 use Rattle.av1_plan.specs.Tree.{Block, Placed, Tree, frame_leaves}
 
@@ -28,8 +28,8 @@ pub record IsOnGrid (h : Header) (l : LeafValue) : Type 0 where
 -- A leaf one of whose sides is four times the other ends in the frame. It is a quarter of a node, and these are coded
 -- only where the node lies in the frame.
 pub record IsQuarterInside (h : Header) (l : LeafValue) : Type 0 where
-  pub wide : block_width l.size ≡ 4 * block_height l.size → l.x + block_width l.size ≤ h.width
-  pub high : block_height l.size ≡ 4 * block_width l.size → l.y + block_height l.size ≤ h.height
+  pub wide : block_width l.size ≡ 4 * block_height l.size → l.x + block_width l.size ≤ coded_width h
+  pub high : block_height l.size ≡ 4 * block_width l.size → l.y + block_height l.size ≤ coded_height h
 
 -- neither side of the leaf is more than twice the other
 pub record IsTwoToOne (l : LeafValue) : Type 0 where
@@ -43,5 +43,5 @@ superblock_count columns rows = (columns + 15) / 16 * ((rows + 15) / 16)
 -- the leaves, each with what code says of it, are those of so many trees
 abbrev pub AreInCodingOrder : {A : Type 0} → Header → (LeafValue → A) → List LeafValue → Type 0
 AreInCodingOrder {A} h code leaves =
-    (trees : List (Tree A 4)) × (length trees ≡ superblock_count (h.width / 4) (h.height / 4))
-    × (frame_leaves (h.width / 4) (h.height / 4) trees ≡ map (placed code) leaves)
+    (trees : List (Tree A 4)) × (length trees ≡ superblock_count (coded_width h / 4) (coded_height h / 4))
+    × (frame_leaves (coded_width h / 4) (coded_height h / 4) trees ≡ map (placed code) leaves)

@@ -30,26 +30,33 @@ unfoldable pub ydec : Header → ℕ → ℕ
 ydec h zero = 0
 ydec h (suc p) = if h.sampling == 0 then 1 else 0
 
--- the columns of plane p that are coded, in samples
-unfoldable pub plane_width : Header → ℕ → ℕ
-plane_width h p = h.width / 2 ^ xdec h p
-
--- the rows of plane p that are coded, in samples
-unfoldable pub plane_height : Header → ℕ → ℕ
-plane_height h p = h.height / 2 ^ ydec h p
-
 -- a side that is coded, of one that is shown: frames are coded in whole squares of 8 by 8 (AV1 specification: compute
 -- image size function)
 abbrev pub coded_side : ℕ → ℕ
 coded_side n = (n + 7) / 8 * 8
 
+-- the columns and the rows of luma that are coded, in samples
+unfoldable pub coded_width : Header → ℕ
+coded_width h = coded_side h.width
+
+unfoldable pub coded_height : Header → ℕ
+coded_height h = coded_side h.height
+
+-- the columns of plane p that are coded, in samples
+unfoldable pub plane_width : Header → ℕ → ℕ
+plane_width h p = coded_width h / 2 ^ xdec h p
+
+-- the rows of plane p that are coded, in samples
+unfoldable pub plane_height : Header → ℕ → ℕ
+plane_height h p = coded_height h / 2 ^ ydec h p
+
 -- the columns of plane p that are shown, in samples: where it is halved, half of luma's, rounded up
 unfoldable pub shown_columns : Header → ℕ → ℕ
-shown_columns h p = (h.shown_width + xdec h p) / 2 ^ xdec h p
+shown_columns h p = (h.width + xdec h p) / 2 ^ xdec h p
 
 -- the rows of plane p that are shown, in samples
 unfoldable pub shown_rows : Header → ℕ → ℕ
-shown_rows h p = (h.shown_height + ydec h p) / 2 ^ ydec h p
+shown_rows h p = (h.height + ydec h p) / 2 ^ ydec h p
 
 -- how many samples of plane p are shown: so many a reference has, and the output
 abbrev pub plane_len : Header → ℕ → ℕ
@@ -61,7 +68,7 @@ has_slot h slot = h.mask / 2 ^ slot % 2 == 1
 
 -- whether a sample of luma lies in the frame
 unfoldable pub is_inside : Header → ℕ → ℕ → Bool
-is_inside h x y = nat_lt x h.width && nat_lt y h.height
+is_inside h x y = nat_lt x (coded_width h) && nat_lt y (coded_height h)
 
 -- ---- leaves
 

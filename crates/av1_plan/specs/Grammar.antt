@@ -30,7 +30,7 @@ use Rattle.av1_blocks.specs.declared.transform.TheConstants.TxType as tx_types
 use Rattle.av1_blocks.specs.Parts.{subsize}
 use Rattle.av1_plan.specs.Format.{Length, one, two, four, Kind, Format, done, ◌>>=◌, field, any, nothing, lone, ◌++>◌}
 use Rattle.av1_plan.specs.Format.{in_turn}
-use Rattle.av1_plan.specs.Geometry.{coded_side, plane_len, has_slot, is_inside, carries_chroma}
+use Rattle.av1_plan.specs.Geometry.{coded_width, coded_height, plane_len, has_slot, is_inside, carries_chroma}
 use Rattle.av1_plan.specs.Plan.{LeafValue, PlanValue}
 use Rattle.av1_plan.specs.declared.header.Header.{Header}
 use Rattle.av1_plan.specs.declared.leaf.Triple.{Triple}
@@ -102,10 +102,8 @@ frame version = do
   mask ← field (any one)
   done (record {
     version = version;
-    width = coded_side width;
-    height = coded_side height;
-    shown_width = width;
-    shown_height = height;
+    width = width;
+    height = height;
     depth = depth;
     sampling = sampling;
     filter = slice_index_or filter_modes.ALL filter REGULAR;
@@ -298,8 +296,8 @@ cut_by mark =
 -- whether a node of this level may be cut into four leaves that are a quarter as wide or as high: from the second
 -- version on a node of side 16 to 64 (level 2 and up) that lies in what is coded whole
 unfoldable pub admits_stripes : Header → ℕ → ℕ → ℕ → Bool
-admits_stripes h level x y = nat_le 2 h.version && nat_le 2 level && nat_le (x + 2 * half_side level) h.width
-    && nat_le (y + 2 * half_side level) h.height
+admits_stripes h level x y = nat_le 2 h.version && nat_le 2 level && nat_le (x + 2 * half_side level) (coded_width h)
+    && nat_le (y + 2 * half_side level) (coded_height h)
 
 -- a mark that a node may have: 0 to 3 (none, horizontal, vertical, split), or 8 or 9 (four leaves above one another or
 -- side by side)

@@ -18,7 +18,7 @@ use Rattle.av1_plan.specs.declared.leaf.ChromaMode.TheVariants.{Plain, Cfl}
 use Rattle.av1_plan.specs.declared.leaf.LeafKind.{LeafKind}
 use Rattle.av1_plan.specs.declared.leaf.LeafKind.TheVariants.{Intra, Single, Compound}
 use Rattle.av1_plan.specs.CodingOrder.{IsOnGrid, IsQuarterInside, IsTwoToOne}
-use Rattle.av1_plan.specs.Geometry.{plane_len, has_slot, carries_chroma}
+use Rattle.av1_plan.specs.Geometry.{plane_len, has_slot, carries_chroma, coded_width, coded_height}
 use Rattle.av1_plan.specs.Plan.{LeafValue}
 
 -- ---- the frame
@@ -46,10 +46,10 @@ pub record AreSlots (slots : List ℕ) : Type 0 where
 pub record IsReadFrame (h : Header) : Type 0 where
   pub least_version : 1 ≤ h.version
   pub most_version : h.version ≤ 3
-  pub width : IsSide h.width
-  pub height : IsSide h.height
-  pub shown_width : IsShown h.version h.shown_width h.width
-  pub shown_height : IsShown h.version h.shown_height h.height
+  pub width : IsSide (coded_width h)
+  pub height : IsSide (coded_height h)
+  pub shown_width : IsShown h.version h.width (coded_width h)
+  pub shown_height : IsShown h.version h.height (coded_height h)
   pub depth : (h.depth ≡ 8) ⊎ (h.depth ≡ 10) ⊎ (h.depth ≡ 12)
   pub sampling : h.sampling ≤ 2
   pub filter : filter_number h.filter < 4

@@ -15,8 +15,6 @@ header_in n h = record {
   version = n;
   width = h.width;
   height = h.height;
-  shown_width = h.shown_width;
-  shown_height = h.shown_height;
   depth = h.depth;
   sampling = h.sampling;
   filter = h.filter;
@@ -52,7 +50,7 @@ ThirdKeepsSecond =
 abbrev pub SecondHasRest : Type 0
 SecondHasRest =
     (rest : List ℕ) (p : PlanValue) → AreText plan (codes "RPL3" ++ rest) p
-    → p.header.shown_width % 8 ≡ 0 → p.header.shown_height % 8 ≡ 0
+    → p.header.width % 8 ≡ 0 → p.header.height % 8 ≡ 0
     → (p.header.version ≡ 3) × AreText plan (codes "RPL2" ++ rest) (plan_in 2 p)
 
 -- A plan of the first two versions shows all that it codes: in each plane as many columns and rows.

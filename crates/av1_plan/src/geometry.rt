@@ -34,18 +34,16 @@ pub struct TransformBlock {
 }
 
 /// A side of a frame that is coded, of one that is shown, in samples of luma: the least multiple of 8 that holds it.
-pub fn coded_side(shown: u16) -> u16
-    requires { shown ≤ 2048 }
-    ensures value { result ≡ coded_side shown }
-    ensures small { result ≤ 2048 }
+fn coded_side(shown: u16) -> usize
+    ensures { result ≡ coded_side shown }
 {
-    (shown + 7) / 8 * 8
+    (usize::from(shown) + 7) / 8 * 8
 }
 
 impl Header {
     ghost use Rattle.std.specs.Prelude.{◌≡◌, ◌≤◌, ◌<◌};
     ghost use Rattle.av1_plan.specs.Geometry.{xdec, ydec, plane_width, plane_height, shown_columns, shown_rows, plane_len};
-    ghost use Rattle.av1_plan.specs.Geometry.{follows_av1, has_slot, is_inside};
+    ghost use Rattle.av1_plan.specs.Geometry.{coded_width, coded_height, follows_av1, has_slot, is_inside};
 
     /// Whether a plan with this header comes to what the AV1 specification says where rav1e departs from it: in the
     /// third version.
@@ -73,44 +71,62 @@ impl Header {
         if p > 0 && self.sampling == 0 { 1 } else { 0 }
     }
 
+    /// The columns of luma samples that are coded: the least multiple of 8 that holds those that are shown.
+    #[tactic(auto, unfolding(crate::specs::Geometry::coded_width))]
+    pub fn coded_width(&self) -> usize
+        ensures value { result ≡ coded_width self.now }
+        ensures few { result ≤ 65536 }
+    {
+        coded_side(self.width)
+    }
+
+    /// The rows of luma samples that are coded: the least multiple of 8 that holds those that are shown.
+    #[tactic(auto, unfolding(crate::specs::Geometry::coded_height))]
+    pub fn coded_height(&self) -> usize
+        ensures value { result ≡ coded_height self.now }
+        ensures few { result ≤ 65536 }
+    {
+        coded_side(self.height)
+    }
+
     /// The columns of plane `p` that are coded, in samples.
     #[tactic(auto, unfolding(crate::specs::Geometry::plane_width))]
     pub fn plane_width(&self, p: usize) -> usize
         ensures value { result ≡ plane_width self.now p }
-        ensures small { result ≤ self.now.width }
+        ensures small { result ≤ coded_width self.now }
     {
-        usize::from(self.width) >> self.xdec(p)
+        self.coded_width() >> self.xdec(p)
     }
 
     /// The rows of plane `p` that are coded, in samples.
     #[tactic(auto, unfolding(crate::specs::Geometry::plane_height))]
     pub fn plane_height(&self, p: usize) -> usize
         ensures value { result ≡ plane_height self.now p }
-        ensures small { result ≤ self.now.height }
+        ensures small { result ≤ coded_height self.now }
     {
-        usize::from(self.height) >> self.ydec(p)
+        self.coded_height() >> self.ydec(p)
     }
 
     /// The columns of plane `p` that are shown, in samples: where the plane is halved, half of luma's, rounded up.
     #[tactic(auto, unfolding(crate::specs::Geometry::shown_columns))]
     pub fn shown_columns(&self, p: usize) -> usize
         ensures value { result ≡ shown_columns self.now p }
-        ensures small { result ≤ self.now.shown_width }
+        ensures small { result ≤ self.now.width }
         ensures few { result ≤ 65535 }
     {
         let decimation = self.xdec(p);
-        (usize::from(self.shown_width) + decimation) >> decimation
+        (usize::from(self.width) + decimation) >> decimation
     }
 
     /// The rows of plane `p` that are shown, in samples: where the plane is halved, half of luma's, rounded up.
     #[tactic(auto, unfolding(crate::specs::Geometry::shown_rows))]
     pub fn shown_rows(&self, p: usize) -> usize
         ensures value { result ≡ shown_rows self.now p }
-        ensures small { result ≤ self.now.shown_height }
+        ensures small { result ≤ self.now.height }
         ensures few { result ≤ 65535 }
     {
         let decimation = self.ydec(p);
-        (usize::from(self.shown_height) + decimation) >> decimation
+        (usize::from(self.height) + decimation) >> decimation
     }
 
     /// How many samples of plane `p` are shown: so many it has in a reference, and in the output.
@@ -134,7 +150,7 @@ impl Header {
     pub fn holds(&self, x: u16, y: u16) -> bool
         ensures { result ≡ is_inside self.now x y }
     {
-        x < self.width && y < self.height
+        usize::from(x) < self.coded_width() && usize::from(y) < self.coded_height()
     }
 }
 

@@ -8,14 +8,11 @@ pub struct Header {
     /// The version of the grammar: 1, or 2, in which a node may be cut into four leaves that are a quarter as wide or
     /// as high, or 3, in which the frame has any sides besides.
     pub version: u8,
-    /// Columns of luma samples that are coded: the least multiple of 8 that holds those that are shown, from 8 to 2048.
+    /// Columns of luma samples that are shown, from 1 to 2048, up to the second version a multiple of 8: references and
+    /// output have these alone. More may be coded (`coded_width`).
     pub width: u16,
-    /// Rows of luma samples that are coded: the least multiple of 8 that holds those that are shown, from 8 to 2048.
+    /// Rows of luma samples that are shown, from 1 to 2048, up to the second version a multiple of 8.
     pub height: u16,
-    /// Columns of luma samples that are shown: references and output have these alone.
-    pub shown_width: u16,
-    /// Rows of luma samples that are shown.
-    pub shown_height: u16,
     /// Bits of a sample: 8, 10 or 12.
     pub depth: u8,
     /// 0 for 4:2:0, 1 for 4:2:2 and 2 for 4:4:4.

@@ -2,15 +2,15 @@
 use Rattle.std.proofs.Common.{◌≡◌, ℕ, suc, ◌+◌, ◌-◌, ◌*◌, ◌<◌, ◌≤◌, true, List, [], ◌∷◌, Some, None, refl, sym, ap, ◌∙◌, arith}
 use Rattle.std.proofs.lemmas.Bool.{lt-ltb}
 use Rattle.av1_plan.specs.declared.header.Header.{Header}
-use Rattle.av1_plan.specs.Geometry.{is_inside}
+use Rattle.av1_plan.specs.Geometry.{is_inside, coded_width, coded_height}
 use Rattle.av1_planwrite.specs.declared.parts.Part.{Part}
 use Rattle.av1_planwrite.specs.declared.parts.Part.TheVariants.{Node}
 use Rattle.av1_planwrite.specs.Asked.{across, down, block_before, row_before, rows_of, superblocks_from}
 use Rattle.av1_planwrite.specs.Building.{first_part, later_parts}
 
 within : (h : Header) (row col : ℕ) → row < down h → col < across h → is_inside h (64 * col) (64 * row) ≡ true
-unfolding is_inside
-within h row col r c = rw (lt-ltb (64 * col) h.width (omega (arith, c)), lt-ltb (64 * row) h.height (omega (arith, r))) refl
+unfolding is_inside coded_width coded_height
+within h row col r c = rw (lt-ltb (64 * col) (coded_width h) (omega (arith, c)), lt-ltb (64 * row) (coded_height h) (omega (arith, r))) refl
 
 one_more : (h : Header) (row col n : ℕ) (others : List Part) → row < down h → col < across h
     → row_before h row col (suc n) others ≡ Node 4 (64 * col) (64 * row) ∷ row_before h row (col + 1) n others

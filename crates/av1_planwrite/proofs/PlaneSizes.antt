@@ -10,7 +10,7 @@ use Rattle.av1_plan.proofs.Shown.{columns_few, rows_few}
 use Rattle.av1_planwrite.specs.Building.{admits_header, admits_plane, admits_reference}
 use Rattle.av1_planwrite.proofs.ReadHeaders.{header_read}
 
-few_samples : (h : Header) (p : ℕ) (samples : List ℕ) → h.shown_width ≤ 2048 → h.shown_height ≤ 2048 → admits_plane h p samples ≡ true →
+few_samples : (h : Header) (p : ℕ) (samples : List ℕ) → h.width ≤ 2048 → h.height ≤ 2048 → admits_plane h p samples ≡ true →
     length samples ≤ 2 ^ 22
 unfolding admits_plane
 few_samples h p samples width height e =
@@ -25,8 +25,8 @@ pub few_in_each : (h : Header) (y u v : List ℕ) → admits_header h ≡ true �
     (length y ≤ 2 ^ 22) × (length u ≤ 2 ^ 22) × (length v ≤ 2 ^ 22)
 few_in_each h y u v admitted mask seven e =
     let read = header_read h admitted mask seven in
-    let width : h.shown_width ≤ 2048 = omega (arith, read.shown_width.within, read.width.most) in
-    let height : h.shown_height ≤ 2048 = omega (arith, read.shown_height.within, read.height.most) in
+    let width : h.width ≤ 2048 = omega (arith, read.shown_width.within, read.width.most) in
+    let height : h.height ≤ 2048 = omega (arith, read.shown_height.within, read.height.most) in
     let (both, third) = and_parts (admits_plane h 0 y && admits_plane h 1 u) (admits_plane h 2 v) e in
     let (first, second) = and_parts (admits_plane h 0 y) (admits_plane h 1 u) both in
     (few_samples h 0 y width height first, few_samples h 1 u width height second, few_samples h 2 v width height third)

@@ -2,10 +2,10 @@
 use Rattle.std.proofs.Common.{◌≡◌, ℕ, zero, suc, ◌-◌, ◌<◌, ◌≤◌, ◌⊎◌, inl, inr, true, ◌&&◌, List, [], ◌∷◌, length, All, sym, ap, subst, ◌∙◌, arith}
 use Rattle.std.specs.Prelude.{nat_le, ◌==◌}
 use Rattle.std.specs.List.{list_all}
-use Rattle.std.proofs.lemmas.Bool.{and_parts, eqb-true, leb-true}
+use Rattle.std.proofs.lemmas.Bool.{and_parts, leb-true}
 use Rattle.av1_blocks.specs.Filters.{filter_number}
 use Rattle.av1_plan.specs.declared.header.Header.{Header}
-use Rattle.av1_plan.specs.Geometry.{coded_side}
+use Rattle.av1_plan.specs.Geometry.{coded_width, coded_height}
 use Rattle.av1_plan.specs.Grammar.{is_side, is_depth}
 use Rattle.av1_plan.specs.ReadPlans.{IsSide, IsShown, IsReadFrame}
 use Rattle.std.specs.Int.{is_in_range}
@@ -23,38 +23,31 @@ slots_are (s ∷ slots) e (suc k) d lt = let (_, later) = and_parts (nat_le s 7)
 record HasSides (h : Header) : Type 0 where
   least_version : 1 ≤ h.version
   most_version : h.version ≤ 3
-  width : IsSide h.width
-  height : IsSide h.height
-  shown_width : IsShown h.version h.shown_width h.width
-  shown_height : IsShown h.version h.shown_height h.height
+  width : IsSide (coded_width h)
+  height : IsSide (coded_height h)
+  shown_width : IsShown h.version h.width (coded_width h)
+  shown_height : IsShown h.version h.height (coded_height h)
 
-sides_read : (h : Header)
-    → (is_in_range 1 3 h.version && is_side h.version h.shown_width && is_side h.version h.shown_height && h.width == coded_side h.shown_width
-    && h.height == coded_side h.shown_height) ≡ true → HasSides h
+sides_read : (h : Header) → (is_in_range 1 3 h.version && is_side h.version h.width && is_side h.version h.height) ≡ true → HasSides h
+unfolding coded_width coded_height
 sides_read h e =
     let version = is_in_range 1 3 h.version in
-    let (c, coded_height) = and_parts (version && is_side h.version h.shown_width && is_side h.version h.shown_height && h.width == coded_side h.shown_width)
-    (h.height == coded_side h.shown_height) e in
-    let (d, coded_width) = and_parts (version && is_side h.version h.shown_width && is_side h.version h.shown_height) (h.width == coded_side h.shown_width) c in
-    let (f, height) = and_parts (version && is_side h.version h.shown_width) (is_side h.version h.shown_height) d in
-    let (g, width) = and_parts version (is_side h.version h.shown_width) f in
-    let (least, most) = and_parts (nat_le 1 h.version) (nat_le h.version 3) g in
-    let across = sym (eqb-true h.width (coded_side h.shown_width) coded_width) in
-    let down = sym (eqb-true h.height (coded_side h.shown_height) coded_height) in
+    let (front, height) = and_parts (version && is_side h.version h.width) (is_side h.version h.height) e in
+    let (range, width) = and_parts version (is_side h.version h.width) front in
+    let (least, most) = and_parts (nat_le 1 h.version) (nat_le h.version 3) range in
     record {
       least_version = leb-true 1 h.version least;
       most_version = leb-true h.version 3 most;
-      width = subst IsSide across (coded_is h.version h.shown_width width);
-      height = subst IsSide down (coded_is h.version h.shown_height height);
-      shown_width = subst (IsShown h.version h.shown_width) across (shown_is h.version h.shown_width width);
-      shown_height = subst (IsShown h.version h.shown_height) down (shown_is h.version h.shown_height height);
+      width = coded_is h.version h.width width;
+      height = coded_is h.version h.height height;
+      shown_width = shown_is h.version h.width width;
+      shown_height = shown_is h.version h.height height;
     }
 
 pub header_read : (h : Header) → admits_header h ≡ true → h.mask < 256 → length h.slots ≡ 7 → IsReadFrame h
 unfolding admits_header
 header_read h e mask count =
-    let front = is_in_range 1 3 h.version && is_side h.version h.shown_width && is_side h.version h.shown_height && h.width == coded_side h.shown_width
-    && h.height == coded_side h.shown_height in
+    let front = is_in_range 1 3 h.version && is_side h.version h.width && is_side h.version h.height in
     let (a, slots) = and_parts (front && is_depth h.depth && nat_le h.sampling 2 && nat_le (filter_number h.filter) 3)
     (list_all (λ slot. nat_le slot 7) h.slots) e in
     let (b, filter) = and_parts (front && is_depth h.depth && nat_le h.sampling 2) (nat_le (filter_number h.filter) 3) a in
@@ -86,9 +79,15 @@ pub record HasRanges (h : Header) : Type 0 where
 pub ranges_of : (h : Header) → admits_header h ≡ true → h.mask < 256 → length h.slots ≡ 7 → HasRanges h
 ranges_of h e mask count =
     let r = header_read h e mask count in
-    let w = r.width in
-    let t = r.height in
-    record { width = w.most; height = t.most; depth = few r.depth; rows = omega (arith, t.least); cols = omega (arith, w.least) }
+    let w = r.shown_width in
+    let t = r.shown_height in
+    record {
+      width = omega (arith, w.within, r.width.most);
+      height = omega (arith, t.within, r.height.most);
+      depth = few r.depth;
+      rows = omega (arith, t.some);
+      cols = omega (arith, w.some);
+    }
   where
     few : (h.depth ≡ 8) ⊎ (h.depth ≡ 10) ⊎ (h.depth ≡ 12) → h.depth ≤ 12
     few (inl e) = omega (arith, e)

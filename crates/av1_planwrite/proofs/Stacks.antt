@@ -6,7 +6,7 @@ use Rattle.std.proofs.lemmas.Bool.{and_parts, ltb-true, lt-ltb, le-leb}
 use Rattle.std.proofs.lemmas.List.{take_more, take_more_set, reverse-append, length-reverse, length-take-le}
 use Rattle.av1_blocks.specs.declared.partition.BlockSize.TheVariants.{BLOCK_4X4}
 use Rattle.av1_plan.specs.declared.header.Header.{Header}
-use Rattle.av1_plan.specs.Geometry.{is_inside}
+use Rattle.av1_plan.specs.Geometry.{is_inside, coded_width, coded_height}
 use Rattle.av1_planwrite.specs.declared.parts.Part.{Part}
 use Rattle.av1_planwrite.specs.declared.parts.Part.TheVariants.{Node, Leaf}
 use Rattle.av1_planwrite.specs.Asked.{leaf_before, block_before}
@@ -93,10 +93,10 @@ block_outside h (suc level) x y others lt e = rw e refl
 
 -- what lies in the frame lies in a frame of the greatest sides
 pub in_greatest : (h : Header) (x y : ℕ) → h.width ≤ 2048 → h.height ≤ 2048 → is_inside h x y ≡ true → (nat_lt x 2048 ≡ true) × (nat_lt y 2048 ≡ true)
-unfolding is_inside
+unfolding is_inside coded_width coded_height
 in_greatest h x y width height e =
-    let (a, b) = and_parts (nat_lt x h.width) (nat_lt y h.height) e in
-    (lt-ltb x 2048 (omega (arith, width, ltb-true x h.width a)), lt-ltb y 2048 (omega (arith, height, ltb-true y h.height b)))
+    let (a, b) = and_parts (nat_lt x (coded_width h)) (nat_lt y (coded_height h)) e in
+    (lt-ltb x 2048 (omega (arith, width, ltb-true x (coded_width h) a)), lt-ltb y 2048 (omega (arith, height, ltb-true y (coded_height h) b)))
 
 pub node_room : (h : Header) (level x y below : ℕ) → 0 < level → level ≤ 4 → 3 * level + below < 13 → h.width ≤ 2048 → h.height ≤ 2048 →
     is_inside h x y ≡ true → has_room (Node level x y) below ≡ true

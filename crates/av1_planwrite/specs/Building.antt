@@ -18,7 +18,7 @@ use Rattle.av1_plan.specs.declared.leaf.ChromaMode.{ChromaMode}
 use Rattle.av1_plan.specs.declared.leaf.ChromaMode.TheVariants.{Plain}
 use Rattle.av1_plan.specs.declared.leaf.LeafKind.{LeafKind}
 use Rattle.av1_plan.specs.declared.leaf.LeafKind.TheVariants.{Intra, Single, Compound}
-use Rattle.av1_plan.specs.Geometry.{coded_side, plane_len, has_slot, carries_chroma}
+use Rattle.av1_plan.specs.Geometry.{plane_len, has_slot, carries_chroma}
 use Rattle.av1_plan.specs.Grammar.{is_side, is_depth, is_mark, cut_by, plan}
 use Rattle.av1_plan.specs.Plan.{LeafValue, PlanValue}
 use Rattle.av1_plan.specs.Spelling.{IsProper, text}
@@ -100,9 +100,8 @@ settled (Err e) count = Err Memory
 -- whether each value of a header is admitted
 unfoldable pub admits_header : Header → Bool
 admits_header h =
-    is_in_range 1 3 h.version && is_side h.version h.shown_width && is_side h.version h.shown_height
-    && h.width == coded_side h.shown_width && h.height == coded_side h.shown_height && is_depth h.depth
-    && nat_le h.sampling 2
+    is_in_range 1 3 h.version && is_side h.version h.width && is_side h.version h.height
+    && is_depth h.depth && nat_le h.sampling 2
     && nat_le (filter_number h.filter) 3
     && list_all (λ slot. nat_le slot 7) h.slots
 

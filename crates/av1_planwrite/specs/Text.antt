@@ -50,7 +50,7 @@ letters version =
 -- the frame, and what holds for all leaves
 unfoldable pub header_text : Header → List ℕ
 header_text h =
-    letters h.version ++ pair h.shown_width ++ pair h.shown_height ++ byte h.depth ++ byte h.sampling
+    letters h.version ++ pair h.width ++ pair h.height ++ byte h.depth ++ byte h.sampling
     ++ byte (filter_number h.filter)
     ++ byte (if h.edge_filter then 1 else 0) ++ h.slots ++ byte h.mask
 

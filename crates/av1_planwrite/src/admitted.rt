@@ -2,7 +2,6 @@
 
 ghost use Rattle.std.specs.Prelude.{◌≡◌, ◌<◌, ◌≤◌, ◌^◌, ◌==◌, true, nat_le, length};
 ghost use Rattle.std.specs.List.{list_all};
-ghost use Rattle.av1_plan.specs.Geometry.{coded_side};
 ghost use Rattle.av1_plan.specs.Grammar.{is_side, is_depth};
 ghost use Rattle.av1_planwrite.specs.Building.{admits_header, admits_plane, admits_reference, is_named, admits_chroma, admits_kind, admits_counts};
 ghost use Rattle.av1_planwrite.specs.Building.{admits_fields};
@@ -19,13 +18,6 @@ fn is_side(version: u8, side: u16) -> bool
     ensures { result ≡ is_side version side }
 {
     (version == 3 || side % 8 == 0) && 1 <= side && side <= 2048
-}
-
-/// Whether this is the side that is coded where that one is shown.
-fn is_coded(coded: u16, shown: u16) -> bool
-    ensures { result ≡ (coded == coded_side shown) }
-{
-    u32::from(coded) == (u32::from(shown) + 7) / 8 * 8
 }
 
 /// Whether samples may have so many bits.
@@ -61,10 +53,8 @@ pub fn admits_header(header: &Header) -> bool
     } = *header;
     1 <= header.version
         && header.version <= 3
-        && is_side(header.version, header.shown_width)
-        && is_side(header.version, header.shown_height)
-        && is_coded(header.width, header.shown_width)
-        && is_coded(header.height, header.shown_height)
+        && is_side(header.version, header.width)
+        && is_side(header.version, header.height)
         && is_depth(header.depth)
         && header.sampling <= 2
         && header.filter.number() <= 3

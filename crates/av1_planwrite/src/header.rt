@@ -27,8 +27,8 @@ pub fn header_fields(header: &Header) -> [u8; 20]
     let mut fields = [0; 20];
     let slots = header.slots;
     let at = put(&mut fields, 0, &letters(header.version));
-    let at = put_pair(&mut fields, at, header.shown_width);
-    let at = put_pair(&mut fields, at, header.shown_height);
+    let at = put_pair(&mut fields, at, header.width);
+    let at = put_pair(&mut fields, at, header.height);
     let at = put_byte(&mut fields, at, header.depth);
     let at = put_byte(&mut fields, at, header.sampling);
     let at = put_byte(&mut fields, at, header.filter.number());

@@ -32,10 +32,10 @@ rows_total-all num s p n e = ap (rows_total num s p) e ∙ sym (sum-flat_map (λ
 
 -- a row that was lent is no longer than the frame is wide
 pub row_within : {T : Type 0} (num : T → ℕ) (s : Picture T) (p y : ℕ) (h : Header) (row : List T) → h ≡ state_header s → map num row ≡ state_row num s p y →
-    length row ≤ h.shown_width
+    length row ≤ h.width
 row_within num s p y h row same is =
     let width : length row ≡ shown_columns (state_header s) p =
     sym (length-map row num) ∙ ap length is ∙ length-map-range_with_len (λ x. shown num s (component p) x y) 0 (shown_columns (state_header s) p) in
     let narrow = columns_few (state_header s) p in
-    let wide : h.shown_width ≡ (state_header s).shown_width = ap (λ (g : Header). g.shown_width) same in
+    let wide : h.width ≡ (state_header s).width = ap (λ (g : Header). g.width) same in
     omega (arith, width, narrow, wide)

@@ -5,8 +5,8 @@ use Rattle.av1_plan.specs.declared.error.InvalidKind.{InvalidKind}
 use Rattle.av1_plan.specs.declared.error.InvalidKind.TheVariants as kinds
 use Rattle.av1_streams.specs.Faults.{FaultCounted}
 use Rattle.av1_streams.specs.Streams.{AppendsPrefix}
-use Rattle.av1_recon.specs.declared.error.PlanRefusal.{PlanRefusal}
-use Rattle.av1_recon.specs.declared.error.PlanRefusal.TheVariants as refusals
+use Rattle.av1_recon.specs.declared.error.PlanFault.{PlanFault}
+use Rattle.av1_recon.specs.declared.error.PlanFault.TheVariants as refusals
 use Rattle.av1_recon.specs.declared.error.ReconError.{ReconError}
 use Rattle.av1_recon.specs.declared.error.ReconError.TheVariants.{ReadFault, TooLong, Malformed, Invalid, WriteFault}
 use Rattle.av1_recon.specs.declared.error.ReconError.TheVariants.{Memory}
@@ -34,7 +34,7 @@ abbrev pub invalid_text : ℕ → InvalidKind → List ℕ
 invalid_text leaf kind = codes "invalid leaf " ++ decimal leaf ++ codes ": " ++ kind_text kind ++ codes "\n"
 
 -- what is said of a plan that is refused
-abbrev pub refusal_text : PlanRefusal → List ℕ
+abbrev pub refusal_text : PlanFault → List ℕ
 refusal_text (refusals.Malformed at) = malformed_text at
 refusal_text (refusals.Invalid leaf kind) = invalid_text leaf kind
 

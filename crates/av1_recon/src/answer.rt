@@ -2,7 +2,7 @@
 ghost use Rattle.std.specs.Prelude.{◌≡◌, ◌≤◌, ◌++◌, length, codes};
 ghost use Rattle.av1_recon.specs.Answers.{status_of, line_of, error_line, kind_text, malformed_text, invalid_text, refusal_text, HasLine};
 
-use crate::{InvalidKind, PlanRefusal, ReconError, Sink};
+use crate::{InvalidKind, PlanFault, ReconError, Sink};
 use av1_streams::{Line, write_bytes};
 
 fn kind_text(kind: InvalidKind) -> &'static [u8]
@@ -55,13 +55,13 @@ pub fn push_invalid(line: &mut Line, leaf: u32, kind: InvalidKind)
 }
 
 /// Appends what is said of a plan that is refused, and the end of the line.
-pub fn push_refusal(line: &mut Line, refusal: PlanRefusal)
+pub fn push_refusal(line: &mut Line, refusal: PlanFault)
     requires { length line.old ≤ 64 }
     ensures { line.new ≡ line.old ++ refusal_text refusal }
 {
     match refusal {
-        PlanRefusal::Malformed { at } => push_malformed(line, at),
-        PlanRefusal::Invalid { leaf, kind } => push_invalid(line, leaf, kind),
+        PlanFault::Malformed { at } => push_malformed(line, at),
+        PlanFault::Invalid { leaf, kind } => push_invalid(line, leaf, kind),
     }
 }
 

@@ -9,7 +9,7 @@ use av1_streams::{ReadError, WriteFault};
 
 /// Why a plan is refused.
 #[derive(Clone, Copy, Debug, PartialEq, Eq)]
-pub enum PlanRefusal {
+pub enum PlanFault {
     /// The field that begins at byte `at` of the plan is cut, has a value that is not admitted, or is left over after
     /// the end.
     Malformed { at: u32 },

@@ -45,7 +45,7 @@ pub use av1_streams::{
 };
 pub use av1_tile::{TileState, reconstruct_tile};
 pub use command::Command;
-pub use error::{PlanRefusal, ReconError};
+pub use error::{PlanFault, ReconError};
 pub use host::run_on_words;
 pub use laws::outcome_laws;
 pub use lines::write_sums;

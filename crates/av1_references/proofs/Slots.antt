@@ -11,7 +11,7 @@ use Rattle.av1_frame.specs.declared.plane.Plane.{Plane}
 use Rattle.av1_frame.specs.declared.slots.Slot.{Slot}
 use Rattle.av1_frame.specs.Frames.{new_frame, plane_of, slot_plane}
 use Rattle.av1_blocks.specs.Depths.{IsDepth}
-use Rattle.av1_plan.specs.Geometry.{follows_av1, has_slot}
+use Rattle.av1_plan.specs.Geometry.{follows_av1, has_slot, coded_width, coded_height}
 use Rattle.av1_plan.specs.declared.header.Header.{Header}
 use Rattle.av1_plan.specs.declared.planes.SlotPlanes.{SlotPlanes}
 use Rattle.av1_plan.specs.Plan.{PlanValue, slot_value, slot_values}
@@ -34,7 +34,8 @@ all_same (suc n) (suc i) x = all_same n i x
 
 -- a new frame with the filter of a header holds no slot yet
 pub holds_none : {T : Type 0} (num : T → ℕ) (value : PlanValue) (fi : FrameInvariants T) → let h = value.header
-    in fi ≡ record (new_frame h.width h.height h.filter h.depth h.edge_filter h.slots) { short_by_av1 = follows_av1 h } → HoldsFirst num value 0 fi
+    in fi ≡ record (new_frame (coded_width h) (coded_height h) h.filter h.depth h.edge_filter h.slots) { short_by_av1 = follows_av1 h } →
+    HoldsFirst num value 0 fi
 holds_none {T} num value fi e = subst (λ (f : FrameInvariants T). HoldsFirst num value 0 f) (sym e) (record {
   settings = record { columns = refl; rows = refl; depth = refl; filter = refl; short_by_av1 = refl; edge_filter = refl; slots = refl };
   count = refl;

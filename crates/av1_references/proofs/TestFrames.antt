@@ -14,7 +14,7 @@ use Rattle.av1_blocks.specs.Depths.{IsDepth}
 use Rattle.av1_blocks.specs.References.{reference_number}
 use Rattle.av1_inter.specs.Reference.{IsServed}
 use Rattle.av1_plan.specs.declared.header.Header.{Header}
-use Rattle.av1_plan.specs.Geometry.{has_slot, xdec, ydec}
+use Rattle.av1_plan.specs.Geometry.{coded_width, coded_height, has_slot, xdec, ydec}
 use Rattle.av1_plan.specs.Plan.{PlanValue}
 use Rattle.av1_plan.specs.Validity.{has_reference}
 use Rattle.av1_references.specs.References.{HoldsPlane, HoldsReferences, ServesPlan}
@@ -31,8 +31,6 @@ header_of filter depth = record {
   version = 1;
   width = 16;
   height = 8;
-  shown_width = 16;
-  shown_height = 8;
   depth = depth;
   sampling = 0;
   filter = filter;
@@ -54,7 +52,7 @@ module _ {T : Type 0} (num : T → ℕ) (filter : FilterMode) (depth : ℕ) (is_
       → HoldsPlane num (header_of filter depth) 0 y s.y → HoldsPlane num (header_of filter depth) 1 u s.u → HoldsPlane num (header_of filter depth) 2 v s.v
       → HoldsPlane num (header_of filter depth) 0 y' t.y → HoldsPlane num (header_of filter depth) 1 u' t.u → HoldsPlane num (header_of filter depth) 2 v' t.v
       → (a : PlanValue) × (ServesPlan num a second × ((has_reference a.header LAST_FRAME ≡ true) × (has_reference a.header ALTREF_FRAME ≡ true)))
-  unfolding has_slot has_reference
+  unfolding coded_width coded_height has_slot has_reference
   filled_serves made first second new set_first set_second a b c d e f =
       let n1 = holds_empty num value 0 made (holds_none num value made new) refl in
       let n2 = holds_empty num value 1 made n1 refl in

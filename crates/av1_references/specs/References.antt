@@ -21,7 +21,8 @@ use Rattle.av1_inter.specs.Prediction.{compound_prediction, single_prediction}
 use Rattle.av1_inter.specs.Reference.{IsPadded, ReferencePlane, slot_of, vector_of, reference_of as reference_in}
 use Rattle.av1_plan.specs.declared.geometry.PlaneArea.{PlaneArea}
 use Rattle.av1_plan.specs.declared.header.Header.{Header}
-use Rattle.av1_plan.specs.Geometry.{follows_av1, has_slot, shown_rows, shown_columns, xdec, ydec}
+use Rattle.av1_plan.specs.Geometry.{follows_av1, has_slot, shown_rows, shown_columns, xdec, ydec, coded_width}
+use Rattle.av1_plan.specs.Geometry.{coded_height}
 use Rattle.av1_plan.specs.Plan.{PlanValue, carried_plane}
 use Rattle.av1_plan.specs.Validity.{has_reference}
 use Rattle.av1_references.specs.declared.tile.TileReferences.{TileReferences}
@@ -94,8 +95,8 @@ pub record HoldsPlane {T : Type 0} (num : T → ℕ) (h : Header) (p : ℕ) (sam
 
 -- the settings of a frame are those of a header
 pub record HasSettings {T : Type 0} (h : Header) (fi : FrameInvariants T) : Type 0 where
-  pub columns : fi.w_in_b ≡ h.width / 4
-  pub rows : fi.h_in_b ≡ h.height / 4
+  pub columns : fi.w_in_b ≡ coded_width h / 4
+  pub rows : fi.h_in_b ≡ coded_height h / 4
   pub depth : fi.bit_depth ≡ h.depth
   pub filter : fi.default_filter ≡ h.filter
   pub short_by_av1 : fi.short_by_av1 ≡ follows_av1 h

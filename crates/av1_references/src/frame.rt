@@ -84,14 +84,14 @@ pub fn stored_references<T: Pixel>(
 {
     let mut fi = FrameInvariants::new(
         alloc,
-        usize::from(header.width),
-        usize::from(header.height),
+        header.coded_width(),
+        header.coded_height(),
         header.filter,
         usize::from(header.depth),
         header.edge_filter,
         header.slots,
     )?;
-    fi.short_by_av1 = header.follows_av1();
+    fi.follow_av1(header.follows_av1());
     for slot in 0..SLOTS {
         if let Some(planes) = &references[slot] {
             let y = padded_plane(alloc, header, 0, &planes.y)?;
@@ -114,14 +114,14 @@ pub fn frame_invariants<T: Pixel>(
     let header = *plan.header();
     let mut fi = FrameInvariants::new(
         alloc,
-        usize::from(header.width),
-        usize::from(header.height),
+        header.coded_width(),
+        header.coded_height(),
         header.filter,
         usize::from(header.depth),
         header.edge_filter,
         header.slots,
     )?;
-    fi.short_by_av1 = header.follows_av1();
+    fi.follow_av1(header.follows_av1());
     for slot in 0..SLOTS {
         if header.has_slot(slot) {
             let y = slot_plane(alloc, plan, slot, 0)?;

@@ -6,7 +6,7 @@ use Rattle.av1_plan.proofs.Parts.{clash, err_is}
 use Rattle.av1_plan.proofs.Spelled.{ok_is}
 use Rattle.av1_streams.specs.Streams.{AreBytes, max_plan_bytes}
 use Rattle.av1_sequence.specs.declared.error.SequenceError.TheVariants as errors
-use Rattle.av1_sequence.specs.Files.{Answer, AreFile, BytesHaveAnOutcome, HasOutcome, OutcomesAreOne, beginning}
+use Rattle.av1_sequence.specs.Files.{Answer, AreFile, BytesHaveAnOutcome, HasOutcome, OutcomesAreOne, beginning, empty_slot, of_frame}
 use Rattle.av1_sequence.specs.Grammar.{FileValue, read_file}
 use Rattle.av1_sequence.proofs.Parts.{parts_fit}
 use Rattle.av1_sequence.proofs.Running.{End, Runs, accepted_all, not_both_ways, one_run, refused_at, some_run}
@@ -24,7 +24,8 @@ IsShape bytes written (file f end) = AreFile bytes f × Runs (beginning f) f.ent
 
 abbrev pub answer_of : End → Answer
 answer_of accepted_all = Ok tt
-answer_of (refused_at i fault) = Err (errors.Frame i fault)
+answer_of (refused_at i (of_frame fault)) = Err (errors.Frame i fault)
+answer_of (refused_at i empty_slot) = Err (errors.EmptySlot i)
 
 abbrev judged : Shape → Answer
 judged long = Err errors.TooLong
@@ -35,13 +36,15 @@ judged (file f end) = answer_of end
 pub of_run : (bytes written : List ℕ) (f : FileValue) → AreFile bytes f → (end : End) → Runs (beginning f) f.entries written end →
     HasOutcome bytes written (answer_of end)
 of_run bytes written f is accepted_all run = (f, is, run)
-of_run bytes written f is (refused_at i fault) run = (f, is, run)
+of_run bytes written f is (refused_at i (of_frame fault)) run = (f, is, run)
+of_run bytes written f is (refused_at i empty_slot) run = (f, is, run)
 
 shape_of : (bytes written : List ℕ) (outcome : Answer) → HasOutcome bytes written outcome → (s : Shape) × IsShape bytes written s × (outcome ≡ judged s)
 shape_of bytes written (Ok done) (f, is, lead) = (file f accepted_all, (is, lead), refl)
 shape_of bytes written (Err errors.TooLong) c = (long, c, refl)
 shape_of bytes written (Err (errors.Malformed at)) c = (broken at, c, refl)
-shape_of bytes written (Err (errors.Frame i fault)) (f, is, first) = (file f (refused_at i fault), (is, first), refl)
+shape_of bytes written (Err (errors.Frame i fault)) (f, is, first) = (file f (refused_at i (of_frame fault)), (is, first), refl)
+shape_of bytes written (Err (errors.EmptySlot i)) (f, is, first) = (file f (refused_at i empty_slot), (is, first), refl)
 shape_of bytes written (Err errors.ReadFault) c = absurd c
 shape_of bytes written (Err errors.WriteFault) c = absurd c
 shape_of bytes written (Err errors.Memory) c = absurd c

@@ -12,7 +12,7 @@ use Rattle.av1_frame.specs.declared.slots.Slot.{Slot}
 use Rattle.av1_lists.specs.Lists.{by_index}
 use Rattle.av1_lists.proofs.Lists.{by_index-same, get_or-by_index}
 use Rattle.av1_plan.specs.declared.header.Header.{Header}
-use Rattle.av1_plan.specs.Geometry.{shown_columns}
+use Rattle.av1_plan.specs.Geometry.{shown_columns, coded_width, coded_height}
 use Rattle.av1_plan.specs.Grammar.{plan as grammar, superblocks}
 use Rattle.av1_plan.specs.Lengths.{slot_bytes}
 use Rattle.av1_plan.specs.Plan.{LeafValue, PlanValue}
@@ -274,7 +274,8 @@ not_placed place e = absurd cc
 
 -- the memory of the walk has room still
 pub room_still : (h h' : Header) (m m' : WalkRoom) → h' ≡ h → m'.cells ≡ m.cells → HasRoomFor h m → HasRoomFor h' m'
-room_still h h' m m' e cells has = subst (λ (x : Header). HasRoomFor x m') (sym e) (subst (λ (n : ℕ). h.height / 4 * (h.width / 4) ≤ n) (sym cells) has)
+room_still h h' m m' e cells has =
+    subst (λ (x : Header). HasRoomFor x m') (sym e) (subst (λ (n : ℕ). coded_height h / 4 * (coded_width h / 4) ≤ n) (sym cells) has)
 
 -- and the samples the depth
 pub depth_still : (h h' : Header) (bits : ℕ) → h' ≡ h → h.depth ≤ bits → h'.depth ≤ bits

@@ -80,6 +80,7 @@ leaves_end (Err e) left left' read end = error_leaves (cause_of e) left left' re
 answers_of : (bytes : List ℕ) (f : FileValue) → AreFile bytes f → (answer : Answer) (a b : Option (List ℕ)) → Shows f answer a b → Answers answer bytes a b
 answers_of bytes f is (Ok done) a b (written, lead, appended) = (written, (f, is, lead), appended)
 answers_of bytes f is (Err (errors.Frame i fault)) a b (written, first, appended) = (written, (f, is, first), appended)
+answers_of bytes f is (Err (errors.EmptySlot i)) a b (written, first, appended) = (written, (f, is, first), appended)
 answers_of bytes f is (Err errors.WriteFault) a b (written, (n, shown), prefix) =
     let (rest, (end, run)) = some_after (beginning f) f.entries n written shown.kept (parts_fit bytes f is) shown.lead in
     (written ++ rest, (answer_of end, of_run bytes (written ++ rest) f is end run, AppendsPrefix-first a b written rest (written ++ rest) refl prefix))
@@ -231,6 +232,7 @@ module _ {S K : Type 0} (left : S → Option (List ℕ)) (source_faults : S → 
         (λ b more. (written, (more, none), appended))
     told (Err (errors.Malformed at)) p = told_at_end (Err (errors.Malformed at)) p p.leaves
     told (Err (errors.Frame i fault)) p = told_at_end (Err (errors.Frame i fault)) p p.leaves
+    told (Err (errors.EmptySlot i)) p = told_at_end (Err (errors.EmptySlot i)) p p.leaves
     told (Err errors.WriteFault) p = told_at_end (Err errors.WriteFault) p p.leaves
     told (Err errors.Memory) p = elim (p.memory refl) [
       | inl end ↦ told_at_end (Err errors.Memory) p end

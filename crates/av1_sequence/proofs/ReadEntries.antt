@@ -10,6 +10,7 @@ use Rattle.av1_blocks.specs.declared.mc.FilterMode.{FilterMode}
 use Rattle.av1_blocks.specs.Filters.{filter_number}
 use Rattle.av1_plan.specs.Format.{two, Input, Kind, Reading, on_ok, read_field, width}
 use Rattle.av1_plan.specs.Grammar.{is_depth, is_side, where_}
+use Rattle.av1_plan.specs.Geometry.{coded_width, coded_height}
 use Rattle.av1_plan.proofs.Numbers.{filter_number_is, filter_of}
 use Rattle.av1_plan.proofs.Parts.{done_ok}
 use Rattle.av1_plan.proofs.ReadFrames.{coded_is, shown_is}
@@ -73,6 +74,7 @@ side_read version i v j e = admitted (where_ two (is_side version)) i v j e
 -- frames with these sides
 pub are_frames : (version width height depth sampling : ℕ) → 1 ≤ version → version ≤ 3 → is_side version width ≡ true → is_side version height ≡ true →
     is_depth depth ≡ true → sampling ≤ 2 → AreFrames (frames_of version width height depth sampling)
+unfolding coded_width coded_height
 are_frames version width height depth sampling least most wide high deep few = record {
   least_version = least;
   most_version = most;

@@ -2,7 +2,7 @@
 use Rattle.std.proofs.Common.{ℕ, ◌<◌, ◌≡◌, ◌∙◌, refl, ap, sym, subst}
 use Rattle.av1_frame.specs.Planes.{sample_at}
 use Rattle.av1_plan.specs.declared.header.Header.{Header}
-use Rattle.av1_plan.specs.Geometry.{plane_height, plane_width, shown_columns, shown_rows, xdec, ydec}
+use Rattle.av1_plan.specs.Geometry.{coded_width, coded_height, plane_height, plane_width, shown_columns, shown_rows, xdec, ydec}
 use Rattle.av1_plan.specs.Plan.{PlanValue}
 use Rattle.av1_tile.specs.declared.planes.Planes.{Planes}
 use Rattle.av1_tile.specs.Canvas.{Component, Y, U, V}
@@ -23,7 +23,7 @@ module _ {T : Type 0} (num : T → ℕ) (h : Header) (slots : Slots) (head : Fra
   own_header = frame_header h slots head
 
   pub stores_in : (planes : Planes T) → StoresAll num h planes → StoresAll num own_header planes
-  unfolding plane_width plane_height shown_columns shown_rows xdec ydec
+  unfolding coded_width coded_height plane_width plane_height shown_columns shown_rows xdec ydec
   stores_in planes s = record {
     y = record {
       place = record {
@@ -64,7 +64,7 @@ module _ {T : Type 0} (num : T → ℕ) (h : Header) (slots : Slots) (head : Fra
   }
 
   pub stores_out : (planes : Planes T) → StoresAll num own_header planes → StoresAll num h planes
-  unfolding plane_width plane_height shown_columns shown_rows xdec ydec
+  unfolding coded_width coded_height plane_width plane_height shown_columns shown_rows xdec ydec
   stores_out planes s = record {
     y = record {
       place = record {
@@ -105,7 +105,7 @@ module _ {T : Type 0} (num : T → ℕ) (h : Header) (slots : Slots) (head : Fra
   }
 
   pub room_in : (planes : Planes T) → HasRoom h planes → HasRoom own_header planes
-  unfolding plane_width plane_height shown_columns shown_rows xdec ydec
+  unfolding coded_width coded_height plane_width plane_height shown_columns shown_rows xdec ydec
   room_in planes r = record {
     y = record { columns = r.y.columns; rows = r.y.rows };
     u = record { columns = r.u.columns; rows = r.u.rows };
@@ -113,7 +113,7 @@ module _ {T : Type 0} (num : T → ℕ) (h : Header) (slots : Slots) (head : Fra
   }
 
   pub room_out : (planes : Planes T) → HasRoom own_header planes → HasRoom h planes
-  unfolding plane_width plane_height shown_columns shown_rows xdec ydec
+  unfolding coded_width coded_height plane_width plane_height shown_columns shown_rows xdec ydec
   room_out planes r = record {
     y = record { columns = r.y.columns; rows = r.y.rows };
     u = record { columns = r.u.columns; rows = r.u.rows };
@@ -154,7 +154,7 @@ module _ {T : Type 0} (num : T → ℕ) (h : Header) (slots : Slots) (head : Fra
   }
 
   shown_in_own : (q : Planes T) → planes_shown num h q.y q.u q.v ≡ planes_shown num own_header q.y q.u q.v
-  unfolding plane_width plane_height shown_columns shown_rows xdec ydec
+  unfolding coded_width coded_height plane_width plane_height shown_columns shown_rows xdec ydec
   shown_in_own q = refl
 
   -- planes with the samples that a plan comes to show its frame

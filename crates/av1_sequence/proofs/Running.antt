@@ -15,7 +15,7 @@ use Rattle.av1_tile.specs.Output.{planes_of}
 use Rattle.av1_sequence.specs.declared.error.FrameFault.{FrameFault}
 use Rattle.av1_sequence.specs.declared.error.FrameFault.TheVariants as faults
 use Rattle.av1_sequence.specs.declared.head.FrameHead.{FrameHead}
-use Rattle.av1_sequence.specs.Files.{IsFirstRefused, Lead, RefusesEntry, TakesEntry}
+use Rattle.av1_sequence.specs.Files.{EntryFault, IsFirstRefused, Lead, RefusesEntry, RefusesFrame, TakesEntry, empty_slot, of_frame}
 use Rattle.av1_sequence.specs.Frames.{IsFramePlan, frame_header, frame_references, most_bytes, plan_bytes}
 use Rattle.av1_sequence.specs.Grammar.{EntryValue, FrameValue, again, coded}
 use Rattle.av1_sequence.specs.Kept.{Kept}
@@ -42,63 +42,57 @@ fault_clash plan fault none some =
     absurd cc
 
 -- and isn't refused then
-not_both : {X : Type 0} (k : Kept) (shown : Bool) (f : FrameValue) (plan : PlanValue) (fault : FrameFault) → IsValidFrame k f.head f.part plan →
-    RefusesEntry k (coded shown f) fault → X
-not_both k shown f plan faults.TooLarge valid over = not_both_ways (plan_bytes k.frames k.slots f.head f.part) most_bytes valid.short over
-not_both k shown f plan (faults.Malformed at) valid (short, refused) = absurd (refused.no_text plan valid.text)
-not_both k shown f plan (faults.Invalid leaf kind) valid (short, (other, (text, at))) =
+not_both : {X : Type 0} (k : Kept) (f : FrameValue) (plan : PlanValue) (fault : FrameFault) → IsValidFrame k f.head f.part plan → RefusesFrame k f fault → X
+not_both k f plan faults.TooLarge valid over = not_both_ways (plan_bytes k.frames k.slots f.head f.part) most_bytes valid.short over
+not_both k f plan (faults.Malformed at) valid (short, refused) = absurd (refused.no_text plan valid.text)
+not_both k f plan (faults.Invalid leaf kind) valid (short, (other, (text, at))) =
     fault_clash plan (record { leaf = leaf; kind = kind }) valid.valid (ap first_fault (one_text (format_of k f.head) f.part plan other valid.text text) ∙ at)
-not_both k shown f plan faults.EmptySlot valid none = absurd none
 
 abbrev fault_of : Option Invalid → FrameFault
 fault_of None = faults.TooLarge
 fault_of (Some fault) = faults.Invalid fault.leaf fault.kind
 
 -- a frame is refused for one fault
-one_fault : (k : Kept) (shown : Bool) (f : FrameValue) (a b : FrameFault) → RefusesEntry k (coded shown f) a → RefusesEntry k (coded shown f) b → a ≡ b
-one_fault k shown f faults.EmptySlot b none q = absurd none
-one_fault k shown f faults.TooLarge faults.TooLarge p q = refl
-one_fault k shown f faults.TooLarge (faults.Malformed at) over (short, q) =
+one_fault : (k : Kept) (f : FrameValue) (a b : FrameFault) → RefusesFrame k f a → RefusesFrame k f b → a ≡ b
+one_fault k f faults.TooLarge faults.TooLarge p q = refl
+one_fault k f faults.TooLarge (faults.Malformed at) over (short, q) =
     not_both_ways (plan_bytes k.frames k.slots f.head f.part) most_bytes short over
-one_fault k shown f faults.TooLarge (faults.Invalid leaf kind) over (short, q) =
+one_fault k f faults.TooLarge (faults.Invalid leaf kind) over (short, q) =
     not_both_ways (plan_bytes k.frames k.slots f.head f.part) most_bytes short over
-one_fault k shown f faults.TooLarge faults.EmptySlot over none = absurd none
-one_fault k shown f (faults.Malformed at) faults.TooLarge (short, p) over =
+one_fault k f (faults.Malformed at) faults.TooLarge (short, p) over =
     not_both_ways (plan_bytes k.frames k.slots f.head f.part) most_bytes short over
-one_fault k shown f (faults.Malformed a) (faults.Malformed b) (short, p) (also, q) =
+one_fault k f (faults.Malformed a) (faults.Malformed b) (short, p) (also, q) =
     ap (λ (at : ℕ). faults.Malformed at) (same_place (format_of k f.head) f.part a b p q)
-one_fault k shown f (faults.Malformed at) (faults.Invalid leaf kind) (short, p) (also, (plan, (text, fault))) = absurd (p.no_text plan text)
-one_fault k shown f (faults.Malformed at) faults.EmptySlot (short, p) none = absurd none
-one_fault k shown f (faults.Invalid leaf kind) faults.TooLarge (short, p) over =
+one_fault k f (faults.Malformed at) (faults.Invalid leaf kind) (short, p) (also, (plan, (text, fault))) = absurd (p.no_text plan text)
+one_fault k f (faults.Invalid leaf kind) faults.TooLarge (short, p) over =
     not_both_ways (plan_bytes k.frames k.slots f.head f.part) most_bytes short over
-one_fault k shown f (faults.Invalid leaf kind) (faults.Malformed at) (short, (plan, (text, fault))) (also, q) = absurd (q.no_text plan text)
-one_fault k shown f (faults.Invalid leaf kind) (faults.Invalid leaf_b kind_b) (short, (plan, (text, fault))) (also, (plan_b, (text_b, fault_b))) =
+one_fault k f (faults.Invalid leaf kind) (faults.Malformed at) (short, (plan, (text, fault))) (also, q) = absurd (q.no_text plan text)
+one_fault k f (faults.Invalid leaf kind) (faults.Invalid leaf_b kind_b) (short, (plan, (text, fault))) (also, (plan_b, (text_b, fault_b))) =
     ap fault_of (sym fault ∙ ap first_fault (one_text (format_of k f.head) f.part plan plan_b text text_b) ∙ fault_b)
-one_fault k shown f (faults.Invalid leaf kind) faults.EmptySlot (short, p) none = absurd none
 
 -- an entry is accepted, or refused
 abbrev Judged : Kept → EntryValue → Type 0
-Judged k e = ((one : List ℕ) × ((m : Kept) × TakesEntry k e one m)) ⊎ ((fault : FrameFault) × RefusesEntry k e fault)
+Judged k e = ((one : List ℕ) × ((m : Kept) × TakesEntry k e one m)) ⊎ ((fault : EntryFault) × RefusesEntry k e fault)
 
 judge_plan : (k : Kept) (shown : Bool) (f : FrameValue) (plan : PlanValue) → plan_bytes k.frames k.slots f.head f.part ≤ most_bytes →
     IsFramePlan k.frames k.slots f.head f.part plan → (fault : Option Invalid) → first_fault plan ≡ fault → Judged k (coded shown f)
 judge_plan k shown f plan short text None e =
     inl ((if shown then planes_of plan else []), (accepted k f.head plan, (plan, record { short = short; text = text; valid = e }, refl, refl)))
-judge_plan k shown f plan short text (Some fault) e = inr (faults.Invalid fault.leaf fault.kind, (short, (plan, (text, e))))
+judge_plan k shown f plan short text (Some fault) e = inr (of_frame (faults.Invalid fault.leaf fault.kind), (short, (plan, (text, e))))
 
 judge_text : (k : Kept) (shown : Bool) (f : FrameValue) → IsOfBytes (coded shown f) → plan_bytes k.frames k.slots f.head f.part ≤ most_bytes →
     (r : Result PlanValue ℕ) → read_all (format_of k f.head) (start f.part) ≡ r → Judged k (coded shown f)
 judge_text k shown f fits short (Ok plan) e = judge_plan k shown f plan short (all_found (format_of k f.head) f.part plan fits e) (first_fault plan) refl
-judge_text k shown f fits short (Err at) e = inr (faults.Malformed at, (short, all_refused (format_of k f.head) f.part at fits e))
+judge_text k shown f fits short (Err at) e = inr (of_frame (faults.Malformed at), (short, all_refused (format_of k f.head) f.part at fits e))
 
 judge_slot : (k : Kept) (slot refresh : ℕ) (held : Option Frame) → slot_of k.slots slot ≡ held → Judged k (again slot refresh)
-judge_slot k slot refresh None e = inr (faults.EmptySlot, e)
+judge_slot k slot refresh None e = inr (empty_slot, e)
 judge_slot k slot refresh (Some frame) e = inl (frame_text k.frames frame, (shown_again k refresh frame, (frame, e, refl, refl)))
 
 judge : (k : Kept) (e : EntryValue) → IsOfBytes e → Judged k e
 judge k (coded shown f) fits =
     elim (cases_lt most_bytes (plan_bytes k.frames k.slots f.head f.part)) [
-      | inl over ↦ inr (faults.TooLarge, over)
+      | inl over ↦ inr (of_frame faults.TooLarge, over)
       | inr short ↦ judge_text k shown f fits short (read_all (format_of k f.head) (start f.part)) refl
     ]
 judge k (again slot refresh) fits = judge_slot k slot refresh (slot_of k.slots slot) refl
@@ -115,32 +109,29 @@ taken_once k (again slot refresh) w v m n (frame, at, is, text) (other, at_b, is
     (text ∙ ap (λ (f : Frame). frame_text k.frames f) same ∙ sym text_b, is ∙ ap (λ (f : Frame). shown_again k refresh f) same ∙ sym is_b)
 
 -- and isn't refused then
-taken_not_refused : {X : Type 0} (k : Kept) (e : EntryValue) (w : List ℕ) (m : Kept) (fault : FrameFault) → TakesEntry k e w m → RefusesEntry k e fault → X
-taken_not_refused k (coded shown f) w m fault (plan, valid, is, text) why = not_both k shown f plan fault valid why
-taken_not_refused k (again slot refresh) w m faults.TooLarge taken none = absurd none
-taken_not_refused k (again slot refresh) w m (faults.Malformed at) taken none = absurd none
-taken_not_refused k (again slot refresh) w m (faults.Invalid leaf kind) taken none = absurd none
-taken_not_refused k (again slot refresh) w m faults.EmptySlot (frame, at, is, text) none =
+taken_not_refused : {X : Type 0} (k : Kept) (e : EntryValue) (w : List ℕ) (m : Kept) (fault : EntryFault) → TakesEntry k e w m → RefusesEntry k e fault → X
+taken_not_refused k (coded shown f) w m (of_frame fault) (plan, valid, is, text) why = not_both k f plan fault valid why
+taken_not_refused k (coded shown f) w m empty_slot taken none = absurd none
+taken_not_refused k (again slot refresh) w m (of_frame fault) taken none = absurd none
+taken_not_refused k (again slot refresh) w m empty_slot (frame, at, is, text) none =
     let clash : None ≡ Some frame = sym none ∙ at in
     absurd cc
 
 -- it is refused for one fault
-refused_once : (k : Kept) (e : EntryValue) (a b : FrameFault) → RefusesEntry k e a → RefusesEntry k e b → a ≡ b
-refused_once k (coded shown f) a b p q = one_fault k shown f a b p q
-refused_once k (again slot refresh) faults.TooLarge b none q = absurd none
-refused_once k (again slot refresh) (faults.Malformed at) b none q = absurd none
-refused_once k (again slot refresh) (faults.Invalid leaf kind) b none q = absurd none
-refused_once k (again slot refresh) faults.EmptySlot faults.TooLarge p none = absurd none
-refused_once k (again slot refresh) faults.EmptySlot (faults.Malformed at) p none = absurd none
-refused_once k (again slot refresh) faults.EmptySlot (faults.Invalid leaf kind) p none = absurd none
-refused_once k (again slot refresh) faults.EmptySlot faults.EmptySlot p q = refl
+refused_once : (k : Kept) (e : EntryValue) (a b : EntryFault) → RefusesEntry k e a → RefusesEntry k e b → a ≡ b
+refused_once k (coded shown f) (of_frame a) (of_frame b) p q = ap of_frame (one_fault k f a b p q)
+refused_once k (coded shown f) (of_frame a) empty_slot p none = absurd none
+refused_once k (coded shown f) empty_slot b none q = absurd none
+refused_once k (again slot refresh) (of_frame a) b none q = absurd none
+refused_once k (again slot refresh) empty_slot (of_frame b) p none = absurd none
+refused_once k (again slot refresh) empty_slot empty_slot p q = refl
 
 -- ---- entries one after the other
 
 -- what entries come to
 pub data End : Type 0 where
   accepted_all : End
-  refused_at : ℕ → FrameFault → End
+  refused_at : ℕ → EntryFault → End
 
 -- the same, with an entry in front
 abbrev later : End → End
@@ -153,7 +144,7 @@ Runs k entries written (refused_at i fault) = IsFirstRefused k entries i fault w
 
 -- what becomes of the entry in front
 data Step (k : Kept) (e : EntryValue) (entries : List EntryValue) (written : List ℕ) (end : End) : Type 0 where
-  refuses : (fault : FrameFault) → RefusesEntry k e fault → end ≡ refused_at 0 fault → written ≡ [] → Step k e entries written end
+  refuses : (fault : EntryFault) → RefusesEntry k e fault → end ≡ refused_at 0 fault → written ≡ [] → Step k e entries written end
   takes : (one : List ℕ) (m : Kept) → TakesEntry k e one m → (rest : List ℕ) (last : End) → Runs m entries rest last → end ≡ later last →
       written ≡ one ++ rest → Step k e entries written end
 

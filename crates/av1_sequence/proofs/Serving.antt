@@ -17,7 +17,7 @@ use Rattle.av1_frame.specs.Frames.{plane_of, slot_plane}
 use Rattle.av1_inter.specs.Reference.{slot_of as place_named}
 use Rattle.av1_lists.proofs.Lists.{get_or-by_index}
 use Rattle.av1_plan.specs.declared.header.Header.{Header}
-use Rattle.av1_plan.specs.Geometry.{follows_av1, has_slot}
+use Rattle.av1_plan.specs.Geometry.{coded_width, coded_height, follows_av1, has_slot}
 use Rattle.av1_plan.specs.Plan.{LeafValue, PlanValue, carried_plane}
 use Rattle.av1_plan.specs.ReadPlans.{IsReadFrame}
 use Rattle.av1_plan.specs.Validity.{has_reference}
@@ -43,6 +43,7 @@ mask_is h slots head s lt = bit_is (is_read head.slots slots) s lt
 
 -- the header of a frame's plan lies in its ranges
 pub read_header : (h : Header) (slots : Slots) (head : FrameHead) → AreFrames h → IsHead head → IsReadFrame (frame_header h slots head)
+unfolding coded_width coded_height
 read_header h slots head is own_head = record {
   least_version = is.least_version;
   most_version = is.most_version;

@@ -31,7 +31,7 @@ use Rattle.av1_sequence.specs.declared.file.Entry.{Entry}
 use Rattle.av1_sequence.specs.declared.head.FrameHead.{FrameHead}
 use Rattle.av1_sequence.specs.Errors.{frame_error}
 use Rattle.av1_sequence.specs.File.{IsReadEntry, entry_value}
-use Rattle.av1_sequence.specs.Files.{Answer, AreShown, IsFirstRefused, Lead, TakesEntry, beginning}
+use Rattle.av1_sequence.specs.Files.{Answer, AreShown, EntryFault, IsFirstRefused, Lead, RefusesEntry, TakesEntry, beginning, empty_slot, of_frame}
 use Rattle.av1_sequence.specs.Frames.{frame_header, frame_of, frame_references}
 use Rattle.av1_sequence.specs.Grammar.{EntryValue, FileValue, FrameValue, coded}
 use Rattle.av1_sequence.specs.Kept.{Kept}
@@ -148,14 +148,20 @@ module _ (f : FileValue) (index : ℕ) (entry : EntryValue) (at : slice_get f.en
   pub goes_on : ShowsEntry k index entry (Ok tt) k' b c → (w : List ℕ) × Lead (beginning f) (take (index + 1) f.entries) w k' × Appends a c w
   goes_on (one, taken, appended) = (written ++ one, one_more one taken, Appends-trans a b c written one before appended)
 
-  stops_by : (e : SequenceError) → ShowsEntry k index entry (Err e) k' b c → Shows f (Err e) a c
-  stops_by (errors.Frame i fault) (is, why, none) =
+  -- it was refused
+  first_refused : (i : ℕ) (fault : EntryFault) → i ≡ index → RefusesEntry k entry fault → Appends b c [] →
+      (w : List ℕ) × IsFirstRefused (beginning f) f.entries i fault w × Appends a c w
+  first_refused i fault is why none =
       let here : IsFirstRefused (beginning f) f.entries index fault written =
       record { kept = k; before = lead; entry = entry; at = at; refused = why } in (
         written,
         subst (λ (n : ℕ). IsFirstRefused (beginning f) f.entries n fault written) (sym is) here,
         no_more a c written (Appends-trans a b c written [] before none),
       )
+
+  stops_by : (e : SequenceError) → ShowsEntry k index entry (Err e) k' b c → Shows f (Err e) a c
+  stops_by (errors.Frame i fault) (is, why, none) = first_refused i (of_frame fault) is why none
+  stops_by (errors.EmptySlot i) (is, why, none) = first_refused i empty_slot is why none
   stops_by errors.WriteFault (one, taken, prefix) =
       let here : AreShown (beginning f) f.entries (index + 1) (written ++ one) =
       record { within = omega (arith, slice_get_within f.entries index entry at); kept = k'; lead = one_more one taken } in (
@@ -193,6 +199,7 @@ pub no_read : (f : FileValue) (answer : Answer) (a b : Option (List ℕ)) → Sh
     IfErr answer (λ e. (cause_of e ≢ read_failed) × (cause_of e ≢ too_long))
 no_read f (Ok u) a b shows = tt
 no_read f (Err (errors.Frame i fault)) a b shows = (λ h. absurd cc, λ h. absurd cc)
+no_read f (Err (errors.EmptySlot i)) a b shows = (λ h. absurd cc, λ h. absurd cc)
 no_read f (Err errors.WriteFault) a b shows = (λ h. absurd cc, λ h. absurd cc)
 no_read f (Err errors.Memory) a b shows = (λ h. absurd cc, λ h. absurd cc)
 no_read f (Err errors.ReadFault) a b shows = absurd shows
@@ -202,6 +209,7 @@ no_read f (Err (errors.Malformed at)) a b shows = absurd shows
 pub in_frames : {X : Type 0} (f : FileValue) (answer : Answer) (a b : Option (List ℕ)) → Shows f answer a b → IsErrAnd answer IsBeforeFrames → X
 in_frames f (Ok u) a b shows h = absurd h
 in_frames f (Err (errors.Frame i fault)) a b shows h = absurd h
+in_frames f (Err (errors.EmptySlot i)) a b shows h = absurd h
 in_frames f (Err errors.WriteFault) a b shows h = absurd h
 in_frames f (Err errors.Memory) a b shows h = absurd h
 in_frames f (Err errors.ReadFault) a b shows h = absurd shows

@@ -10,7 +10,7 @@ use Rattle.av1_sequence.specs.declared.error.FrameFault.{FrameFault}
 use Rattle.av1_sequence.specs.declared.error.FrameFault.TheVariants as faults
 use Rattle.av1_sequence.specs.declared.error.SequenceError.{SequenceError}
 use Rattle.av1_sequence.specs.declared.error.SequenceError.TheVariants as errors
-use Rattle.av1_sequence.specs.Grammar.{EntryValue, FileValue, again, coded, read_file}
+use Rattle.av1_sequence.specs.Grammar.{EntryValue, FileValue, FrameValue, again, coded, read_file}
 use Rattle.av1_sequence.specs.Kept.{Kept}
 use Rattle.av1_sequence.specs.Outcomes.{IsValidFrame, Refuses, accepted, empty_sequence, shown_again}
 use Rattle.av1_sequence.specs.Output.{frame_text}
@@ -38,16 +38,22 @@ Lead k [] written k' = (written ≡ []) × (k' ≡ k)
 Lead k (e ∷ entries) written k' = (one : List ℕ) × ((m : Kept) × TakesEntry k e one m ×
     ((rest : List ℕ) × Lead m entries rest k' × (written ≡ one ++ rest)))
 
--- why an entry is refused: a frame as its call is, and the frame of a slot where the slot is empty
-abbrev pub RefusesEntry : Kept → EntryValue → FrameFault → Type 0
-RefusesEntry k (coded shown f) faults.TooLarge = Refuses k f.head f.part frame_errors.TooLarge
-RefusesEntry k (coded shown f) (faults.Malformed at) = Refuses k f.head f.part (frame_errors.Malformed at)
-RefusesEntry k (coded shown f) (faults.Invalid leaf kind) = Refuses k f.head f.part (frame_errors.Invalid leaf kind)
-RefusesEntry k (coded shown f) faults.EmptySlot = ⊥
-RefusesEntry k (again slot refresh) faults.TooLarge = ⊥
-RefusesEntry k (again slot refresh) (faults.Malformed at) = ⊥
-RefusesEntry k (again slot refresh) (faults.Invalid leaf kind) = ⊥
-RefusesEntry k (again slot refresh) faults.EmptySlot = slot_of k.slots slot ≡ None
+-- why a frame is refused: as its call is
+abbrev pub RefusesFrame : Kept → FrameValue → FrameFault → Type 0
+RefusesFrame k f faults.TooLarge = Refuses k f.head f.part frame_errors.TooLarge
+RefusesFrame k f (faults.Malformed at) = Refuses k f.head f.part (frame_errors.Malformed at)
+RefusesFrame k f (faults.Invalid leaf kind) = Refuses k f.head f.part (frame_errors.Invalid leaf kind)
+
+-- why an entry is refused: as the frame that it is, or because the slot is empty whose frame is to be shown again
+pub data EntryFault : Type 0 where
+  of_frame : FrameFault → EntryFault
+  empty_slot : EntryFault
+
+abbrev pub RefusesEntry : Kept → EntryValue → EntryFault → Type 0
+RefusesEntry k (coded shown f) (of_frame fault) = RefusesFrame k f fault
+RefusesEntry k (coded shown f) empty_slot = ⊥
+RefusesEntry k (again slot refresh) (of_frame fault) = ⊥
+RefusesEntry k (again slot refresh) empty_slot = slot_of k.slots slot ≡ None
 
 -- The first n entries are accepted, and these bytes are written of them.
 pub record AreShown (k : Kept) (entries : List EntryValue) (n : ℕ) (written : List ℕ) : Type 0 where
@@ -56,7 +62,7 @@ pub record AreShown (k : Kept) (entries : List EntryValue) (n : ℕ) (written : 
   pub lead : Lead k (take n entries) written kept
 
 -- Entry i is the first that is refused, and why; these bytes are written of those before it.
-pub record IsFirstRefused (k : Kept) (entries : List EntryValue) (i : ℕ) (fault : FrameFault)
+pub record IsFirstRefused (k : Kept) (entries : List EntryValue) (i : ℕ) (fault : EntryFault)
     (written : List ℕ) : Type 0 where
   pub kept : Kept
   pub before : Lead k (take i entries) written kept
@@ -85,7 +91,9 @@ HasOutcome bytes written (Err errors.TooLong) = (max_plan_bytes < length bytes) 
 HasOutcome bytes written (Err (errors.Malformed at)) = (length bytes ≤ max_plan_bytes) × (read_file bytes ≡ Err at) ×
     (written ≡ [])
 HasOutcome bytes written (Err (errors.Frame i fault)) =
-    (f : FileValue) × AreFile bytes f × IsFirstRefused (beginning f) f.entries i fault written
+    (f : FileValue) × AreFile bytes f × IsFirstRefused (beginning f) f.entries i (of_frame fault) written
+HasOutcome bytes written (Err (errors.EmptySlot i)) =
+    (f : FileValue) × AreFile bytes f × IsFirstRefused (beginning f) f.entries i empty_slot written
 HasOutcome bytes written (Err errors.ReadFault) = ⊥
 HasOutcome bytes written (Err errors.WriteFault) = ⊥
 HasOutcome bytes written (Err errors.Memory) = ⊥

@@ -9,7 +9,7 @@ use Rattle.av1_frame.specs.Planes.{sample_at, with_sides}
 use Rattle.av1_lists.specs.Lists.{by_index}
 use Rattle.av1_plan.specs.declared.header.Header.{Header}
 use Rattle.av1_plan.specs.Grammar.{is_depth}
-use Rattle.av1_plan.specs.Geometry.{plane_width, plane_height, shown_columns, shown_rows}
+use Rattle.av1_plan.specs.Geometry.{plane_width, plane_height, shown_columns, shown_rows, coded_width, coded_height}
 use Rattle.av1_plan.specs.ReadPlans.{IsSide, IsShown}
 use Rattle.av1_references.specs.References.{HoldsPlane}
 use Rattle.av1_tile.specs.declared.planes.Planes.{Planes}
@@ -76,10 +76,10 @@ pub record IsKeptAt {T : Type 0} (num : T → ℕ) (h : Header) (fi : FrameInvar
 pub record AreFrames (h : Header) : Type 0 where
   pub least_version : 1 ≤ h.version
   pub most_version : h.version ≤ 3
-  pub width : IsSide h.width
-  pub height : IsSide h.height
-  pub shown_width : IsShown h.version h.shown_width h.width
-  pub shown_height : IsShown h.version h.shown_height h.height
+  pub width : IsSide (coded_width h)
+  pub height : IsSide (coded_height h)
+  pub shown_width : IsShown h.version h.width (coded_width h)
+  pub shown_height : IsShown h.version h.height (coded_height h)
   pub depth : is_depth h.depth ≡ true
   pub sampling : h.sampling ≤ 2
 

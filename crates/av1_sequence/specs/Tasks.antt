@@ -9,7 +9,7 @@ use Rattle.av1_streams.specs.Tasks.{Cause, read_failed, too_long, refused, write
 use Rattle.av1_sequence.specs.declared.error.SequenceError.{SequenceError}
 use Rattle.av1_sequence.specs.declared.error.SequenceError.TheVariants as errors
 use Rattle.av1_sequence.specs.Files.{Answer, AreShown, AreWholeFrames, HasOutcome, IsFirstRefused, Lead, RefusesEntry}
-use Rattle.av1_sequence.specs.Files.{TakesEntry, beginning}
+use Rattle.av1_sequence.specs.Files.{TakesEntry, beginning, empty_slot, of_frame}
 use Rattle.av1_sequence.specs.Grammar.{EntryValue, FileValue}
 use Rattle.av1_sequence.specs.Kept.{Kept}
 use Rattle.av1_sequence.specs.Output.{frame_text}
@@ -21,6 +21,7 @@ cause_of errors.ReadFault = read_failed
 cause_of errors.TooLong = too_long
 cause_of (errors.Malformed at) = refused
 cause_of (errors.Frame i fault) = refused
+cause_of (errors.EmptySlot i) = refused
 cause_of errors.WriteFault = write_failed
 cause_of errors.Memory = no_memory
 
@@ -54,6 +55,7 @@ IsBeforeFrames errors.ReadFault = ⊤
 IsBeforeFrames errors.TooLong = ⊤
 IsBeforeFrames (errors.Malformed at) = ⊤
 IsBeforeFrames (errors.Frame i fault) = ⊥
+IsBeforeFrames (errors.EmptySlot i) = ⊥
 IsBeforeFrames errors.WriteFault = ⊥
 IsBeforeFrames errors.Memory = ⊥
 
@@ -119,7 +121,10 @@ abbrev pub Shows : FileValue → Answer → Option (List ℕ) → Option (List �
 Shows f (Ok done) taken taken' = (written : List ℕ) × ((k : Kept) × Lead (beginning f) f.entries written k) ×
     Appends taken taken' written
 Shows f (Err (errors.Frame i fault)) taken taken' =
-    (written : List ℕ) × IsFirstRefused (beginning f) f.entries i fault written × Appends taken taken' written
+    (written : List ℕ) × IsFirstRefused (beginning f) f.entries i (of_frame fault) written ×
+    Appends taken taken' written
+Shows f (Err (errors.EmptySlot i)) taken taken' =
+    (written : List ℕ) × IsFirstRefused (beginning f) f.entries i empty_slot written × Appends taken taken' written
 Shows f (Err errors.WriteFault) taken taken' =
     (written : List ℕ) × ((n : ℕ) × AreShown (beginning f) f.entries n written) × AppendsPrefix taken taken' written
 Shows f (Err errors.Memory) taken taken' = (written : List ℕ) × ((n : ℕ) × AreShown (beginning f) f.entries n written) ×
@@ -133,7 +138,9 @@ abbrev pub ShowsEntry : Kept → (index : ℕ) → EntryValue → Answer → Kep
 ShowsEntry k index e (Ok done) k' taken taken' =
     (written : List ℕ) × TakesEntry k e written k' × Appends taken taken' written
 ShowsEntry k index e (Err (errors.Frame i fault)) k' taken taken' =
-    (i ≡ index) × RefusesEntry k e fault × Appends taken taken' []
+    (i ≡ index) × RefusesEntry k e (of_frame fault) × Appends taken taken' []
+ShowsEntry k index e (Err (errors.EmptySlot i)) k' taken taken' =
+    (i ≡ index) × RefusesEntry k e empty_slot × Appends taken taken' []
 ShowsEntry k index e (Err errors.WriteFault) k' taken taken' =
     (written : List ℕ) × TakesEntry k e written k' × AppendsPrefix taken taken' written
 ShowsEntry k index e (Err errors.Memory) k' taken taken' = Appends taken taken' []

@@ -31,7 +31,7 @@ impl From<OutOfMemory> for FrameError {
     }
 }
 
-/// Why an entry of a sequence is refused.
+/// Why a frame of a sequence is rejected.
 #[derive(Copy, Clone, Debug, PartialEq, Eq)]
 pub enum FrameFault {
     /// Its plan, with the reference samples of the slots that it reads, would have more than 64 MiB.
@@ -41,8 +41,6 @@ pub enum FrameFault {
     Malformed { at: u32 },
     /// Leaf number `leaf`, counted from 0 in coding order, is the first that is refused, and why.
     Invalid { leaf: u32, kind: InvalidKind },
-    /// The slot whose frame is to be shown again is empty.
-    EmptySlot,
 }
 
 /// Why a sequence of frames was not reconstructed and written to its end.
@@ -55,9 +53,12 @@ pub enum SequenceError {
     /// The field that begins at byte `at` is cut, has a value that is not admitted, or is left over after the end. The
     /// part of a frame is one field.
     Malformed { at: u32 },
-    /// Entry number `frame`, counted from 0, is the first that is refused, and why. The frames that are shown before it
-    /// were written.
+    /// Entry number `frame`, counted from 0, is the first that is rejected. It is a frame, and `fault` says why. The
+    /// frames that are shown before it were written.
     Frame { frame: u16, fault: FrameFault },
+    /// Entry number `frame`, counted from 0, is the first that is rejected. It shows a slot again that is empty. The
+    /// frames that are shown before it were written.
+    EmptySlot { frame: u16 },
     /// A write failed. A prefix of what was to be written stands.
     WriteFault,
     /// Memory ran out. Some first frames that are shown were written, each whole.

@@ -192,8 +192,8 @@ impl<T: Pixel> Pictures<T> {
     {
         let fi = FrameInvariants::new(
             alloc,
-            usize::from(header.width),
-            usize::from(header.height),
+            header.coded_width(),
+            header.coded_height(),
             header.filter,
             usize::from(header.depth),
             header.edge_filter,
@@ -249,8 +249,6 @@ impl<T: Pixel> Pictures<T> {
             version: self.header.version,
             width: self.header.width,
             height: self.header.height,
-            shown_width: self.header.shown_width,
-            shown_height: self.header.shown_height,
             depth: self.header.depth,
             sampling: self.header.sampling,
             filter: head.filter,
@@ -283,7 +281,7 @@ impl<T: Pixel> Pictures<T> {
             ServesPlan T.num plan self.new.fi }
     {
         self.fi.default_filter = head.filter;
-        self.fi.short_by_av1 = self.header.follows_av1();
+        self.fi.follow_av1(self.header.follows_av1());
         self.fi.enable_intra_edge_filter = head.edge_filter;
         self.fi.ref_frames = places_of(&self.places, &head.slots);
     }

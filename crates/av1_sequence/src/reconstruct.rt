@@ -25,10 +25,10 @@ use std::alloc::Global;
 ///
 /// # Errors
 ///
-/// `ReadFault` and `TooLong` while it reads, then `Malformed`, before anything is written. `Frame` names the first
-/// entry that is refused: the planes of the frames that are shown before it were written. `WriteFault` where a write
-/// fails, and a prefix of what was to be written stands. `Memory` may stand in place of any of them: the planes of some
-/// first frames that are shown were written, each whole.
+/// `ReadFault` and `TooLong` while it reads, then `Malformed`, before anything is written. `Frame` or `EmptySlot` names
+/// the first entry that is refused: the planes of the frames that are shown before it were written. `WriteFault` where
+/// a write fails, and a prefix of what was to be written stands. `Memory` may stand in place of any of them: the planes
+/// of some first frames that are shown were written, each whole.
 pub fn reconstruct_sequence<R: Source, W: Sink>(
     alloc: Global,
     source: &mut R,
@@ -138,11 +138,10 @@ fn take_entry<T: Pixel>(
 /// The refusal of entry number `index` where the slot is empty whose frame is to be shown again.
 fn empty_slot(index: usize) -> SequenceError
     requires { index < 65536 }
-    ensures { result ≡ SequenceError.Frame index FrameFault.EmptySlot }
+    ensures { result ≡ SequenceError.EmptySlot index }
 {
-    SequenceError::Frame {
+    SequenceError::EmptySlot {
         frame: index as u16,
-        fault: FrameFault::EmptySlot,
     }
 }
 

@@ -16,7 +16,7 @@ use crate::leaves::read_leaves;
 use crate::pictures::Pictures;
 use av1_blocks::{FilterMode, OutOfMemory};
 use av1_frame::{Pixel, Plane};
-use av1_plan::{Header, Leaves, coded_side};
+use av1_plan::{Header, Leaves};
 use av1_tile::{Planes, WalkMemory, visible_row};
 use std::alloc::Global;
 use std::marker::Model;
@@ -150,10 +150,8 @@ impl<T: Pixel> SequenceOf<T> {
     {
         let header = Header {
             version,
-            width: coded_side(width),
-            height: coded_side(height),
-            shown_width: width,
-            shown_height: height,
+            width,
+            height,
             depth,
             sampling,
             filter: FilterMode::REGULAR,

@@ -17,7 +17,7 @@ use Rattle.av1_order.proofs.Plans.{halved_x, halved_y, luma_x, luma_y}
 use Rattle.av1_order.proofs.Sizes.{block_some, block_units}
 use Rattle.av1_plan.specs.ReadPlans.{IsReadFrame}
 use Rattle.av1_plan.specs.CodingOrder.{IsOnGrid}
-use Rattle.av1_plan.specs.Geometry.{xdec, ydec, plane_area, plane_tx_size, carries_chroma, is_inside}
+use Rattle.av1_plan.specs.Geometry.{xdec, ydec, plane_area, plane_tx_size, carries_chroma, is_inside, coded_width, coded_height}
 use Rattle.av1_plan.specs.Plan.{LeafValue}
 use Rattle.av1_plan.specs.Validity.{has_block_size}
 use Rattle.av1_plan.proofs.ValidLeaves.{IsValidLeaf}
@@ -109,11 +109,11 @@ module _ (h : Header) (leaf : LeafValue) (frame : IsReadFrame h) (grid : IsOnGri
       let (narrow, short) = small_sides h leaf.size leaf.kind (valid_modes h leaf valid) is in
       one_transform leaf.size (xdec h 1) (ydec h 1) (halved_x h 1) (halved_y h 1) narrow short valid.size
 
-  inside : (leaf.x < h.width) × (leaf.y < h.height)
+  inside : (leaf.x < coded_width h) × (leaf.y < coded_height h)
   unfolding is_inside
   inside =
-      let (column, row) = and_parts (nat_lt leaf.x h.width) (nat_lt leaf.y h.height) grid.within in
-      (ltb-true leaf.x h.width column, ltb-true leaf.y h.height row)
+      let (column, row) = and_parts (nat_lt leaf.x (coded_width h)) (nat_lt leaf.y (coded_height h)) grid.within in
+      (ltb-true leaf.x (coded_width h) column, ltb-true leaf.y (coded_height h) row)
 
   -- its chroma can be predicted from the luma of a plane that has room for whole superblocks
   pub luma_fits : (cfg : PlaneConfig) → carries_chroma h leaf.x leaf.y leaf.size ≡ true → HasRoomIn h 0 cfg → LumaFits h cfg leaf
@@ -129,16 +129,16 @@ module _ (h : Header) (leaf : LeafValue) (frame : IsReadFrame h) (grid : IsOnGri
       let before_y = after_four (ydec h 1) (block_height leaf.size) leaf.y carried_y low in
       let read_x = read_within (xdec h 1) (block_width leaf.size) leaf.x (halved_x h 1) before_x columns some_columns in
       let read_y = read_within (ydec h 1) (block_height leaf.size) leaf.y low before_y rows some_rows in
-      let room_x : cfg.xorigin + next_multiple_of h.width 64 ≤ cfg.stride = rw (luma_x h 0 refl, luma_width h) at roomy.columns in
-      let room_y : cfg.yorigin + next_multiple_of h.height 64 ≤ cfg.alloc_height = rw (luma_y h 0 refl, luma_height h) at roomy.rows in
+      let room_x : cfg.xorigin + next_multiple_of (coded_width h) 64 ≤ cfg.stride = rw (luma_x h 0 refl, luma_width h) at roomy.columns in
+      let room_y : cfg.yorigin + next_multiple_of (coded_height h) 64 ≤ cfg.alloc_height = rw (luma_y h 0 refl, luma_height h) at roomy.rows in
       record {
         narrow = before_x;
         low = before_y;
         width = transform.width;
         height = transform.height;
         few = transform.few;
-        columns = fits_in cfg.xorigin cfg.stride _ _ _ leaf.x (block_width leaf.size) h.width read_x inside.0 grid.end_x room_x;
-        rows = fits_in cfg.yorigin cfg.alloc_height _ _ _ leaf.y (block_height leaf.size) h.height read_y inside.1 grid.end_y room_y;
+        columns = fits_in cfg.xorigin cfg.stride _ _ _ leaf.x (block_width leaf.size) (coded_width h) read_x inside.0 grid.end_x room_x;
+        rows = fits_in cfg.yorigin cfg.alloc_height _ _ _ leaf.y (block_height leaf.size) (coded_height h) read_y inside.1 grid.end_y room_y;
         depth = shallow h.depth frame.depth;
       }
 

@@ -4,7 +4,7 @@ use Rattle.std.specs.Int.{next_multiple_of}
 use Rattle.av1_frame.specs.declared.plane.Plane.{Plane}
 use Rattle.av1_frame.specs.declared.plane.PlaneConfig.{PlaneConfig}
 use Rattle.av1_plan.specs.declared.header.Header.{Header}
-use Rattle.av1_plan.specs.Geometry.{xdec, ydec, plane_width, plane_height, shown_columns, shown_rows}
+use Rattle.av1_plan.specs.Geometry.{xdec, ydec, plane_width, plane_height, shown_columns, shown_rows, coded_side, coded_width, coded_height}
 use Rattle.av1_tile.specs.Memory.{HasRoomFor, WalkRoom}
 use Rattle.av1_tile.specs.State.{AreAlike, IsSound, Picture}
 use Rattle.av1_tile.specs.Walk.{Stores, StoresAll, HasRoomIn, HasRoom}
@@ -18,8 +18,6 @@ pub alike_same : (h k : Header) → h ≡ k → AreAlike h k
 alike_same h k same = record {
   width = ap (λ (g : Header). g.width) same;
   height = ap (λ (g : Header). g.height) same;
-  shown_width = ap (λ (g : Header). g.shown_width) same;
-  shown_height = ap (λ (g : Header). g.shown_height) same;
   depth = ap (λ (g : Header). g.depth) same;
   sampling = ap (λ (g : Header). g.sampling) same;
 }
@@ -36,21 +34,29 @@ module _ (h k : Header) (alike : AreAlike h k) where
   ydec_same zero = refl
   ydec_same (suc p) = ap (λ (s : ℕ). if s == 0 then 1 else 0) alike.sampling
 
+  across_same : coded_width h ≡ coded_width k
+  unfolding coded_width
+  across_same = ap coded_side alike.width
+
+  down_same : coded_height h ≡ coded_height k
+  unfolding coded_height
+  down_same = ap coded_side alike.height
+
   width_same : (p : ℕ) → plane_width h p ≡ plane_width k p
   unfolding plane_width
-  width_same p = ap₂ (λ (n d : ℕ). n / 2 ^ d) alike.width (xdec_same p)
+  width_same p = ap₂ (λ (n d : ℕ). n / 2 ^ d) across_same (xdec_same p)
 
   height_same : (p : ℕ) → plane_height h p ≡ plane_height k p
   unfolding plane_height
-  height_same p = ap₂ (λ (n d : ℕ). n / 2 ^ d) alike.height (ydec_same p)
+  height_same p = ap₂ (λ (n d : ℕ). n / 2 ^ d) down_same (ydec_same p)
 
   columns_same : (p : ℕ) → shown_columns h p ≡ shown_columns k p
   unfolding shown_columns
-  columns_same p = ap₂ (λ (n d : ℕ). (n + d) / 2 ^ d) alike.shown_width (xdec_same p)
+  columns_same p = ap₂ (λ (n d : ℕ). (n + d) / 2 ^ d) alike.width (xdec_same p)
 
   rows_same : (p : ℕ) → shown_rows h p ≡ shown_rows k p
   unfolding shown_rows
-  rows_same p = ap₂ (λ (n d : ℕ). (n + d) / 2 ^ d) alike.shown_height (ydec_same p)
+  rows_same p = ap₂ (λ (n d : ℕ). (n + d) / 2 ^ d) alike.height (ydec_same p)
 
   -- a plane that stores its part of one frame stores that of the other
   stores_same : {T : Type 0} (num : T → ℕ) (p : ℕ) (plane : Plane T) → Stores num h p plane → Stores num k p plane
@@ -76,8 +82,8 @@ module _ (h k : Header) (alike : AreAlike h k) where
   -- memory with room for one frame has room for the other
   pub memory_alike : (memory after : WalkRoom) → after.cells ≡ memory.cells → HasRoomFor h memory → HasRoomFor k after
   memory_alike memory after cells room =
-      subst (λ (n : ℕ). k.height / 4 * (k.width / 4) ≤ n) (sym cells)
-      (subst (λ (n : ℕ). n ≤ memory.cells) (ap₂ (λ (rows columns : ℕ). rows / 4 * (columns / 4)) alike.height alike.width) room)
+      subst (λ (n : ℕ). coded_height k / 4 * (coded_width k / 4) ≤ n) (sym cells)
+      (subst (λ (n : ℕ). n ≤ memory.cells) (ap₂ (λ (rows columns : ℕ). rows / 4 * (columns / 4)) down_same across_same) room)
 
 -- a sound state is sound for each header that is alike to its own
 pub sound_alike : {T : Type 0} (num : T → ℕ) (s r : Picture T) → AreAlike s.header r.header → r.planes ≡ s.planes → IsSound num s → IsSound num r

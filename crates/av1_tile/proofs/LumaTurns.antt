@@ -20,7 +20,7 @@ use Rattle.av1_order.proofs.Cuts.{cut_faultless}
 use Rattle.av1_order.proofs.Plans.{halved_x, halved_y, in_plane_block}
 use Rattle.av1_plan.proofs.ValidLeaves.{IsValidLeaf, valid_leaf}
 use Rattle.av1_plan.proofs.ValidModes.{valid_modes}
-use Rattle.av1_plan.specs.Geometry.{xdec, ydec, carries_chroma, plane_width, plane_height, plane_size}
+use Rattle.av1_plan.specs.Geometry.{xdec, ydec, carries_chroma, plane_width, plane_height, plane_size, coded_width, coded_height}
 use Rattle.av1_plan.specs.Plan.{LeafValue}
 use Rattle.av1_plan.specs.declared.header.Header.{Header}
 use Rattle.av1_tile.specs.Canvas.{Y}
@@ -137,9 +137,9 @@ module _ (h : Header) (earlier : List LeafValue) (leaf : LeafValue) (later : Lis
       let column =
       is_over (xdec h 1) (plane_side (block_width leaf.size) (xdec h 1)) (chroma_block (luma_of h (luma_block leaf))).last_column x (halved_x h 1) hx in
       let row = is_over (ydec h 1) (plane_side (block_height leaf.size) (ydec h 1)) (chroma_block (luma_of h (luma_block leaf))).last_row y low hy in
-      let across = over_same (xdec h 1) (block_width leaf.size) leaf.x h.width (plane_width h 0) (tx_width leaf.tx_size) (halved_x h 1) (luma_width h)
+      let across = over_same (xdec h 1) (block_width leaf.size) leaf.x (coded_width h) (plane_width h 0) (tx_width leaf.tx_size) (halved_x h 1) (luma_width h)
       (multiple_across leaf.tx_size) _ x column in
-      let down = over_same (ydec h 1) (block_height leaf.size) leaf.y h.height (plane_height h 0) (tx_height leaf.tx_size) low (luma_height h)
+      let down = over_same (ydec h 1) (block_height leaf.size) leaf.y (coded_height h) (plane_height h 0) (tx_height leaf.tx_size) low (luma_height h)
       (multiple_down leaf.tx_size) _ y row in
       let law = luma_is_written h earlier leaf later is carried narrow short quarter (x / 2 ^ xdec h 1) (y / 2 ^ ydec h 1)
       (subst (λ (n : ℕ). x / 2 ^ xdec h 1 < n) (side_across leaf.size (xdec h 1) (halved_x h 1) ∙ sym plane.width) column.place)

@@ -28,7 +28,7 @@ use Rattle.av1_order.proofs.Plans.{halved_x, halved_y}
 use Rattle.av1_order.proofs.Sizes.{block_some}
 use Rattle.av1_plan.specs.ReadPlans.{IsOtherFrame, IsReadFrame, IsReadLeaf, IsReadKind}
 use Rattle.av1_plan.specs.CodingOrder.{IsOnGrid}
-use Rattle.av1_plan.specs.Geometry.{xdec, ydec, plane_width, plane_height, plane_area, carries_chroma, plane_tx_size, is_inside}
+use Rattle.av1_plan.specs.Geometry.{xdec, ydec, plane_width, plane_height, plane_area, carries_chroma, plane_tx_size, is_inside, coded_width, coded_height}
 use Rattle.av1_plan.specs.Grammar.{plan as grammar}
 use Rattle.av1_plan.specs.Plan.{LeafValue, PlanValue}
 use Rattle.av1_plan.specs.Spelling.{IsSpelled}
@@ -67,11 +67,11 @@ low_ydec h p = omega (arith, halved_x h p, halved_y h p)
 
 pub across : (h : Header) (p : ℕ) → IsReadFrame h → (0 < plane_width h p) × (plane_width h p ≤ 65536)
 unfolding plane_width
-across h p is = plane_side h.width (xdec h p) (halved_x h p) is.width.least is.width.most
+across h p is = plane_side (coded_width h) (xdec h p) (halved_x h p) is.width.least is.width.most
 
 pub down : (h : Header) (p : ℕ) → IsReadFrame h → (0 < plane_height h p) × (plane_height h p ≤ 65536)
 unfolding plane_height
-down h p is = plane_side h.height (ydec h p) (low_ydec h p) is.height.least is.height.most
+down h p is = plane_side (coded_height h) (ydec h p) (low_ydec h p) is.height.least is.height.most
 
 -- ---- places
 
@@ -82,15 +82,15 @@ ends_within zero w b c h whole some e = omega (arith, whole, some, e)
 ends_within (suc zero) w b c h whole some e = omega (arith, whole, some, e)
 ends_within (suc (suc s)) w b c h whole some e = absurd (omega arith)
 
-ends_across : (h : Header) (p b c : ℕ) → IsReadFrame h → 0 < c → b + c ≤ 16 * ((h.width / 4 + 15) / 16) →
+ends_across : (h : Header) (p b c : ℕ) → IsReadFrame h → 0 < c → b + c ≤ 16 * ((coded_width h / 4 + 15) / 16) →
     4 * ((b - b % 2 ^ xdec h p) / 2 ^ xdec h p) + 4 * (max c (2 ^ xdec h p) / 2 ^ xdec h p) ≤ next_multiple_of (plane_width h p) (64 / 2 ^ xdec h p)
 unfolding plane_width
-ends_across h p b c is some e = ends_within (xdec h p) h.width b c (halved_x h p) is.width.whole some e
+ends_across h p b c is some e = ends_within (xdec h p) (coded_width h) b c (halved_x h p) is.width.whole some e
 
-ends_down : (h : Header) (p b c : ℕ) → IsReadFrame h → 0 < c → b + c ≤ 16 * ((h.height / 4 + 15) / 16) →
+ends_down : (h : Header) (p b c : ℕ) → IsReadFrame h → 0 < c → b + c ≤ 16 * ((coded_height h / 4 + 15) / 16) →
     4 * ((b - b % 2 ^ ydec h p) / 2 ^ ydec h p) + 4 * (max c (2 ^ ydec h p) / 2 ^ ydec h p) ≤ next_multiple_of (plane_height h p) (64 / 2 ^ ydec h p)
 unfolding plane_height
-ends_down h p b c is some e = ends_within (ydec h p) h.height b c (low_ydec h p) is.height.whole some e
+ends_down h p b c is some e = ends_within (ydec h p) (coded_height h) b c (low_ydec h p) is.height.whole some e
 
 -- A leaf that begins in the frame does in a plane too.
 begins_within : (s w b : ℕ) → s ≤ 1 → w % 8 ≡ 0 → b < w / 4 → 4 * ((b - b % 2 ^ s) / 2 ^ s) < w / 2 ^ s
@@ -98,24 +98,25 @@ begins_within zero w b h whole e = omega (arith, whole, e)
 begins_within (suc zero) w b h whole e = omega (arith, whole, e)
 begins_within (suc (suc s)) w b h whole e = absurd (omega arith)
 
-begins_across : (h : Header) (p b : ℕ) → IsReadFrame h → b < h.width / 4 → 4 * ((b - b % 2 ^ xdec h p) / 2 ^ xdec h p) < plane_width h p
+begins_across : (h : Header) (p b : ℕ) → IsReadFrame h → b < coded_width h / 4 → 4 * ((b - b % 2 ^ xdec h p) / 2 ^ xdec h p) < plane_width h p
 unfolding plane_width
-begins_across h p b is e = begins_within (xdec h p) h.width b (halved_x h p) is.width.whole e
+begins_across h p b is e = begins_within (xdec h p) (coded_width h) b (halved_x h p) is.width.whole e
 
-begins_down : (h : Header) (p b : ℕ) → IsReadFrame h → b < h.height / 4 → 4 * ((b - b % 2 ^ ydec h p) / 2 ^ ydec h p) < plane_height h p
+begins_down : (h : Header) (p b : ℕ) → IsReadFrame h → b < coded_height h / 4 → 4 * ((b - b % 2 ^ ydec h p) / 2 ^ ydec h p) < plane_height h p
 unfolding plane_height
-begins_down h p b is e = begins_within (ydec h p) h.height b (low_ydec h p) is.height.whole e
+begins_down h p b is e = begins_within (ydec h p) (coded_height h) b (low_ydec h p) is.height.whole e
 
 -- a leaf begins in the frame, and ends in a superblock that does
 record StandsIn (h : Header) (leaf : LeafValue) : Type 0 where
-  column : leaf.x / 4 < h.width / 4
-  row : leaf.y / 4 < h.height / 4
-  end_x : leaf.x / 4 + block_width leaf.size / 4 ≤ 16 * ((h.width / 4 + 15) / 16)
-  end_y : leaf.y / 4 + block_height leaf.size / 4 ≤ 16 * ((h.height / 4 + 15) / 16)
+  column : leaf.x / 4 < coded_width h / 4
+  row : leaf.y / 4 < coded_height h / 4
+  end_x : leaf.x / 4 + block_width leaf.size / 4 ≤ 16 * ((coded_width h / 4 + 15) / 16)
+  end_y : leaf.y / 4 + block_height leaf.size / 4 ≤ 16 * ((coded_height h / 4 + 15) / 16)
 
-inside : (h : Header) (x y : ℕ) → is_inside h x y ≡ true → (x < h.width) × (y < h.height)
+inside : (h : Header) (x y : ℕ) → is_inside h x y ≡ true → (x < coded_width h) × (y < coded_height h)
 unfolding is_inside
-inside h x y e = let (column, row) = and_parts (nat_lt x h.width) (nat_lt y h.height) e in (ltb-true x h.width column, ltb-true y h.height row)
+inside h x y e = let (column, row) = and_parts (nat_lt x (coded_width h)) (nat_lt y (coded_height h)) e
+    in (ltb-true x (coded_width h) column, ltb-true y (coded_height h) row)
 
 stands_in : (h : Header) (leaf : LeafValue) → IsReadFrame h → IsOnGrid h leaf → StandsIn h leaf
 stands_in h leaf frame grid =

@@ -26,7 +26,7 @@ use Rattle.av1_plan.specs.declared.leaf.LeafKind.{LeafKind}
 use Rattle.av1_plan.specs.declared.leaf.Triple.{Triple}
 use Rattle.av1_plan.specs.declared.leaves.Leaves.{Leaves}
 use Rattle.av1_plan.specs.Values.{leaf_list, leaves_value, triple_list}
-use Rattle.av1_plan.specs.Geometry.{carries_chroma, covers_plane, plane_area, plane_width, plane_height, xdec, ydec}
+use Rattle.av1_plan.specs.Geometry.{carries_chroma, covers_plane, plane_area, plane_width, plane_height, xdec, ydec, coded_width, coded_height}
 use Rattle.av1_plan.specs.Plan.{LeafValue, leaf_triples, leaf_value, leaf_values}
 use Rattle.av1_tile.specs.declared.plane_block.Nearby.{Nearby}
 use Rattle.av1_tile.specs.declared.plane_block.Parts.{Parts}
@@ -129,7 +129,8 @@ same_steps h a b f g carried blocks triples = go (carries_chroma h a.x a.y a.siz
 
 -- what is told of each cell of the frame is what the record of these leaves shows
 abbrev pub TellsOf : Header → Told → List LeafValue → Type 0
-TellsOf h told earlier = (cx cy : ℕ) → cx < h.width / 4 → cy < h.height / 4 → (l : LeafValue) → noted earlier cx cy ≡ Some l → told cx cy ≡ coded_info l.kind
+TellsOf h told earlier = (cx cy : ℕ) → cx < coded_width h / 4 → cy < coded_height h / 4 → (l : LeafValue) → noted earlier cx cy ≡ Some l →
+    told cx cy ≡ coded_info l.kind
 
 tells_nothing : (h : Header) (told : Told) → TellsOf h told []
 tells_nothing h told cx cy hx hy l e = cc
@@ -231,7 +232,7 @@ parts_known h known earlier leaf p is =
 
 -- two records that tell the same of each cell of the frame
 abbrev pub TellSame : Header → (f g : Told) → Type 0
-TellSame h f g = (cx cy : ℕ) → cx < h.width / 4 → cy < h.height / 4 → f cx cy ≡ g cx cy
+TellSame h f g = (cx cy : ℕ) → cx < coded_width h / 4 → cy < coded_height h / 4 → f cx cy ≡ g cx cy
 
 -- two that are known alike
 pub record KnowSame (h : Header) (f g : Known) : Type 0 where

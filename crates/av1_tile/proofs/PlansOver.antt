@@ -10,6 +10,7 @@ use Rattle.av1_plan.specs.Plan.{LeafValue, PlanValue}
 use Rattle.av1_plan.specs.ReadPlans.{IsReadFrame}
 use Rattle.av1_plan.specs.Validity.{first_fault}
 use Rattle.av1_plan.proofs.ReadPlans.{kept_frame}
+use Rattle.av1_plan.specs.Geometry.{coded_width, coded_height}
 use Rattle.av1_references.specs.References.{HoldsReferences, IsWholeFrame, ServesPlan, in_frame, rect_of}
 use Rattle.av1_references.specs.declared.tile.TileReferences.{TileReferences}
 use Rattle.av1_references.proofs.Served.{holds_serves}
@@ -178,6 +179,7 @@ product_within a b c d h k = grind arith
 
 -- what has room for a frame has room for each that isn't wider or higher
 pub room_within : (h k : Header) (room : WalkRoom) → k.width ≤ h.width → k.height ≤ h.height → HasRoomFor h room → HasRoomFor k room
+unfolding coded_width coded_height
 room_within h k room wide high roomy =
-    let few = product_within (k.height / 4) (k.width / 4) (h.height / 4) (h.width / 4) (omega (arith, high)) (omega (arith, wide)) in
+    let few = product_within (coded_height k / 4) (coded_width k / 4) (coded_height h / 4) (coded_width h / 4) (omega (arith, high)) (omega (arith, wide)) in
     omega (arith, few, roomy)

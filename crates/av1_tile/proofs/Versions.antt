@@ -1,23 +1,29 @@
 -- The planes of a plan are the same in each version by whose rules its frame goes: else no step of the slow definition reads the version.
 use Rattle.std.proofs.Common.{ℕ, zero, suc, ◌≡◌, ◌≢◌, ◌≤◌, ◌==◌, ◌++◌, if◌then◌else◌, Bool, true, false, Some, option_map, ℤ, List, [], ◌∷◌, refl, ap, sym}
-use Rattle.std.proofs.Common.{◌∙◌, arith}
-use Rattle.std.specs.List.{fold, flat_map}
+use Rattle.std.proofs.Common.{◌∙◌, arith, get_or, subst}
+use Rattle.std.specs.List.{All, fold, flat_map}
+use Rattle.std.proofs.lemmas.List.Elements.{All-tail}
 use mathlib.Core.Path.{fun_ext}
 use Rattle.av1_blocks.specs.declared.mc.FilterMode.{FilterMode}
 use Rattle.av1_blocks.specs.declared.mc.FilterMode.TheVariants.{REGULAR, SMOOTH, SHARP, BILINEAR, SWITCHABLE}
 use Rattle.av1_blocks.specs.declared.mc.MotionVector.{MotionVector}
 use Rattle.av1_blocks.specs.declared.partition.RefType.{RefType}
 use Rattle.av1_blocks.specs.declared.predict.PredictionMode.{PredictionMode}
+use Rattle.av1_blocks.specs.declared.transform.TxSize.{TxSize}
+use Rattle.av1_blocks.specs.declared.transform.TxSize.TheVariants.{TX_4X4}
+use Rattle.av1_blocks.specs.declared.transform.TxType.{TxType}
+use Rattle.av1_blocks.specs.declared.transform.TxType.TheVariants.{WHT_WHT}
+use Rattle.av1_dct.specs.Arithmetic.{FitsBits}
 use Rattle.av1_edges.specs.Edges.{Edge}
 use Rattle.av1_frame.specs.Areas.{VisibleArea}
 use Rattle.av1_inter.specs.Filters.{mode_along}
 use Rattle.av1_inter.specs.Prediction.{compound_prediction, single_prediction}
 use Rattle.av1_inter.specs.Reference.{vector_of, reference_of as reference_in}
-use Rattle.av1_itx.specs.Residue.{residue_by}
-use Rattle.av1_itx.proofs.NoWrap.{shallow_residue}
+use Rattle.av1_itx.specs.Residue.{is_lossless, residue, residue_by}
+use Rattle.av1_itx.proofs.NoWrap.{lossless_residue, shallow_residue}
 use Rattle.av1_plan.specs.declared.header.Header.{Header}
 use Rattle.av1_plan.specs.declared.leaf.Triple.{Triple}
-use Rattle.av1_plan.specs.Geometry.{xdec, ydec, plane_width, plane_height, carries_chroma, covers_plane, plane_place, plane_size, plane_tx_size, plane_area}
+use Rattle.av1_plan.specs.Geometry.{coded_width, coded_height, xdec, ydec, plane_width, plane_height, carries_chroma, covers_plane, plane_place, plane_size, plane_tx_size, plane_area}
 use Rattle.av1_plan.specs.declared.leaf.LeafKind.{LeafKind}
 use Rattle.av1_plan.specs.declared.leaf.LeafKind.TheVariants.{Intra, Single, Compound}
 use Rattle.av1_plan.specs.Geometry.{follows_av1, has_block, transform_block, shown_columns, shown_rows}
@@ -35,14 +41,14 @@ use Rattle.av1_tile.specs.PlaneBlocks.{number, plane_block}
 use Rattle.av1_tile.specs.Reference.{above, added, beside, block_residue, by_prediction, coefficients, kind_motion, parts_motion, predicted, slow_in}
 use Rattle.av1_tile.specs.Reference.{scene, slow_step, slow_walk, walk_of}
 use Rattle.av1_tile.specs.Steps.{Step, predict, add, PlaneStep, steps_at, steps_of, component_steps, leaf_steps, steps_after, steps}
-use Rattle.av1_tile.specs.Versions.{AgreesIn, EarlierKeepFilter, EarlyAgree, ElsewhereAgree, VersionsShowTheSame}
+use Rattle.av1_tile.specs.Versions.{AddsTheSame, AgreesIn, EarlierKeepFilter, EarlyAgree, ElsewhereAgree, HasFewBits, VersionsShowTheSame}
 
 -- ---- steps
 
 module _ (n : ℕ) (h : Header) where
   component_same : (earlier : List LeafValue) (leaf : LeafValue) (c : Component)
       → component_steps (header_in n h) (λ k. plane_block (header_in n h) earlier k leaf) leaf c ≡ component_steps h (λ k. plane_block h earlier k leaf) leaf c
-  unfolding steps_at transform_block has_block plane_area plane_place plane_size plane_tx_size plane_width plane_height xdec ydec covers_plane carries_chroma
+  unfolding steps_at transform_block has_block plane_area plane_place plane_size plane_tx_size coded_width coded_height plane_width plane_height xdec ydec covers_plane carries_chroma
   component_same earlier leaf Y = refl
   component_same earlier leaf U = refl
   component_same earlier leaf V = refl
@@ -60,7 +66,14 @@ module _ (n : ℕ) (h : Header) where
 
 -- ---- what a step writes
 
-module _ (n : ℕ) (plan : PlanValue) (agrees : AgreesIn n plan.header) where
+-- steps that do the same to each item of a list come to the same
+folds_alike : {A B : Type 0} (f g : B → A → B) (P : A → Type 0) → ((b : B) (x : A) → P x → f b x ≡ g b x) → (start : B) (xs : List A) → All P xs →
+    fold f start xs ≡ fold g start xs
+folds_alike f g P same start [] all = refl
+folds_alike f g P same start (x ∷ xs) all =
+    ap (λ b. fold f b xs) (same start x (all 0 x (omega arith))) ∙ folds_alike f g P same (g start x) xs (All-tail P x xs all)
+
+module _ (n : ℕ) (plan : PlanValue) (agrees : AgreesIn n plan) where
   filters_same : plan_filter (header_in n plan.header) ≡ plan_filter plan.header
   filters_same = fun_ext agrees.filter
 
@@ -102,7 +115,7 @@ module _ (n : ℕ) (plan : PlanValue) (agrees : AgreesIn n plan.header) where
 
   prediction_same : (c : Component) (prediction : Prediction) (a : VisibleArea) (edge : PredictionMode → ℤ → Edge) (luma : ℕ → ℕ → ℤ) (r k : ℕ)
       → by_prediction (scene (plan_in n plan)) (number c) prediction a edge luma r k ≡ by_prediction (scene plan) (number c) prediction a edge luma r k
-  unfolding by_prediction plane_width plane_height xdec ydec
+  unfolding by_prediction coded_width coded_height plane_width plane_height xdec ydec
   prediction_same Y (predictions.Intra mode step filter) a edge luma r k = refl
   prediction_same U (predictions.Intra mode step filter) a edge luma r k = refl
   prediction_same V (predictions.Intra mode step filter) a edge luma r k = refl
@@ -115,35 +128,31 @@ module _ (n : ℕ) (plan : PlanValue) (agrees : AgreesIn n plan.header) where
 
   predicted_same : (canvas : Canvas) (c : Component) (block : PlaneBlock) (a : VisibleArea) (r k : ℕ) →
       predicted (scene (plan_in n plan)) canvas c block a r k ≡ predicted (scene plan) canvas c block a r k
-  unfolding predicted plane_width plane_height shown_columns shown_rows xdec ydec
+  unfolding predicted coded_width coded_height plane_width plane_height shown_columns shown_rows xdec ydec
   predicted_same canvas Y block a r k = prediction_same Y block.prediction a _ _ r k
   predicted_same canvas U block a r k = prediction_same U block.prediction a _ _ r k
   predicted_same canvas V block a r k = prediction_same V block.prediction a _ _ r k
 
-  residue_same : (block : PlaneBlock) (triples : List Triple) (m r k : ℕ)
-      → block_residue (follows_av1 (header_in n plan.header)) plan.header.depth block triples m r k
-      ≡ block_residue (follows_av1 plan.header) plan.header.depth block triples m r k
-  unfolding block_residue
-  residue_same block triples m r k = agrees.residue block.area.tx_size block.tx_type (coefficients block.area.tx_size m triples) r k
-
-  written_same : (canvas : Canvas) (c : Component) (s : Step) → slow_in (scene (plan_in n plan)) canvas c s ≡ slow_in (scene plan) canvas c s
+  written_same : (canvas : Canvas) (c : Component) (s : Step) → AddsTheSame n plan.header s →
+      slow_in (scene (plan_in n plan)) canvas c s ≡ slow_in (scene plan) canvas c s
   unfolding slow_in
-  written_same canvas c (predict block m a) =
+  written_same canvas c (predict block m a) told =
       ap (λ (f : ℕ → ℕ → ℕ). drawn a (λ r k _. Some (f r k)) (canvas c)) (fun_ext (λ r. fun_ext (λ k. predicted_same canvas c block a r k)))
-  written_same canvas c (add block triples m a) =
+  written_same canvas c (add block triples m a) told =
       ap (λ (f : ℕ → ℕ → ℤ). drawn a (λ r k o. option_map (λ v. added plan.header.depth v (f r k)) o) (canvas c))
-      (fun_ext (λ r. fun_ext (λ k. residue_same block triples m r k)))
+      (fun_ext (λ r. fun_ext (λ k. told r k)))
 
-  step_same : (canvas : Canvas) (s : PlaneStep) → slow_step (scene (plan_in n plan)) canvas s ≡ slow_step (scene plan) canvas s
+  step_same : (canvas : Canvas) (s : PlaneStep) → AddsTheSame n plan.header s.step →
+      slow_step (scene (plan_in n plan)) canvas s ≡ slow_step (scene plan) canvas s
   unfolding slow_step
-  step_same canvas s = ap (λ w. with_written s.component w canvas) (written_same canvas s.component s.step)
+  step_same canvas s told = ap (λ w. with_written s.component w canvas) (written_same canvas s.component s.step told)
 
   walk_same : slow_walk (plan_in n plan) ≡ slow_walk plan
   unfolding slow_walk walk_of
   walk_same =
-      ap (λ (f : Canvas → PlaneStep → Canvas). fold f blank (steps (header_in n plan.header) plan.leaves))
-      (fun_ext (λ canvas. fun_ext (λ s. step_same canvas s)))
-      ∙ ap (λ (ss : List PlaneStep). fold (slow_step (scene plan)) blank ss) (steps_same n plan.header [] plan.leaves)
+      ap (λ (ss : List PlaneStep). fold (slow_step (scene (plan_in n plan))) blank ss) (steps_same n plan.header [] plan.leaves)
+      ∙ folds_alike (slow_step (scene (plan_in n plan))) (slow_step (scene plan)) (λ s. AddsTheSame n plan.header s.step) step_same blank
+      (steps plan.header plan.leaves) agrees.residue
 
 shown_same : (n : ℕ) (plan : PlanValue) (f : Component → ℕ → ℕ → ℕ) → visible (header_in n plan.header) f ≡ visible plan.header f
 unfolding visible shown_columns shown_rows xdec ydec
@@ -175,16 +184,44 @@ stays true SWITCHABLE side other = refl
 pub earlier_versions_keep_the_short_filter : EarlierKeepFilter
 earlier_versions_keep_the_short_filter h few side = ap (λ (b : Bool). mode_along b h.filter side) (not_third h.version few)
 
+-- residues at depths up to 10
+shallow_same : (b : Bool) (size : TxSize) (type : TxType) (depth : ℕ) (cs : List ℤ) (r c : ℕ) → depth ≤ 10
+    → (type ≡ WHT_WHT → (size ≡ TX_4X4) × All (FitsBits 17) cs) → residue_by b size type depth cs r c ≡ residue size type depth cs r c
+shallow_same b size type depth cs r c shallow few =
+    (elim type as (λ t. (t ≡ WHT_WHT → (size ≡ TX_4X4) × All (FitsBits 17) cs) → residue_by b size t depth cs r c ≡ residue size t depth cs r c) [
+      | WHT_WHT ↦ (λ told. subst (λ s. residue_by b s WHT_WHT depth cs r c ≡ residue s WHT_WHT depth cs r c) (sym (told refl).0)
+          (lossless_residue b depth cs r c (told refl).1))
+      | _ ↦ (λ told. shallow_residue b size _ depth cs r c shallow (λ e. let no : false ≡ true = ap is_lossless e in cc))
+    ]) few
+
+-- and those that a step adds
+added_same : (version : ℕ) (h : Header) (s : Step) → h.depth ≤ 10 → HasFewBits s → AddsTheSame version h s
+unfolding block_residue
+added_same version h (predict block n a) shallow few = few
+added_same version h (add block triples n a) shallow few = λ r c.
+    let size = block.area.tx_size in
+    let cs = coefficients size n triples in
+    shallow_same (follows_av1 (header_in version h)) size block.tx_type h.depth cs r c shallow few
+    ∙ sym (shallow_same (follows_av1 h) size block.tx_type h.depth cs r c shallow few)
+
+-- none of two versions follows AV1
+added_early : (version : ℕ) (h : Header) (s : Step) → version ≤ 2 → h.version ≤ 2 → AddsTheSame version h s
+added_early version h (predict block n a) few own = tt
+added_early version h (add block triples n a) few own = λ r c.
+    ap (λ (b : Bool). block_residue b h.depth block triples n r c) (not_third version few ∙ sym (not_third h.version own))
+
 pub versions_agree_early : EarlyAgree
-versions_agree_early version h few own = record {
-  filter = λ side. ap (λ (b : Bool). mode_along b h.filter side) (not_third version few ∙ sym (not_third h.version own));
-  residue = λ size type cs r c. ap (λ (b : Bool). residue_by b size type h.depth cs r c) (not_third version few ∙ sym (not_third h.version own));
-}
+versions_agree_early version plan few own =
+    let h = plan.header in
+    record {
+      filter = λ side. ap (λ (b : Bool). mode_along b h.filter side) (not_third version few ∙ sym (not_third h.version own));
+      residue = λ i s _. added_early version h (get_or (steps h plan.leaves) i s).step few own;
+    }
 
 pub versions_agree_elsewhere : ElsewhereAgree
-versions_agree_elsewhere version h other shallow = record {
-  filter = λ side. stays (follows_av1 (header_in version h)) h.filter side other ∙ sym (stays (follows_av1 h) h.filter side other);
-  residue = λ size type cs r c.
-      shallow_residue (follows_av1 (header_in version h)) size type h.depth cs r c shallow
-      ∙ sym (shallow_residue (follows_av1 h) size type h.depth cs r c shallow);
-}
+versions_agree_elsewhere version plan other shallow few =
+    let h = plan.header in
+    record {
+      filter = λ side. stays (follows_av1 (header_in version h)) h.filter side other ∙ sym (stays (follows_av1 h) h.filter side other);
+      residue = λ i s lt. added_same version h (get_or (steps h plan.leaves) i s).step shallow (few i s lt);
+    }

@@ -2,7 +2,7 @@
 use Rattle.std.specs.Prelude.{◌≡◌, ◌<◌, ◌≤◌, ◌*◌, ◌/◌, ℕ, List, None}
 use Rattle.av1_frame.specs.declared.frame_invariants.FrameInvariants.{FrameInvariants}
 use Rattle.av1_plan.specs.declared.header.Header.{Header}
-use Rattle.av1_plan.specs.Geometry.{shown_columns, shown_rows}
+use Rattle.av1_plan.specs.Geometry.{shown_columns, shown_rows, coded_width, coded_height}
 use Rattle.av1_plan.specs.Grammar.{plan as grammar}
 use Rattle.av1_plan.specs.Plan.{LeafValue, PlanValue}
 use Rattle.av1_plan.specs.Spelling.{IsSpelled}
@@ -24,7 +24,7 @@ pub record WalkRoom : Type 0 where
 
 -- it has one for each cell of a frame
 abbrev pub HasRoomFor : Header → WalkRoom → Type 0
-HasRoomFor h room = h.height / 4 * (h.width / 4) ≤ room.cells
+HasRoomFor h room = coded_height h / 4 * (coded_width h / 4) ≤ room.cells
 
 -- a valid plan with this header and these leaves, whose references the frame settings serve
 pub record IsPlanOver {T : Type 0} (num : T → ℕ) (h : Header) (own : List LeafValue) (fi : FrameInvariants T)

@@ -45,8 +45,6 @@ pub record IsSound {T : Type 0} (num : T → ℕ) (s : Picture T) : Type 0 where
 pub record AreAlike (h k : Header) : Type 0 where
   pub width : h.width ≡ k.width
   pub height : h.height ≡ k.height
-  pub shown_width : h.shown_width ≡ k.shown_width
-  pub shown_height : h.shown_height ≡ k.shown_height
   pub depth : h.depth ≡ k.depth
   pub sampling : h.sampling ≡ k.sampling
 

@@ -1,9 +1,10 @@
 -- Where what a plan comes to doesn't depend on the version of its grammar, and what earlier versions don't have.
-use Rattle.std.specs.Prelude.{◌≡◌, ◌≢◌, ◌≤◌, ℕ, ℤ, List, None}
+use Rattle.std.specs.Prelude.{◌≡◌, ◌≢◌, ◌≤◌, ℕ, List, None, ⊤}
+use Rattle.std.specs.List.{All}
 use Rattle.av1_blocks.specs.declared.mc.FilterMode.TheVariants.{SHARP}
-use Rattle.av1_blocks.specs.declared.transform.TxSize.{TxSize}
-use Rattle.av1_blocks.specs.declared.transform.TxType.{TxType}
-use Rattle.av1_itx.specs.Residue.{residue_by}
+use Rattle.av1_blocks.specs.declared.transform.TxSize.TheVariants.{TX_4X4}
+use Rattle.av1_blocks.specs.declared.transform.TxType.TheVariants.{WHT_WHT}
+use Rattle.av1_dct.specs.Arithmetic.{FitsBits}
 use Rattle.av1_plan.specs.declared.header.Header.{Header}
 use Rattle.av1_plan.specs.Geometry.{follows_av1}
 use Rattle.av1_plan.specs.Plan.{LeafValue, PlanValue}
@@ -13,20 +14,33 @@ use Rattle.av1_references.specs.References.{plan_filter}
 use Rattle.av1_tile.specs.Canvas.{Component}
 use Rattle.av1_tile.specs.Output.{planes_of}
 use Rattle.av1_tile.specs.PlaneBlocks.{number}
+use Rattle.av1_tile.specs.Reference.{block_residue, coefficients}
 use Rattle.av1_tile.specs.Shared.{parts_in}
+use Rattle.av1_tile.specs.Steps.{Step, predict, add, steps}
 
--- What a frame comes to goes by the same rules in this version: its filter is the same along each side, and the residue
--- of any coefficients.
-pub record AgreesIn (version : ℕ) (h : Header) : Type 0 where
-  pub filter : (side : ℕ) → plan_filter (header_in version h) side ≡ plan_filter h side
-  pub residue : (size : TxSize) (type : TxType) (coefficients : List ℤ) (r c : ℕ) →
-      residue_by (follows_av1 (header_in version h)) size type h.depth coefficients r c ≡
-      residue_by (follows_av1 h) size type h.depth coefficients r c
+-- The residue that a step adds, if it adds one, is the same in this version.
+abbrev pub AddsTheSame : (version : ℕ) → Header → Step → Type 0
+AddsTheSame version h (predict block n a) = ⊤
+AddsTheSame version h (add block triples n a) = (r c : ℕ) →
+    block_residue (follows_av1 (header_in version h)) h.depth block triples n r c ≡
+    block_residue (follows_av1 h) h.depth block triples n r c
 
--- The planes of a plan are the same in each version by whose rules its frame goes.
+-- What a plan comes to goes by the same rules in this version: its filter is the same along each side, and the residue
+-- that each step adds.
+pub record AgreesIn (version : ℕ) (plan : PlanValue) : Type 0 where
+  pub filter : (side : ℕ) → plan_filter (header_in version plan.header) side ≡ plan_filter plan.header side
+  pub residue : All (λ s. AddsTheSame version plan.header s.step) (steps plan.header plan.leaves)
+
+-- The planes of a plan are the same in each version by whose rules it goes.
 abbrev pub VersionsShowTheSame : Type 0
 VersionsShowTheSame =
-    (version : ℕ) (plan : PlanValue) → AgreesIn version plan.header → planes_of (plan_in version plan) ≡ planes_of plan
+    (version : ℕ) (plan : PlanValue) → AgreesIn version plan → planes_of (plan_in version plan) ≡ planes_of plan
+
+-- If a step adds the residue of a lossless block, its coefficients have no more than 17 bits.
+abbrev pub HasFewBits : Step → Type 0
+HasFewBits (predict block n a) = ⊤
+HasFewBits (add block triples n a) = block.tx_type ≡ WHT_WHT →
+    (block.area.tx_size ≡ TX_4X4) × All (FitsBits 17) (coefficients block.area.tx_size n triples)
 
 -- The filter of the first two versions is rav1e's, along each side.
 abbrev pub EarlierKeepFilter : Type 0
@@ -34,11 +48,14 @@ EarlierKeepFilter = (h : Header) → h.version ≤ 2 → (side : ℕ) → plan_f
 
 -- These two go by the same rules,
 abbrev pub EarlyAgree : Type 0
-EarlyAgree = (version : ℕ) (h : Header) → version ≤ 2 → h.version ≤ 2 → AgreesIn version h
+EarlyAgree = (version : ℕ) (plan : PlanValue) → version ≤ 2 → plan.header.version ≤ 2 → AgreesIn version plan
 
--- and all versions do where the filter isn't the sharp one and the depth isn't 12.
+-- and all versions do where the filter isn't the sharp one, the depth isn't 12, and no lossless block has a coefficient
+-- of more than 17 bits (none has at a depth of 8).
 abbrev pub ElsewhereAgree : Type 0
-ElsewhereAgree = (version : ℕ) (h : Header) → h.filter ≢ SHARP → h.depth ≤ 10 → AgreesIn version h
+ElsewhereAgree =
+    (version : ℕ) (plan : PlanValue) → plan.header.filter ≢ SHARP → plan.header.depth ≤ 10 →
+    All (λ s. HasFewBits s.step) (steps plan.header plan.leaves) → AgreesIn version plan
 
 -- In the first two versions no block of a valid leaf has parts, whatever leaves came before: the leaf alone predicts
 -- it.

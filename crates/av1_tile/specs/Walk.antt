@@ -42,6 +42,7 @@ use Rattle.av1_plan.specs.declared.leaf.LeafKind.{LeafKind}
 use Rattle.av1_plan.specs.declared.leaf.LeafKind.TheVariants.{Intra, Single, Compound}
 use Rattle.av1_plan.specs.declared.leaf.Triple.{Triple}
 use Rattle.av1_plan.specs.Geometry.{xdec, ydec, plane_width, plane_height, shown_columns, shown_rows, plane_area}
+use Rattle.av1_plan.specs.Geometry.{coded_width, coded_height}
 use Rattle.av1_plan.specs.Geometry.{carries_chroma, block_count, blocks_across, follows_av1}
 use Rattle.av1_plan.specs.Plan.{LeafValue, PlanValue}
 use Rattle.av1_plan.specs.ReadPlans.{IsOtherFrame, IsReadFrame}
@@ -413,8 +414,8 @@ cell_at cells cx cy =
 
 -- the record is one of the frame's cells, and has room for each
 pub record HasCells (h : Header) (cells : CodedCells) : Type 0 where
-  pub columns : cells.columns ≡ h.width / 4
-  pub rows : cells.rows ≡ h.height / 4
+  pub columns : cells.columns ≡ coded_width h / 4
+  pub rows : cells.rows ≡ coded_height h / 4
   pub filled : cells.rows * cells.columns ≤ length cells.cells.items
 
 -- what is told of each luma cell

@@ -97,7 +97,7 @@ fn last_cell(decimation: usize, place: usize) -> usize
 
 impl CodedCells {
     ghost use Rattle.std.specs.Prelude.{◌≡◌, ℕ, ◌*◌, ◌/◌, ◌<◌, ◌≤◌, IfOk, [], length};
-    ghost use Rattle.av1_plan.specs.Geometry.{plane_width, plane_height};
+    ghost use Rattle.av1_plan.specs.Geometry.{coded_width, coded_height, plane_width, plane_height};
     ghost use Rattle.av1_plan.specs.ReadPlans.{IsReadFrame};
     ghost use Rattle.av1_tile.specs.Walk.{cell_at, told_by, parameters_by, with_leaf, HasCells, leaf_with};
 
@@ -105,8 +105,8 @@ impl CodedCells {
     pub(crate) fn new(alloc: Global, header: &Header) -> Result<CodedCells, OutOfMemory>
         ensures { IfOk result (λ cells. HasCells header.now cells) }
     {
-        let columns = usize::from(header.width / 4);
-        let rows = usize::from(header.height / 4);
+        let columns = header.coded_width() / 4;
+        let rows = header.coded_height() / 4;
         let unknown = CodedBlockInfo {
             luma_mode: PredictionMode::DC_PRED,
             chroma_mode: PredictionMode::DC_PRED,
@@ -122,12 +122,12 @@ impl CodedCells {
 
     /// Lays the record out for a frame. What it tells of the frame's cells is left from before.
     pub(crate) fn lay_out(&mut self, header: &Header)
-        requires room { header.now.height / 4 * (header.now.width / 4) ≤ length self.old.cells.items }
+        requires room { coded_height header.now / 4 * (coded_width header.now / 4) ≤ length self.old.cells.items }
         ensures cells { HasCells header.now self.new }
         ensures count { length self.new.cells.items ≡ length self.old.cells.items }
     {
-        self.columns = usize::from(header.width / 4);
-        self.rows = usize::from(header.height / 4);
+        self.columns = header.coded_width() / 4;
+        self.rows = header.coded_height() / 4;
     }
 
     /// Notes in each cell of a leaf, as far as it lies in the frame, what later leaves are told of it.

@@ -4,7 +4,7 @@ ghost use Rattle.av1_tile.specs.Lookups.{OutputIsThere, StepsAreAnswered, StepsF
 ghost use Rattle.av1_tile.specs.Residues.{SamplesAreSums};
 ghost use Rattle.av1_tile.specs.Versions.{EarlierKeepFilter, EarlierShareNone, EarlyAgree, ElsewhereAgree, VersionsShowTheSame};
 
-/// A law: the planes of a plan are the same in each version of the plan format by whose rules its frame goes.
+/// A law: the planes of a plan are the same in each version of the plan format by whose rules it goes.
 pub fn versions_show_the_same()
     ensures { VersionsShowTheSame }
 {}
@@ -19,12 +19,13 @@ pub fn earlier_versions_keep_the_short_filter()
     ensures { EarlierKeepFilter }
 {}
 
-/// A law: each frame goes by the same rules in the first version and in the second.
+/// A law: each plan goes by the same rules in the first version and in the second.
 pub fn versions_agree_early()
     ensures { EarlyAgree }
 {}
 
-/// A law: a frame whose filter isn't the sharp one, and whose depth isn't 12, goes by the same rules in each version.
+/// A law: a plan whose filter isn't the sharp one, whose depth isn't 12, and whose lossless blocks have no coefficient
+/// of more than 17 bits, goes by the same rules in each version. At a depth of 8 no coefficient has more.
 pub fn versions_agree_elsewhere()
     ensures { ElsewhereAgree }
 {}

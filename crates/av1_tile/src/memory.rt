@@ -32,6 +32,7 @@ impl<T: Pixel> Model for WalkMemory<T> {
 
 impl<T: Pixel> WalkMemory<T> {
     ghost use Rattle.std.specs.Prelude.{◌≡◌, ◌≤◌, ◌*◌, ◌/◌, IfOk, nat_le};
+    ghost use Rattle.av1_plan.specs.Geometry.{coded_width, coded_height};
     ghost use Rattle.av1_plan.specs.Values.{leaves_value};
     ghost use Rattle.av1_plan.specs.Plan.{PlanValue};
     ghost use Rattle.av1_tile.specs.Memory.{HasRoomFor, IsPlanOver, IsTileOver, ShowsPlan, ShowsScene};
@@ -52,9 +53,9 @@ impl<T: Pixel> WalkMemory<T> {
 
     /// Whether the memory has room for frames with this header's sides.
     pub fn has_room_for(&self, header: &Header) -> bool
-        ensures { result ≡ nat_le (header.now.height / 4 * (header.now.width / 4)) self.now.cells }
+        ensures { result ≡ nat_le (coded_height header.now / 4 * (coded_width header.now / 4)) self.now.cells }
     {
-        usize::from(header.height / 4) * usize::from(header.width / 4) <= self.cells.cells.len()
+        header.coded_height() / 4 * (header.coded_width() / 4) <= self.cells.cells.len()
     }
 
     /// How many edges were prepared in the memory, up to the last value of a `u64`.

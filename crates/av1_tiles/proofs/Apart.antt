@@ -64,10 +64,10 @@ unfolding tile_area
 tiles_apart f read i j lt_i lt_j differ dx dy x y small_x small_y in_x in_y =
     let n = length f.columns.items - 1 in
     elim (cases_eq (i % n) (j % n)) [
-      | inr columns ↦ inl (run_apart f.header.shown_width f.columns.items read.columns (i % n) (j % n) dx x small_x columns (column_in f read i lt_i)
+      | inr columns ↦ inl (run_apart f.header.width f.columns.items read.columns (i % n) (j % n) dx x small_x columns (column_in f read i lt_i)
           (column_in f read j lt_j) in_x)
       | inl column ↦ (elim (cases_eq (i / n) (j / n)) [
-        | inr rows ↦ inr (run_apart f.header.shown_height f.rows.items read.rows (i / n) (j / n) dy y small_y rows (row_in f read i lt_i)
+        | inr rows ↦ inr (run_apart f.header.height f.rows.items read.rows (i / n) (j / n) dy y small_y rows (row_in f read i lt_i)
             (row_in f read j lt_j) in_y)
         | inl row ↦ absurd (differ (same_place i j n column row))
       ])

@@ -34,8 +34,8 @@ unfolding shown_columns shown_rows
 agree f bounds plans others tiles_a tiles_b a b joined_a joined_b c x y lx ly =
     let h = f.front.header in
     let p = number c in
-    let column = lies h.shown_width f.front.columns bounds.columns (xdec h p) x (xdec_small h p) lx in
-    let row = lies h.shown_height f.front.rows bounds.rows (ydec h p) y (ydec_small h p) ly in
+    let column = lies h.width f.front.columns bounds.columns (xdec h p) x (xdec_small h p) lx in
+    let row = lies h.height f.front.rows bounds.rows (ydec h p) y (ydec_small h p) ly in
     let i = row.k * across f.front + column.k in
     let at = tile_at f.front column.k row.k column.within row.within in
     let t = tile_area f.front i in

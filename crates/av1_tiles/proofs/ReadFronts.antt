@@ -38,8 +38,8 @@ record HasPieces (v : FrontValue) : Type 0 where
   most : version ≤ 3
   header : IsSpelled (frame version) v.header
   references : IsSpelled (references v.header) v.references
-  columns : IsSpelled (bounds v.header.shown_width) v.columns
-  rows : IsSpelled (bounds v.header.shown_height) v.rows
+  columns : IsSpelled (bounds v.header.width) v.columns
+  rows : IsSpelled (bounds v.header.height) v.rows
 
 pieces : (v : FrontValue) → IsSpelled front v → HasPieces v
 unfolding front
@@ -47,8 +47,8 @@ pieces v s =
     let (n, n_spelled, s1) = spelled_bind plan_version _ v s in
     let (h, h_spelled, s2) = spelled_bind (frame n) _ v s1 in
     let (slots, slots_spelled, s3) = spelled_bind (references h) _ v s2 in
-    let (columns, columns_spelled, s4) = spelled_bind (bounds h.shown_width) _ v s3 in
-    let (rows, rows_spelled, s5) = spelled_bind (bounds h.shown_height) _ v s4 in
+    let (columns, columns_spelled, s4) = spelled_bind (bounds h.width) _ v s3 in
+    let (rows, rows_spelled, s5) = spelled_bind (bounds h.height) _ v s4 in
     let whole : HasPieces (record { header = h; references = slots; columns = columns; rows = rows }) =
     record {
       version = n;
@@ -66,16 +66,16 @@ front_frame v s = let p = pieces v s in frame_is p.version v.header (omega (arit
 
 -- the bounds of the columns and rows of tiles
 pub record HasBounds (v : FrontValue) : Type 0 where
-  pub columns : AreBounds v.header.shown_width v.columns
-  pub rows : AreBounds v.header.shown_height v.rows
+  pub columns : AreBounds v.header.width v.columns
+  pub rows : AreBounds v.header.height v.rows
 
 pub front_bounds : (v : FrontValue) → IsSpelled front v → HasBounds v
 front_bounds v s =
     let p = pieces v s in
     let is = front_frame v s in
     record {
-      columns = bounds_are v.header.shown_width v.columns (omega (arith, is.shown_width.some)) p.columns;
-      rows = bounds_are v.header.shown_height v.rows (omega (arith, is.shown_height.some)) p.rows;
+      columns = bounds_are v.header.width v.columns (omega (arith, is.shown_width.some)) p.columns;
+      rows = bounds_are v.header.height v.rows (omega (arith, is.shown_height.some)) p.rows;
     }
 
 front_is : (f : Front) → length f.references.items ≡ 8 → IsSpelled front (front_value f) → IsReadFront f

@@ -101,11 +101,11 @@ same_ydec h a (suc p) = refl
 -- a tile's columns and rows end in each plane
 pub columns_within : (h : Header) (a : TileArea) (p : ℕ) → IsTileArea h a → corner_column h a p + shown_columns (tile_header h a) p ≤ shown_columns h p
 unfolding shown_columns
-columns_within h a p is = rw (same_xdec h a p) (halves a.x a.width h.shown_width (xdec h p) (xdec_small h p) is.columns)
+columns_within h a p is = rw (same_xdec h a p) (halves a.x a.width h.width (xdec h p) (xdec_small h p) is.columns)
 
 pub rows_within : (h : Header) (a : TileArea) (p : ℕ) → IsTileArea h a → corner_row h a p + shown_rows (tile_header h a) p ≤ shown_rows h p
 unfolding shown_rows
-rows_within h a p is = rw (same_ydec h a p) (halves a.y a.height h.shown_height (ydec h p) (ydec_small h p) is.rows)
+rows_within h a p is = rw (same_ydec h a p) (halves a.y a.height h.height (ydec h p) (ydec_small h p) is.rows)
 
 pub samples_within : (h : Header) (a : TileArea) (p : ℕ) (samples : List ℕ) → IsTileArea h a → ArePlane h p samples →
     (corner_row h a p + shown_rows (tile_header h a) p) * shown_columns h p ≤ length samples

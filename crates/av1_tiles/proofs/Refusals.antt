@@ -9,8 +9,8 @@ use Rattle.av1_plan.specs.Validity.{first_fault}
 use Rattle.av1_plan.proofs.Parts.{clash, done_ok, err_is}
 use Rattle.av1_plan.proofs.Spelled.{bind_ok, ok_is, one_text, read_spells}
 use Rattle.av1_recon.proofs.Outcomes.{byte_fits, same_place}
-use Rattle.av1_recon.specs.declared.error.PlanRefusal.{PlanRefusal}
-use Rattle.av1_recon.specs.declared.error.PlanRefusal.TheVariants as faults
+use Rattle.av1_recon.specs.declared.error.PlanFault.{PlanFault}
+use Rattle.av1_recon.specs.declared.error.PlanFault.TheVariants as faults
 use Rattle.av1_tiles.specs.declared.error.TilesError.{TilesError}
 use Rattle.av1_tiles.specs.declared.error.TilesError.TheVariants.{ReadFault, TooLong, Malformed, Tile, WriteFault, Memory}
 use Rattle.av1_tiles.specs.Grammar.{FileValue, count_tiles, front, read_parts, read_file}
@@ -41,19 +41,19 @@ one_grid bytes f g a b = ok_is f g (sym a.read ∙ b.read)
 -- ---- refusals
 
 -- a valid tile isn't refused
-pub not_both : (f : FileValue) (i : ℕ) (plan : PlanValue) (fault : PlanRefusal) → IsTile f i plan → IsRefusedTile f i fault → ⊥
+pub not_both : (f : FileValue) (i : ℕ) (plan : PlanValue) (fault : PlanFault) → IsTile f i plan → IsRefusedTile f i fault → ⊥
 not_both f i plan (faults.Malformed at) is refused = refused.no_text plan is.text
 not_both f i plan (faults.Invalid leaf kind) is (other, text, fault) =
     let same : other ≡ plan = one_text (tile_plan f.front i) (part_of f i) other plan text is.text in
     let none : first_fault other ≡ None = ap first_fault same ∙ is.valid in
     absurd cc
 
-abbrev fault_of : Option Invalid → PlanRefusal
+abbrev fault_of : Option Invalid → PlanFault
 fault_of (Some fault) = faults.Invalid fault.leaf fault.kind
 fault_of None = faults.Malformed 0
 
 -- a tile is refused for one fault
-one_fault : (f : FileValue) (i : ℕ) (a b : PlanRefusal) → IsRefusedTile f i a → IsRefusedTile f i b → a ≡ b
+one_fault : (f : FileValue) (i : ℕ) (a b : PlanFault) → IsRefusedTile f i a → IsRefusedTile f i b → a ≡ b
 one_fault f i (faults.Malformed a) (faults.Malformed b) p q = ap (λ (at : ℕ). faults.Malformed at) (same_place (tile_plan f.front i) (part_of f i) a b p q)
 one_fault f i (faults.Malformed a) (faults.Invalid leaf kind) p (plan, text, fault) = absurd (p.no_text plan text)
 one_fault f i (faults.Invalid leaf kind) (faults.Malformed b) (plan, text, fault) q = absurd (q.no_text plan text)
@@ -62,7 +62,7 @@ one_fault f i (faults.Invalid leaf kind) (faults.Invalid leaf_b kind_b) (plan, t
     ap fault_of (sym fault ∙ ap first_fault same ∙ fault_b)
 
 -- a grid has one first tile that is refused
-one_tile : (f : FileValue) (i j : ℕ) (a b : PlanRefusal) → IsFirstRefused f i a → IsFirstRefused f j b → i ≡ j
+one_tile : (f : FileValue) (i j : ℕ) (a b : PlanFault) → IsFirstRefused f i a → IsFirstRefused f j b → i ≡ j
 one_tile f i j a b p q = elim (cases_lt i j) [
   | inl before ↦ absurd (let (plan, is) = q.before i before in not_both f i plan a is p.refused)
   | inr le ↦ (elim (cases_eq i j) [
@@ -71,11 +71,11 @@ one_tile f i j a b p q = elim (cases_lt i j) [
   ])
 ]
 
-one_refusal : (f : FileValue) (i j : ℕ) (a b : PlanRefusal) → IsFirstRefused f i a → IsFirstRefused f j b → Tile i a ≡ Tile j b
+one_refusal : (f : FileValue) (i j : ℕ) (a b : PlanFault) → IsFirstRefused f i a → IsFirstRefused f j b → Tile i a ≡ Tile j b
 one_refusal f i j a b p q =
     let same : i ≡ j = one_tile f i j a b p q in
     let there : IsRefusedTile f j a = subst (λ (n : ℕ). IsRefusedTile f n a) same p.refused in
-    ap (λ (n : ℕ). Tile n a) same ∙ ap (λ (t : PlanRefusal). Tile j t) (one_fault f j a b there q.refused)
+    ap (λ (n : ℕ). Tile n a) same ∙ ap (λ (t : PlanFault). Tile j t) (one_fault f j a b there q.refused)
 
 -- bytes are refused for one reason
 pub one_reason : (bytes : List ℕ) (d e : TilesError) → AreRefusedFor bytes d → AreRefusedFor bytes e → d ≡ e

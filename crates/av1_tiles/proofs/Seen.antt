@@ -140,9 +140,9 @@ module _ {T : Type 0} (num : T → ℕ) (f : FrontValue) (i : ℕ) (plan : PlanV
     ydec = λ p. sym (same_ydec f.header (tile_area f i) p) ∙ ap (λ (h : Header). ydec h p) header;
     has = λ reference. sym (same_reference f.header (tile_area f i) reference) ∙ ap (λ (h : Header). has_reference h reference) header;
     near_x = λ p. subst (λ (n : ℕ). n < 2 ^ 16) (sym (place.column p))
-        (near (tile_area f i).x (xdec f.header p) f.header.shown_width (omega (arith, area.columns)) (omega (arith, read.shown_width.within, read.width.most)));
+        (near (tile_area f i).x (xdec f.header p) f.header.width (omega (arith, area.columns)) (omega (arith, read.shown_width.within, read.width.most)));
     near_y = λ p. subst (λ (n : ℕ). n < 2 ^ 16) (sym (place.row p))
-        (near (tile_area f i).y (ydec f.header p) f.header.shown_height (omega (arith, area.rows)) (omega (arith, read.shown_height.within, read.height.most)));
+        (near (tile_area f i).y (ydec f.header p) f.header.height (omega (arith, area.rows)) (omega (arith, read.shown_height.within, read.height.most)));
     motion = λ p kind a r c.
         ap (λ (b : Bool). by_choice f i plan p kind a b r c) third
         ∙ ap (λ (b : VisibleArea). kind_motion (frame_with f.header f.references) p kind b r c) (same_rectangle p a);

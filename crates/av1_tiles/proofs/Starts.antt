@@ -4,7 +4,7 @@ use Rattle.std.specs.Prelude.{slice_index, ◌&&◌, ◌==◌, nat_lt}
 use Rattle.std.proofs.lemmas.Bool.{and_parts, cases_lt, eqb-true, ltb-true}
 use Rattle.av1_plan.specs.declared.header.Header.{Header}
 use Rattle.av1_plan.specs.Format.{IsAdmitted, done, ◌>>=◌, Input, on_ok, read_field, read, add}
-use Rattle.av1_plan.specs.Geometry.{coded_side}
+use Rattle.av1_plan.specs.Geometry.{coded_width, coded_height, coded_side}
 use Rattle.av1_plan.specs.Grammar.{byte_from}
 use Rattle.av1_plan.specs.ReadPlans.{IsReadFrame, IsShown, IsSide}
 use Rattle.av1_plan.specs.Spelling.{IsSpelled}
@@ -145,18 +145,19 @@ coded_between side xs few are k lt =
     record { whole = omega arith; least = omega (arith, rise); most = omega (arith, most, few) }
 
 -- the rectangle between two columns and two rows
-pub area_of : (h : Header) (columns rows : List ℕ) (k r : ℕ) → IsReadFrame h → AreBounds h.shown_width columns → AreBounds h.shown_height rows →
+pub area_of : (h : Header) (columns rows : List ℕ) (k r : ℕ) → IsReadFrame h → AreBounds h.width columns → AreBounds h.height rows →
     k + 1 < length columns → r + 1 < length rows → IsTileArea h (area_between columns rows k r)
+unfolding coded_width coded_height
 area_of h columns rows k r read wide high column row = record {
   columns = omega (arith, wide.rising k column, wide.within (k + 1) column);
   rows = omega (arith, high.rising r row, high.within (r + 1) row);
   frame = record {
     least_version = read.least_version;
     most_version = read.most_version;
-    width = coded_between h.shown_width columns (omega (arith, read.shown_width.within, read.width.most)) wide k column;
-    height = coded_between h.shown_height rows (omega (arith, read.shown_height.within, read.height.most)) high r row;
-    shown_width = shown_between h.version h.shown_width columns (λ early. omega (arith, read.shown_width.whole early, read.width.whole)) wide k column;
-    shown_height = shown_between h.version h.shown_height rows (λ early. omega (arith, read.shown_height.whole early, read.height.whole)) high r row;
+    width = coded_between h.width columns (omega (arith, read.shown_width.within, read.width.most)) wide k column;
+    height = coded_between h.height rows (omega (arith, read.shown_height.within, read.height.most)) high r row;
+    shown_width = shown_between h.version h.width columns (λ early. omega (arith, read.shown_width.whole early, read.width.whole)) wide k column;
+    shown_height = shown_between h.version h.height rows (λ early. omega (arith, read.shown_height.whole early, read.height.whole)) high r row;
     depth = read.depth;
     sampling = read.sampling;
     filter = read.filter;

@@ -24,8 +24,8 @@ pub record IsReadFront (f : Front) : Type 0 where
   pub version : 2 ≤ f.header.version
   pub eight : length f.references.items ≡ 8
   pub slots : AreStoredSlots f.header f.references.items 8
-  pub columns : AreBounds f.header.shown_width f.columns.items
-  pub rows : AreBounds f.header.shown_height f.rows.items
+  pub columns : AreBounds f.header.width f.columns.items
+  pub rows : AreBounds f.header.height f.rows.items
 
 -- a grid of tiles that was read: a part for each tile
 pub record IsReadFile (f : TileFile) : Type 0 where

@@ -55,8 +55,8 @@ front = do
   version ← plan_version
   header ← frame version
   references ← references header
-  columns ← bounds header.shown_width
-  rows ← bounds header.shown_height
+  columns ← bounds header.width
+  rows ← bounds header.height
   done (record { header = header; references = references; columns = columns; rows = rows })
 
 -- how many tiles lie between so many bounds

@@ -2,7 +2,7 @@
 use Rattle.std.specs.Prelude.{◌≡◌, ℕ, ◌<◌, ◌≤◌, List, length, Ok, Err, ⊤}
 use Rattle.av1_plan.specs.Plan.{PlanValue}
 use Rattle.av1_streams.specs.Streams.{AreBytes, max_plan_bytes}
-use Rattle.av1_recon.specs.declared.error.PlanRefusal.{PlanRefusal}
+use Rattle.av1_recon.specs.declared.error.PlanFault.{PlanFault}
 use Rattle.av1_tiles.specs.declared.error.TilesError.{TilesError}
 use Rattle.av1_tiles.specs.declared.error.TilesError.TheVariants.{ReadFault, TooLong, Malformed, Tile, WriteFault}
 use Rattle.av1_tiles.specs.declared.error.TilesError.TheVariants.{Memory}
@@ -16,7 +16,7 @@ pub record AreGrid (bytes : List ℕ) (f : FileValue) : Type 0 where
   pub read : read_file bytes ≡ Ok f
 
 -- tile i is the first that is refused, and why
-pub record IsFirstRefused (f : FileValue) (i : ℕ) (fault : PlanRefusal) : Type 0 where
+pub record IsFirstRefused (f : FileValue) (i : ℕ) (fault : PlanFault) : Type 0 where
   pub within : i < count_tiles f.front
   pub before : (k : ℕ) → k < i → (plan : PlanValue) × IsTile f k plan
   pub refused : IsRefusedTile f i fault

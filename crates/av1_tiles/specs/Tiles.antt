@@ -7,7 +7,7 @@ use Rattle.av1_frame.specs.Areas.{VisibleArea}
 use Rattle.av1_plan.specs.declared.header.Header.{Header}
 use Rattle.av1_plan.specs.declared.leaf.LeafKind.{LeafKind}
 use Rattle.av1_plan.specs.Format.{Format}
-use Rattle.av1_plan.specs.Geometry.{coded_side, follows_av1, xdec, ydec, shown_columns, shown_rows}
+use Rattle.av1_plan.specs.Geometry.{follows_av1, xdec, ydec, shown_columns, shown_rows}
 use Rattle.av1_plan.specs.Grammar.{plan_behind}
 use Rattle.av1_plan.specs.Plan.{PlanValue}
 use Rattle.av1_plan.specs.ReadPlans.{IsReadFrame}
@@ -38,10 +38,8 @@ tile_area f i = area_between f.columns f.rows (i % across f) (i / across f)
 abbrev pub tile_header : Header → TileArea → Header
 tile_header h a = record {
   version = h.version;
-  width = coded_side a.width;
-  height = coded_side a.height;
-  shown_width = a.width;
-  shown_height = a.height;
+  width = a.width;
+  height = a.height;
   depth = h.depth;
   sampling = h.sampling;
   filter = h.filter;
@@ -52,8 +50,8 @@ tile_header h a = record {
 
 -- a rectangle of what is shown of the frame, with which a tile is a frame of its own
 pub record IsTileArea (h : Header) (a : TileArea) : Type 0 where
-  pub columns : a.x + a.width ≤ h.shown_width
-  pub rows : a.y + a.height ≤ h.shown_height
+  pub columns : a.x + a.width ≤ h.width
+  pub rows : a.y + a.height ≤ h.height
   pub frame : IsReadFrame (tile_header h a)
 
 -- the column and the row of plane p at which a rectangle of luma begins

@@ -3,8 +3,8 @@ use Rattle.std.specs.Prelude.{◌≡◌, ℕ, ◌<◌, Some, None, ⊤}
 use Rattle.av1_plan.specs.Plan.{PlanValue}
 use Rattle.av1_plan.specs.Spelling.{AreText, AreRefused}
 use Rattle.av1_plan.specs.Validity.{first_fault}
-use Rattle.av1_recon.specs.declared.error.PlanRefusal.{PlanRefusal}
-use Rattle.av1_recon.specs.declared.error.PlanRefusal.TheVariants as faults
+use Rattle.av1_recon.specs.declared.error.PlanFault.{PlanFault}
+use Rattle.av1_recon.specs.declared.error.PlanFault.TheVariants as faults
 use Rattle.av1_tiles.specs.declared.error.TileError.{TileError}
 use Rattle.av1_tiles.specs.declared.error.TileError.TheVariants as errors
 use Rattle.av1_tiles.specs.Grammar.{FileValue, count_tiles}
@@ -17,7 +17,7 @@ pub record IsTile (f : FileValue) (i : ℕ) (plan : PlanValue) : Type 0 where
 
 -- why the part of tile i is refused: it is no text of its plan, or that of a plan whose first faulty leaf has this
 -- fault
-abbrev pub IsRefusedTile : FileValue → ℕ → PlanRefusal → Type 0
+abbrev pub IsRefusedTile : FileValue → ℕ → PlanFault → Type 0
 IsRefusedTile f i (faults.Malformed at) = AreRefused (tile_plan f.front i) (part_of f i) at
 IsRefusedTile f i (faults.Invalid leaf kind) = (plan : PlanValue) × AreText (tile_plan f.front i) (part_of f i) plan ×
     (first_fault plan ≡ Some (record { leaf = leaf; kind = kind }))

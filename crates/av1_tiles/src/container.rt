@@ -55,8 +55,8 @@ fn front(alloc: Global, reader: &mut Reader<'_>) -> Result<Front, PlanError>
     let version = plan_version(reader)?;
     let header = reader.frame(version)?;
     let references = reader.references(alloc, &header)?;
-    let columns = bounds(alloc, reader, header.shown_width)?;
-    let rows = bounds(alloc, reader, header.shown_height)?;
+    let columns = bounds(alloc, reader, header.width)?;
+    let rows = bounds(alloc, reader, header.height)?;
     Ok(Front {
         header,
         references,

@@ -5,16 +5,16 @@ ghost use Rattle.av1_tiles.specs.Errors.{read_error, file_error};
 ghost use Rattle.av1_tiles.specs.declared.error.TileError.TheVariants.{Memory};
 ghost use Rattle.av1_tiles.specs.declared.error.TilesError.TheVariants as errors;
 
+use crate::TileFault;
 use av1_blocks::OutOfMemory;
 use av1_plan::PlanError;
-use av1_recon::PlanRefusal;
 use av1_streams::{ReadError, WriteFault};
 
 /// Why a tile has no valid plan.
 #[derive(Copy, Clone, Debug, PartialEq, Eq)]
 pub enum TileError {
     /// Its part is refused.
-    Refused { fault: PlanRefusal },
+    Refused { fault: TileFault },
     /// Memory ran out.
     Memory,
 }
@@ -38,7 +38,7 @@ pub enum TilesError {
     /// tile's part is one field.
     Malformed { at: u32 },
     /// Tile number `tile`, counted from 0 in raster order, is the first that is refused, and why.
-    Tile { tile: u16, fault: PlanRefusal },
+    Tile { tile: u16, fault: TileFault },
     /// A write failed. A prefix of the planes was written.
     WriteFault,
     /// Memory ran out, before the first written byte.

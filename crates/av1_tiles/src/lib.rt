@@ -33,6 +33,7 @@ mod reconstruct;
 mod tile;
 
 pub use area::TileArea;
+pub use av1_recon::PlanFault as TileFault;
 pub use container::read_tiles;
 pub use error::{TileError, TilesError};
 pub use file::{Front, TileFile};

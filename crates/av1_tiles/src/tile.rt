@@ -13,11 +13,11 @@ ghost use Rattle.av1_tiles.specs.Validity.{IsTile, RefusesTile};
 ghost use Rattle.av1_tiles.specs.Tiles.{area_between, tile_area, IsTileArea, tile_header, rectangle, tile_plane, tile_planes, tile_references, tile_plan};
 ghost use Rattle.av1_tiles.specs.Tiles.{part_of};
 
+use crate::TileFault;
 use crate::area::TileArea;
 use crate::error::TileError;
 use crate::file::{Front, TileFile};
-use av1_plan::{Header, Plan, PlanError, SlotPlanes, check_plan, coded_side, parse_plan_behind};
-use av1_recon::PlanRefusal;
+use av1_plan::{Header, Plan, PlanError, SlotPlanes, check_plan, parse_plan_behind};
 use std::alloc::{AllocError, Global};
 
 /// The rectangle between the bounds from a column and a row of tiles on.
@@ -29,8 +29,8 @@ fn area_between(
     row: usize,
 ) -> TileArea
     requires frame { IsReadFrame header.now }
-    requires columns { AreBounds header.now.shown_width columns.now }
-    requires rows { AreBounds header.now.shown_height rows.now }
+    requires columns { AreBounds header.now.width columns.now }
+    requires rows { AreBounds header.now.height rows.now }
     requires column { column + 1 < length columns.now }
     requires row { row + 1 < length rows.now }
     ensures value { result ≡ area_between columns.now rows.now column row }
@@ -71,10 +71,8 @@ fn tile_header(header: &Header, area: TileArea) -> Header
 {
     Header {
         version: header.version,
-        width: coded_side(area.width),
-        height: coded_side(area.height),
-        shown_width: area.width,
-        shown_height: area.height,
+        width: area.width,
+        height: area.height,
         depth: header.depth,
         sampling: header.sampling,
         filter: header.filter,
@@ -219,7 +217,7 @@ pub fn read_tile(alloc: Global, file: &TileFile<'_>, index: usize) -> Result<Pla
         Ok(plan) => plan,
         Err(PlanError::Malformed { at }) => {
             return Err(TileError::Refused {
-                fault: PlanRefusal::Malformed { at },
+                fault: TileFault::Malformed { at },
             });
         }
         Err(PlanError::Memory) => return Err(TileError::Memory),
@@ -227,7 +225,7 @@ pub fn read_tile(alloc: Global, file: &TileFile<'_>, index: usize) -> Result<Pla
     match check_plan(&plan) {
         Ok(()) => Ok(plan),
         Err(invalid) => Err(TileError::Refused {
-            fault: PlanRefusal::Invalid {
+            fault: TileFault::Invalid {
                 leaf: invalid.leaf,
                 kind: invalid.kind,
             },

@@ -28,7 +28,6 @@ abbrev pub frame_fault_text : FrameFault → List ℕ
 frame_fault_text frame_faults.TooLarge = codes "too large\n"
 frame_fault_text (frame_faults.Malformed at) = malformed_text at
 frame_fault_text (frame_faults.Invalid leaf kind) = invalid_text leaf kind
-frame_fault_text frame_faults.EmptySlot = codes "empty slot\n"
 
 abbrev pub sequence_line : SequenceError → List ℕ
 sequence_line sequence_errors.ReadFault = codes "read fault\n"
@@ -36,6 +35,7 @@ sequence_line sequence_errors.TooLong = codes "too long\n"
 sequence_line (sequence_errors.Malformed at) = malformed_text at
 sequence_line (sequence_errors.Frame frame fault) = codes "frame " ++ decimal frame ++ codes " "
     ++ frame_fault_text fault
+sequence_line (sequence_errors.EmptySlot frame) = codes "frame " ++ decimal frame ++ codes " empty slot\n"
 sequence_line sequence_errors.WriteFault = codes "write fault\n"
 sequence_line sequence_errors.Memory = codes "out of memory\n"
 

@@ -9,15 +9,15 @@ ghost use Rattle.av1_trace.specs.Checking.{cause as trace_cause};
 ghost use Rattle.av1_toolbox.specs.Answers.{sequence_line, tiles_line, trace_done};
 
 use av1_recon::{
-    PlanRefusal, Sink, malformed_line, plain_line, push_invalid, push_malformed, push_refusal, say,
+    Sink, malformed_line, plain_line, push_invalid, push_malformed, push_refusal, say,
 };
 use av1_sequence::{FrameFault, SequenceError};
 use av1_streams::Line;
-use av1_tiles::TilesError;
+use av1_tiles::{TileFault, TilesError};
 use av1_trace::{TraceError, report_error};
 
 // The line for the part of a tile.
-fn tile_line(tile: u16, fault: PlanRefusal) -> Line
+fn tile_line(tile: u16, fault: TileFault) -> Line
     ensures { result ≡ tiles_line (TilesError.Tile tile fault) }
 {
     let mut line = Line::new();
@@ -70,7 +70,7 @@ pub fn report_trace<E: Sink>(answer: Result<u32, TraceError>, err: &mut E) -> u8
     }
 }
 
-// The line for an entry of a sequence.
+// The line for a frame of a sequence.
 fn frame_line(frame: u16, fault: FrameFault) -> Line
     ensures { result ≡ sequence_line (SequenceError.Frame frame fault) }
 {
@@ -82,8 +82,18 @@ fn frame_line(frame: u16, fault: FrameFault) -> Line
         FrameFault::TooLarge => line.push(b"too large\n"),
         FrameFault::Malformed { at } => push_malformed(&mut line, at),
         FrameFault::Invalid { leaf, kind } => push_invalid(&mut line, leaf, kind),
-        FrameFault::EmptySlot => line.push(b"empty slot\n"),
     }
+    line
+}
+
+// The line for an entry of a sequence that shows the frame of an empty slot.
+fn empty_slot_line(frame: u16) -> Line
+    ensures { result ≡ sequence_line (SequenceError.EmptySlot frame) }
+{
+    let mut line = Line::new();
+    line.push(b"frame ");
+    line.push_number(u64::from(frame));
+    line.push(b" empty slot\n");
     line
 }
 
@@ -95,6 +105,7 @@ fn sequence_line(error: SequenceError) -> Line
         SequenceError::TooLong => plain_line(b"too long"),
         SequenceError::Malformed { at } => malformed_line(at),
         SequenceError::Frame { frame, fault } => frame_line(frame, fault),
+        SequenceError::EmptySlot { frame } => empty_slot_line(frame),
         SequenceError::WriteFault => plain_line(b"write fault"),
         SequenceError::Memory => plain_line(b"out of memory"),
     }
@@ -110,7 +121,10 @@ pub fn report_sequence<E: Sink>(answer: Result<(), SequenceError>, err: &mut E) 
     };
     say(sequence_line(error).as_bytes(), err);
     match error {
-        SequenceError::TooLong | SequenceError::Malformed { .. } | SequenceError::Frame { .. } => 2,
+        SequenceError::TooLong
+        | SequenceError::Malformed { .. }
+        | SequenceError::Frame { .. }
+        | SequenceError::EmptySlot { .. } => 2,
         SequenceError::Memory => 3,
         SequenceError::ReadFault => 4,
         SequenceError::WriteFault => 5,

@@ -20,7 +20,7 @@ use Rattle.av1_trace.specs.Checking.{HasOutcome, Outcome, cause, trace_task}
 use Rattle.av1_trace.specs.Differences.{differences}
 use Rattle.av1_trace.specs.Samples.{planes_len}
 use Rattle.av1_trace.specs.Traces.{AreRefusedFor, HasParts, IsMalformedAt, IsValidPlan, cut_planes, left_over, max_trace_bytes, no_letters, no_length, cut_plan}
-use Rattle.av1_recon.specs.declared.error.PlanRefusal.TheVariants as faults
+use Rattle.av1_recon.specs.declared.error.PlanFault.TheVariants as faults
 use Rattle.av1_trace.specs.declared.error.TraceError.{TraceError}
 use Rattle.av1_trace.specs.declared.error.TraceError.TheVariants.{ReadFault, TooLong, Malformed, Plan, WriteFault, Memory}
 use Rattle.av1_trace.proofs.Shapes.{IsFrontFault, no_letters as front_letters, no_length as front_length, cut_plan as front_plan, one_front_fault}

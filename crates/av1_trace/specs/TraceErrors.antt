@@ -4,7 +4,7 @@ use Rattle.av1_plan.specs.declared.error.PlanError.TheVariants as plan_errors
 use Rattle.av1_plan.specs.declared.error.Invalid.{Invalid}
 use Rattle.av1_streams.specs.declared.read.ReadError.{ReadError}
 use Rattle.av1_streams.specs.declared.read.ReadError.TheVariants as read_errors
-use Rattle.av1_recon.specs.declared.error.PlanRefusal.TheVariants as faults
+use Rattle.av1_recon.specs.declared.error.PlanFault.TheVariants as faults
 use Rattle.av1_trace.specs.declared.error.TraceError.{TraceError}
 use Rattle.av1_trace.specs.declared.error.TraceError.TheVariants as errors
 

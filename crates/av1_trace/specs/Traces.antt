@@ -6,8 +6,8 @@ use Rattle.av1_plan.specs.Plan.{PlanValue}
 use Rattle.av1_plan.specs.Spelling.{AreText, AreRefused}
 use Rattle.av1_plan.specs.Validity.{first_fault}
 use Rattle.av1_streams.specs.Streams.{max_plan_bytes}
-use Rattle.av1_recon.specs.declared.error.PlanRefusal.{PlanRefusal}
-use Rattle.av1_recon.specs.declared.error.PlanRefusal.TheVariants as faults
+use Rattle.av1_recon.specs.declared.error.PlanFault.{PlanFault}
+use Rattle.av1_recon.specs.declared.error.PlanFault.TheVariants as faults
 use Rattle.av1_trace.specs.declared.error.TraceError.{TraceError}
 use Rattle.av1_trace.specs.declared.error.TraceError.TheVariants.{ReadFault, TooLong, Malformed, Plan, WriteFault}
 use Rattle.av1_trace.specs.declared.error.TraceError.TheVariants.{Memory}
@@ -65,7 +65,7 @@ pub data IsMalformedAt (bytes : List ℕ) (at : ℕ) : Type 0 where
       planes_len value.header < length planes → at ≡ 8 + length plan + planes_len value.header → IsMalformedAt bytes at
 
 -- the plan is refused for this
-abbrev pub IsFaultOf : List ℕ → PlanRefusal → Type 0
+abbrev pub IsFaultOf : List ℕ → PlanFault → Type 0
 IsFaultOf plan (faults.Malformed at) = AreRefused grammar plan at
 IsFaultOf plan (faults.Invalid leaf kind) = (value : PlanValue) × AreText grammar plan value ×
     (first_fault value ≡ Some (record { leaf = leaf; kind = kind }))

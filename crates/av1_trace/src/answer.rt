@@ -7,11 +7,11 @@ ghost use Rattle.av1_trace.specs.Checking.{cause};
 ghost use Rattle.av1_trace.specs.declared.error.TraceError.TheVariants.{Plan as InPlan};
 
 use crate::TraceError;
-use av1_recon::{PlanRefusal, malformed_line, plain_line, push_refusal, say};
+use av1_recon::{PlanFault, malformed_line, plain_line, push_refusal, say};
 use av1_streams::{Line, Sink};
 
 // The line for the plan of a trace.
-fn plan_line(fault: PlanRefusal) -> Line
+fn plan_line(fault: PlanFault) -> Line
     ensures { result ≡ error_line (InPlan fault) }
 {
     let mut line = Line::new();

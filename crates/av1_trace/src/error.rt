@@ -5,7 +5,7 @@ ghost use Rattle.av1_trace.specs.declared.error.TraceError.TheVariants as varian
 
 use av1_blocks::OutOfMemory;
 use av1_plan::{Invalid, PlanError};
-use av1_recon::PlanRefusal;
+use av1_recon::PlanFault;
 use av1_streams::{ReadError, WriteFault};
 
 /// Why a trace was not compared, or its differences were not written.
@@ -19,7 +19,7 @@ pub enum TraceError {
     /// the end.
     Malformed { at: u32 },
     /// The plan is refused.
-    Plan { fault: PlanRefusal },
+    Plan { fault: PlanFault },
     /// A write failed. A prefix of the lines was written.
     WriteFault,
     /// An allocation was refused, before the first written byte.
@@ -44,7 +44,7 @@ impl From<PlanError> for TraceError {
     fn from(error: PlanError) -> Self {
         match error {
             PlanError::Malformed { at } => TraceError::Plan {
-                fault: PlanRefusal::Malformed { at },
+                fault: PlanFault::Malformed { at },
             },
             PlanError::Memory => TraceError::Memory,
         }
@@ -56,7 +56,7 @@ impl From<Invalid> for TraceError {
 
     fn from(fault: Invalid) -> Self {
         TraceError::Plan {
-            fault: PlanRefusal::Invalid {
+            fault: PlanFault::Invalid {
                 leaf: fault.leaf,
                 kind: fault.kind,
             },

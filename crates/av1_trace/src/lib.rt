@@ -28,6 +28,7 @@ mod samples;
 mod trace;
 
 pub use answer::report_error;
+pub use av1_recon::PlanFault;
 pub use comparison::compare;
 pub use entry::Difference;
 pub use error::TraceError;

@@ -1,7 +1,7 @@
 -- What the bytes of a sequence come to, and what its reconstruction in memory says of them.
 use Rattle.std.proofs.Common.{◌≡◌, ◌≢◌, ℕ, ◌≤◌, List, [], length, Some, Result, Ok, Err, refl, sym, ap, subst, ◌∙◌, arith}
 use Rattle.av1_sequence.specs.declared.error.SequenceError.{SequenceError}
-use Rattle.av1_sequence.specs.declared.error.SequenceError.TheVariants.{ReadFault, TooLong, Malformed, Frame, WriteFault, Memory}
+use Rattle.av1_sequence.specs.declared.error.SequenceError.TheVariants.{ReadFault, TooLong, Malformed, Frame, EmptySlot, WriteFault, Memory}
 use Rattle.av1_sequence.specs.Errors.{read_error}
 use Rattle.av1_sequence.specs.Files.{Answer, HasOutcome}
 use Rattle.av1_sequence.specs.Tasks.{Answers, cause_of}
@@ -34,6 +34,7 @@ long_sequence bytes TooLong is over = ([], (over, refl))
 long_sequence bytes ReadFault is over = absurd cc
 long_sequence bytes (Malformed at) is over = absurd cc
 long_sequence bytes (Frame i fault) is over = absurd cc
+long_sequence bytes (EmptySlot i) is over = absurd cc
 long_sequence bytes WriteFault is over = absurd cc
 long_sequence bytes Memory is over = absurd cc
 
@@ -45,6 +46,7 @@ pub short_sequence : (bytes : List ℕ) (e : SequenceError) → length bytes ≤
 short_sequence bytes TooLong short (planes, (over, none)) = absurd (omega (arith, short, over))
 short_sequence bytes (Malformed at) short r = refl
 short_sequence bytes (Frame i fault) short r = refl
+short_sequence bytes (EmptySlot i) short r = refl
 short_sequence bytes ReadFault short (planes, r) = absurd r
 short_sequence bytes WriteFault short (planes, r) = absurd r
 short_sequence bytes Memory short (planes, r) = absurd r
@@ -71,6 +73,7 @@ refused_so : (bytes before after : List ℕ) (e : SequenceError) → Answers (Er
 refused_so bytes before after TooLong (written, has, all) other = (written, has)
 refused_so bytes before after (Malformed at) (written, has, all) other = (written, has)
 refused_so bytes before after (Frame i fault) (written, has, all) other = (written, has)
+refused_so bytes before after (EmptySlot i) (written, has, all) other = (written, has)
 refused_so bytes before after ReadFault answers other = absurd (other refl)
 refused_so bytes before after WriteFault answers other = absurd (other refl)
 refused_so bytes before after Memory answers other = absurd (other refl)

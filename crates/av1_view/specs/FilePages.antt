@@ -65,6 +65,7 @@ sequence_in_memory sequence_errors.ReadFault = sequence_errors.Memory
 sequence_in_memory sequence_errors.TooLong = sequence_errors.TooLong
 sequence_in_memory (sequence_errors.Malformed at) = sequence_errors.Malformed at
 sequence_in_memory (sequence_errors.Frame i fault) = sequence_errors.Frame i fault
+sequence_in_memory (sequence_errors.EmptySlot i) = sequence_errors.EmptySlot i
 sequence_in_memory sequence_errors.WriteFault = sequence_errors.Memory
 sequence_in_memory sequence_errors.Memory = sequence_errors.Memory
 

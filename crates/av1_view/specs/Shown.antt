@@ -11,7 +11,7 @@ use Rattle.av1_view.specs.Page.{page}
 
 -- how many bytes a row of luma has
 abbrev pub row_len : Header → ℕ
-row_len header = sample_len header.depth * header.shown_width
+row_len header = sample_len header.depth * header.width
 
 -- what the Predict steps of a plan predict of its planes, packed against these
 unfoldable pub packed_predictions : PlanValue → List ℕ

@@ -20,8 +20,8 @@ use std::alloc::Global;
 /// # Errors
 ///
 /// As for [`av1_sequence::reconstruct_sequence`], but that there is no page where an entry is refused: `ReadFault` and
-/// `TooLong` while it reads, then `Malformed`, then `Frame`, then `WriteFault`. `Memory` may stand in place of any of
-/// them, before the first written byte.
+/// `TooLong` while it reads, then `Malformed`, then `Frame` or `EmptySlot`, then `WriteFault`. `Memory` may stand in
+/// place of any of them, before the first written byte.
 pub fn view_sequence<R: Source, W: Sink>(
     alloc: Global,
     source: &mut R,

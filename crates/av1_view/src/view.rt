@@ -74,7 +74,7 @@ pub fn gather(alloc: Global, plan: &Plan) -> Result<Parts, OutOfMemory>
 fn row_len(header: &Header) -> usize
     ensures { result ≡ row_len header.now }
 {
-    let width = usize::from(header.shown_width);
+    let width = usize::from(header.width);
     if header.depth == 8 { width } else { 2 * width }
 }
 

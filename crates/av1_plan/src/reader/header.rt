@@ -1,7 +1,6 @@
 //! Reading what stands before the reference samples.
 
 use crate::error::PlanError;
-use crate::geometry::coded_side;
 use crate::header::Header;
 use crate::reader::Reader;
 use av1_blocks::FilterMode;
@@ -125,8 +124,8 @@ impl<'a> Reader<'a> {
         ensures moves { Moves self.old self.new }
         ensures small { IfOk result (λ h. (h.width ≤ 2048) × (h.height ≤ 2048) × (h.depth ≤ 12)) }
     {
-        let shown_width = self.side(version)?;
-        let shown_height = self.side(version)?;
+        let width = self.side(version)?;
+        let height = self.side(version)?;
         let depth = self.depth()?;
         let sampling = self.byte(0, 2)?;
         let filter = self.byte(0, 3)?;
@@ -136,10 +135,8 @@ impl<'a> Reader<'a> {
         let mask = self.any_byte()?;
         Ok(Header {
             version,
-            width: coded_side(shown_width),
-            height: coded_side(shown_height),
-            shown_width,
-            shown_height,
+            width,
+            height,
             depth,
             sampling,
             filter,

@@ -20,7 +20,10 @@ impl Header {
         ensures { result ≡ admits_stripes self.now level x y }
     {
         let side = 2 * half_side(level);
-        2 <= self.version && 2 <= level && x + side <= self.width && y + side <= self.height
+        2 <= self.version
+            && 2 <= level
+            && usize::from(x + side) <= self.coded_width()
+            && usize::from(y + side) <= self.coded_height()
     }
 
     /// Whether a node of side `4 << level` samples, whose upper left luma sample stands in column `x` and row `y`, may

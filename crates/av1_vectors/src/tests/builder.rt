@@ -20,8 +20,6 @@ fn header() -> Header {
         version: 1,
         width: 8,
         height: 8,
-        shown_width: 8,
-        shown_height: 8,
         depth: 8,
         sampling: 0,
         filter: FilterMode::REGULAR,

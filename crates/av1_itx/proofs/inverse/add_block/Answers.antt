@@ -4,17 +4,17 @@ use Rattle.av1_dct.specs.Arithmetic.{at, FitsBits}
 use Rattle.av1_frame.specs.Arithmetic.{clip, round_shift}
 use Rattle.av1_frame.specs.Samples.{paint}
 use Rattle.av1_frame.proofs.Paint.{paint_same}
-use Rattle.av1_dct.proofs.Fits.{clamp_value-fits}
-use Rattle.av1_itx.specs.Residue.{column_range}
-use Rattle.av1_itx.proofs.Handed.{columns_are, groups}
+use Rattle.av1_itx.specs.Scaffolding.{column_bits}
+use Rattle.av1_itx.proofs.Handed.{bits_in, columns_are, groups}
 use Rattle.av1_itx.proofs.Passes.{column-fits, residue_is}
+use Rattle.av1_itx.proofs.Unclamped.{columns_take}
 use Rattle.av1_itx.proofs.inverse.add_block.Goals as goal
 
 pub column_pass-requires-clause-columns : goal.column_pass-requires-clause-columns
 column_pass-requires-clause-columns g c =
-    let P : ℤ → Type 0 = λ z. FitsBits (column_range c.args.block.bd) z in
+    let P : ℤ → Type 0 = λ z. FitsBits (column_bits c.args.block) z in
     columns_are c.args.block c.row_pass.new.buffer c.requires.block.depth c.requires.block.columns (c.row_pass.auto.buffer ∙ c.requires.buffer_len)
-    (λ r q hr hq. subst P (sym (c.row_pass.ensures r q hr hq)) (clamp_value-fits _ (column_range c.args.block.bd) (omega arith)))
+    (λ r q hr hq. subst P (sym (c.row_pass.ensures r q hr hq)) (columns_take c.args.block g.T.Coeff.Coefficient.val c.args.input.now c.requires.block r q))
 
 pub add_all-requires-clause-fours : goal.add_all-requires-clause-fours
 add_all-requires-clause-fours g c = subst (λ n. 4 * (n / 4) ≡ n) (sym c.requires.place.width) (groups c.args.block.tx_size).0
@@ -30,12 +30,12 @@ add_all-requires-clause-fit g c = λ r q hr hq.
     let size = c.args.block.tx_size in
     let P : ℤ → Type 0 = λ z. FitsBits 24 z in
     let Q : ℕ → Type 0 = λ n. FitsBits 24 (at c.column_pass.new.buffer (r * n + q)) in
-    let R : ℤ → Type 0 = λ z. FitsBits (column_range c.args.block.bd) z in
+    let R : ℤ → Type 0 = λ z. FitsBits (column_bits c.args.block) z in
     let k : q < tx_width size = omega (arith, c.requires.place.width) in
     subst Q (sym c.requires.place.width)
     (subst P (sym (c.column_pass.ensures.value r q (omega arith) k))
-    (column-fits size c.args.block.tx_type c.args.block.bd c.row_pass.new.buffer r q (omega arith)
-    (λ y hy. subst R (sym (c.row_pass.ensures y q hy k)) (clamp_value-fits _ (column_range c.args.block.bd) (omega arith)))))
+    (column-fits size c.args.block.tx_type (column_bits c.args.block) c.row_pass.new.buffer r q (bits_in c.args.block c.requires.block.depth.1).1
+    (λ y hy. subst R (sym (c.row_pass.ensures y q hy k)) (columns_take c.args.block g.T.Coeff.Coefficient.val c.args.input.now c.requires.block y q))))
 
 pub returns-clause-painted : goal.returns-clause-painted
 returns-clause-painted g c =

@@ -1,4 +1,4 @@
-use Rattle.std.proofs.Common.{arith, ℕ, ℤ, ◌≡◌, ◌≤◌, ◌<◌, ◌+◌, ◌-◌, ◌*◌, ◌/◌, ◌++◌, ◌∙◌, ap, sym, subst, refl, map, length, drop, pos, inl, inr}
+use Rattle.std.proofs.Common.{arith, ◌&&◌, ℕ, ℤ, ◌≡◌, ◌≤◌, ◌<◌, ◌+◌, ◌-◌, ◌*◌, ◌/◌, ◌++◌, ◌∙◌, ap, sym, subst, refl, map, length, drop, pos, inl, inr}
 use Rattle.std.proofs.Math.Nat.{mul-le-mul_right}
 use Rattle.std.proofs.lemmas.Bool.{cases_lt}
 use Rattle.std.proofs.lemmas.List.{get_or_append_left, length-append, length-drop, length-map, length-take-le}
@@ -6,13 +6,14 @@ use Rattle.av1_blocks.specs.Transforms.{tx_height, coded}
 use Rattle.av1_dct.specs.Arithmetic.{at, FitsBits, clamp_value}
 use Rattle.av1_dct.proofs.Groups.{put}
 use Rattle.av1_frame.specs.Arithmetic.{round_shift}
-use Rattle.av1_itx.specs.Residue.{row_shift, transformed_row}
+use Rattle.av1_itx.specs.Residue.{column_range, column_value, is_lossless, row_shift, transformed_row}
 use Rattle.av1_itx.specs.Scaffolding.{AreColumns, AreTransformed}
 use Rattle.av1_itx.proofs.Fills.{part_len}
 use Rattle.av1_itx.proofs.Handed.{rows_are}
 use Rattle.av1_itx.proofs.Lines.{columns_hold, place_in, rows_end}
 use Rattle.av1_itx.proofs.Passes.{input_none, row-fits}
-use Rattle.av1_itx.proofs.Tiles.{eights, fours, taken-none, taken-past, taken_by_columns, tile_row}
+use Rattle.av1_itx.proofs.Tiles.{eights, fours, taken-none, taken-past, tile_row}
+use Rattle.av1_itx.proofs.Unclamped.{kept, taken_fits}
 use Rattle.av1_itx.proofs.rows.rows_of.Goals as goal
 
 pub run_columns-requires : goal.run_columns-requires
@@ -68,7 +69,7 @@ returns g c = λ r x hr hx.
     let room = mul-le-mul_right w few in
     let new_len : length new ≡ q * w = c.write_groups.auto.buffer ∙ length-take-le (q * w) c.args.buffer.now (omega (arith, long, room)) in
     let whole : length buf ≡ h * w = omega (arith, length-append new rest, length-drop (q * w) c.args.buffer.now, new_len, long, room) in
-    let f = λ (a b : ℕ). taken_by_columns size bd (at (transformed_row c.args.block.by_av1 size type bd cs a) b) in
+    let f = λ (a b : ℕ). column_value c.args.block.by_av1 size type bd (at (transformed_row c.args.block.by_av1 size type bd cs a) b) in
     let all = subst (λ (columns : _). AreTransformed columns c.fill_rows.new.scaled c.run_columns.new.buffer) c.rows_in.ensures c.run_columns.ensures in
     let run = λ (a b : ℕ) (ha : a < q) (hb : b < w). (let la : a < coded h = omega (arith, ha, within, rows) in
     ap (λ n. at c.run_columns.new.buffer (b * n + a)) rows
@@ -76,9 +77,11 @@ returns g c = λ r x hr hx.
     ∙ tile_row c.args.block cs c.fill_rows.new.scaled a b la (λ y hy. c.fill_rows.ensures y a hy la)) in
     let written = λ (a b : ℕ) (ha : a < q) (hb : b < w). (let z = at (transformed_row c.args.block.by_av1 size type bd cs a) b in
     c.write_groups.ensures a b (omega (arith, ha, lanes)) hb
-    ∙ ap (λ v. clamp_value (round_shift v c.row_shift_of-shift.result) c.column_range_of-range.result) (run a b ha hb)
-    ∙ ap (λ n. clamp_value (round_shift z n) c.column_range_of-range.result) c.row_shift_of-shift.ensures.value
-    ∙ ap (λ n. clamp_value (round_shift z (row_shift size)) n) c.column_range_of-range.ensures.value) in
+    ∙ ap (λ v. clamp_value (round_shift v c.row_shift_of-shift.result) c.column_bits_of-range.result) (run a b ha hb)
+    ∙ ap (λ n. clamp_value (round_shift z n) c.column_bits_of-range.result) c.row_shift_of-shift.ensures.value
+    ∙ ap (λ n. clamp_value (round_shift z (row_shift size)) n) c.column_bits_of-range.ensures.value
+    ∙ kept (c.args.block.by_av1 && is_lossless type) (column_range bd) (round_shift z (row_shift size))
+    (taken_fits c.args.block.by_av1 size type bd cs a b c.requires.block.depth.1 c.requires.block.rows c.requires.block.columns c.requires.block.fit)) in
     let n_given = length c.args.input.now in
     let given_in = columns_hold n_given c.min-rows.result (omega arith) in
     let past_given : (y : ℕ) → n_given / c.min-rows.result + 1 ≤ y → length cs ≤ y * coded h + 0 = λ y hy.
@@ -86,14 +89,14 @@ returns g c = λ r x hr hx.
     let same = ap (λ n. y * n) rows in
     omega (arith, given_in, room, same, length-map c.args.input.now g.C.Coefficient.val)) in
     let none : (a b : ℕ) → q ≤ a → f a b ≡ pos 0 = λ a b ha. elim (cases_lt a (coded h)) [
-      | inl la ↦ sym (taken-none c.args.block.by_av1 size type bd cs a b la (λ y hy. elim (cases_lt y c.min-columns.result) [
+      | inl la ↦ taken-none c.args.block.by_av1 size type bd cs a b la (λ y hy. elim (cases_lt y c.min-columns.result) [
         | inl given ↦ sym (c.fill_rows.ensures y a hy la)
             ∙ subst (λ (n : ℕ). at c.fill_rows.new.scaled (y * n + a) ≡ pos 0) rows
             (c.live_groups-groups.ensures.zeros y a given (omega (arith, ha, lanes)) (omega (arith, la, rows)))
         | inr none_given ↦ input_none size type bd cs a y
             (let past = past_given y (omega (arith, hy, none_given, c.min-columns.ensures, c.width-w.ensures.value)) in omega (arith, past))
-      ]))
-      | inr past ↦ sym (taken-past c.args.block.by_av1 size type bd cs a b past)
+      ])
+      | inr past ↦ taken-past c.args.block.by_av1 size type bd cs a b past
     ] in
     let P : ℕ → Type 0 = λ n. at (put (q * w) (length buf - q * w) buf c.clear.new.line) (r * n + x) ≡ f r x in
     subst P c.width-w.ensures.value

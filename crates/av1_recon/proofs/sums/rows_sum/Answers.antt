@@ -21,5 +21,5 @@ returns g c =
 pub sum_of-requires : goal.sum_of-requires
 sum_of-requires g c =
     let within = row_within g.T.Pixel.num c.args.state.now c.args.p c.loop-y.y c.args.header c.row.result.now c.requires.made c.row.ensures in
-    let wide : c.args.header.shown_width < 65536 = search rules in
+    let wide : c.args.header.width < 65536 = search rules in
     omega (arith, within, wide)

@@ -18,8 +18,7 @@ reconstruct_picture-requires-clause-room g c =
     subst (λ (h : Header). HasRoomFor h c.args.memory.now)
     (tile_header_is (file_value c.args.file.now) c.args.index (plan_value c.in_ok-plan.plan) c.in_ok-plan.ensures.found)
     (room_within front.header (tile_header front.header area) c.args.memory.now
-    (omega (arith, is.columns, c.requires.read.front.frame.width.whole, c.requires.read.front.frame.shown_width.within))
-    (omega (arith, is.rows, c.requires.read.front.frame.height.whole, c.requires.read.front.frame.shown_height.within)) c.requires.room)
+    (omega (arith, is.columns)) (omega (arith, is.rows)) c.requires.room)
 
 pub place_tile-requires-clause-made : goal.place_tile-requires-clause-made
 place_tile-requires-clause-made g c =
