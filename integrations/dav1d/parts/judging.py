@@ -8,7 +8,7 @@ import sys
 from . import plans, tools
 from .logged import INTER, INTRA
 
-MODES = ("DC V H D45 D135 D113 D157 D203 D67 SMOOTH SMOOTH_V SMOOTH_H PAETH").split()
+MODES = ("DC V H D45 D135 D113 D157 D203 D67 SMOOTH SMOOTH_V SMOOTH_H PAETH from_luma").split()
 ROOT = os.path.abspath(os.path.join(os.path.dirname(__file__), "../../.."))
 MOST = 2048  # the largest width or height of a plan
 
@@ -34,12 +34,17 @@ def trace(plan):
     return b"RTR1" + struct.pack("<I", len(plan.text)) + plan.text + plan.planes
 
 
+def leaf_at(plan, plane, row, column):
+    """The leaf that has a sample; of leaves that share chroma the one that carries it."""
+    half_x, half_y = (plan.frame.half_x, plan.frame.half_y) if plane else (0, 0)
+    return plan.cut.cells[(column << half_x) // 4 | half_x, (row << half_y) // 4 | half_y]
+
+
 def grid_difference(plan, defined):
     """The first sample that differs in the first leaf, in coding order, that has one: plane, row, column and both values."""
     frame, wide, start, best = plan.frame, plan.frame.wide, 0, None
     for plane in range(3):
         width, height = frame.sides(plane, plan.coded)
-        half_x, half_y = (frame.half_x, frame.half_y) if plane else (0, 0)
         for row in range(height):
             at = start + row * width * wide
             ours, theirs = defined[at:at + width * wide], plan.planes[at:at + width * wide]
@@ -48,8 +53,7 @@ def grid_difference(plan, defined):
             for column in range(width):
                 values = [int.from_bytes(line[column * wide:(column + 1) * wide], "little") for line in (theirs, ours)]
                 if values[0] != values[1]:
-                    leaf = plan.cut.cells[(column << half_x) // 4, (row << half_y) // 4]
-                    key = (leaf.number, plane, row, column)
+                    key = (leaf_at(plan, plane, row, column).number, plane, row, column)
                     best = min(best or (key, values), (key, values))
         start += width * height * wide
     return (*best[0][1:], *best[1])
@@ -71,13 +75,12 @@ def difference(tool, plan):
     sys.exit(f"{tool} {'tiles' if plan.is_grid else 'trace'} ended with status {status}: {error}")
 
 
-def described(frame, plan, found):
+def described(plan, found):
     """The leaf that differs, in one line, and as fields for --json."""
     plane, row, column, decoder, defined = found
-    half_x, half_y = (frame.half_x, frame.half_y) if plane else (0, 0)
-    leaf = plan.cut.cells[(column << half_x) // 4, (row << half_y) // 4]
+    leaf = leaf_at(plan, plane, row, column)
     if leaf.kind == INTRA:
-        mode = MODES[leaf.mode] if leaf.mode < len(MODES) else "filter intra"
+        mode = MODES[leaf.uv_mode] if plane else (MODES[:-1] + ["filter intra"])[leaf.mode]
     else:
         mode = ("intra block copy", "one reference", "two references")[len(leaf.vectors()) if leaf.kind == INTER else 0]
     fields = {"leaf": leaf.number, "x": 4 * leaf.x, "y": 4 * leaf.y, "width": 4 * leaf.w, "height": 4 * leaf.h, "mode": mode,
@@ -105,7 +108,7 @@ class Judged:
         for plan in self.plans:
             found = difference(tool, plan)
             if found and not self.line:
-                self.line, self.fields = described(frame, plan, found)
+                self.line, self.fields = described(plan, found)
                 self.worst = plan
 
     def blocking(self):

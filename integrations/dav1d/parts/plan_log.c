@@ -154,7 +154,9 @@ void plan_log_transform(const Dav1dTaskContext *const t, const int plane, const 
         n[k++] = value;
     }
     memcpy(n, (const int[]) { t->bx, t->by, plane, size, type, (k - 6) / 2 }, 6 * sizeof(*n));
-    if (plan_log_fault == 4) {
+    static int changed;
+    if (plan_log_fault == 4 && frames == 2 && !changed) { /* one bit, in the second frame */
+        changed = 1;
         if (wide) ((int32_t *) coefficients)[last] ^= 64;
         else ((int16_t *) coefficients)[last] ^= 64;
     }
