@@ -116,7 +116,7 @@ class Judged:
         counts = {}
         for leaf, level, found in zip(self.frame.leaves, self.levels, self.lacks):
             if level != plans.WHOLE:
-                for tool in found - tools.NODES or {"cut, order or neighbours"}:
+                for tool in found - tools.NODES or {"lossless chroma" if leaf.limit else "order or neighbours"}:
                     counts[tool] = counts.get(tool, 0) + 1
         return dict(sorted(counts.items(), key=lambda item: (-item[1], item[0])))
 
