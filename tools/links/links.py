@@ -1,5 +1,5 @@
 #!/usr/bin/env python3
-"""Looks whether every link of README.md and docs/ leads somewhere: to a file, a heading, or a line.
+"""Checks that every link of every page leads somewhere: to a file, a heading, or a line.
 
     links.py [--number]
 
@@ -8,6 +8,7 @@ lines are found and written anew. docs/TRUSTED.md is written by tools/trusted an
 aren't followed, and what stands in a fenced block is no link."""
 import os
 import re
+import subprocess
 import sys
 
 TOP = os.path.dirname(os.path.dirname(os.path.dirname(os.path.abspath(__file__))))
@@ -75,7 +76,8 @@ def looked_at(page, text, is_numbering):
 
 def main():
     is_numbering, count, faults = "--number" in sys.argv[1:], 0, []
-    for page in ["README.md"] + sorted("docs/" + name for name in os.listdir(os.path.join(TOP, "docs")) if name.endswith(".md")):
+    listed = subprocess.run(["git", "ls-files", "*.md"], cwd=TOP, check=True, stdout=subprocess.PIPE, text=True).stdout.split()
+    for page in listed:
         before = text_of(os.path.join(TOP, page))
         after, more, wrong = looked_at(page, before, is_numbering and page != "docs/TRUSTED.md")
         count, faults = count + more, faults + wrong

@@ -3,7 +3,7 @@
 
     tools/record_rows/draw_calls.py RAV1E WORK FILE SEED..
 
-FILE gets rows as docs/ROWS.md says, some 35,000 for each seed; seed 1 draws those of `crates/av1_rows/stdin`. RAV1E is the source of rav1e 0.8.1
+FILE gets rows as README.md here says, some 35,000 for each seed; seed 1 draws those of `crates/av1_rows/stdin`. RAV1E is the source of rav1e 0.8.1
 (the folder that has src/), WORK a folder for what is built. It needs `rustc` and Python 3. `av1_rows < FILE` replays them.
 """
 import pathlib

@@ -3,7 +3,7 @@
 
     tools/record_rows/record_rows.py RAV1E ORACLE WORK FILE [FRAMES..]
 
-RAV1E is the source of rav1e 0.8.1 (the folder that has src/), WORK a folder for what is built. FILE gets the rows, as docs/ROWS.md says:
+RAV1E is the source of rav1e 0.8.1 (the folder that has src/), WORK a folder for what is built. FILE gets the rows, as README.md here says:
 `crates/av1_rows/stdin`. What `av1_rows` prints of them goes to `stdout` beside it. ORACLE is a program that answers by rav1e's code as the
 programs are to. From its standard input to its standard output it takes a plan, and with `tools WORD` what `av1_tools WORD` takes; it has
 their statuses and lines, and `make N` and `sum N`. With `random SEED`, `randomtiles SEED`, `randomtrace SEED`, `randomsequence SEED`, and

@@ -1,4 +1,4 @@
-//! Writes the rows of calls on blocks to standard output, as docs/ROWS.md says, each with the answer of rav1e's own function. Which calls they
+//! Writes the rows of calls on blocks to standard output, as README.md here says, each with the answer of rav1e's own function. Which calls they
 //! are the seed decides that it is given, 1 where it is given none. `record_rows.py` and `draw_calls.py` build and run it.
 #![allow(dead_code, unused_imports, unused_unsafe, non_upper_case_globals, unexpected_cfgs, clippy::all)]
 

@@ -83,6 +83,13 @@ module _ {T : Type 0} (from : Place) (block : MotionBlock) (src : List T) (motio
         ydec = omega arith;
       }
 
+  -- they fill the rows of their settings
+  pub read_storage : (rows : List T) (cfg : PlaneConfig) → rows ≡ take (rows_for from block * from.stride) src → cfg ≡ config_of from block →
+      IsStorage cfg (length rows)
+  read_storage rows cfg e f =
+      subst (λ (k : PlaneConfig). IsStorage k (length rows)) (sym f)
+      (subst (λ (xs : List T). IsStorage (config_of from block) (length xs)) (sym e) read_whole)
+
   read_sample : (num : T → ℕ) (c r : ℕ) → c < block.width + 7 → r < block.height + 7
       → stored_sample num read_plane (pos 0 -ℤ pos 3 +ℤ pos c) (pos 0 -ℤ pos 3 +ℤ pos r) ≡ source_at from (map num src) c r
   read_sample num c r h k =
@@ -106,7 +113,6 @@ module _ {T : Type 0} (from : Place) (block : MotionBlock) (src : List T) (motio
         let stride = ap (λ (k : PlaneConfig). k.stride) cfg in
         let height = ap (λ (k : PlaneConfig). k.alloc_height) cfg in
         record {
-          whole = subst (λ (p : Plane T). IsStorage p.plane_cfg (length p.samples)) (sym (slice_plane_is at read_plane samples cfg)) read_whole;
           left = omega (arith, ints, column, x, s.left);
           right = omega (arith, ints, column, stride, x, s.left, s.rows.columns);
           top = omega (arith, ints, row, y, s.top);

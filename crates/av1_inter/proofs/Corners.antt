@@ -20,13 +20,13 @@ pub corner_fits : {T : Type 0} (src left : PlaneSlice T) (columns rows : ℕ) �
 corner_fits {T} src left columns rows e s =
     let y = ap (λ (p : PlaneSlice T). p.y) e in
     place_fits _ src.plane_cfg.now.yorigin src.plane_cfg.now.alloc_height (omega (arith, ints, y, s.top)) (omega (arith, ints, y, s.bottom))
-    (omega (arith, s.whole.few_rows, s.whole.visible_rows)) s.whole.few_rows
+    (omega (arith, src.whole.few_rows, src.whole.visible_rows)) src.whole.few_rows
 
 -- and its column
 pub corner_column_fits : {T : Type 0} (src : PlaneSlice T) (columns rows : ℕ) → IsStoredFrom (corner_of src) columns rows → FitsSigned w64 (src.x -ℤ pos 3)
 corner_column_fits {T} src columns rows s =
     place_fits _ src.plane_cfg.now.xorigin src.plane_cfg.now.stride s.left (omega (arith, ints, s.right))
-    (omega (arith, s.whole.few_columns, s.whole.visible_columns)) (omega (arith, s.whole.few_columns, s.whole.visible_columns))
+    (omega (arith, src.whole.few_columns, src.whole.visible_columns)) (omega (arith, src.whole.few_columns, src.whole.visible_columns))
 
 -- samples from there within the depth
 pub corner_within : {T : Type 0} (num : T → ℕ) (src corner : PlaneSlice T) (depth columns rows : ℕ) → corner ≡ corner_of src →

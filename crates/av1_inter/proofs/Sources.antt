@@ -17,7 +17,7 @@ module _ {T : Type 0} (num : T → ℕ) (place : PlaneSlice T) (columns rows : �
       y * place.plane_cfg.now.stride + x < length source
   source_long source x y e h k =
       let r = row_long num place columns rows is_stored in
-      let fits = all_from_fits (slice_plane place) place.x place.y y x is_stored.whole (first_is_stored (omega arith) (omega arith))
+      let fits = all_from_fits (slice_plane place) place.x place.y y x place.whole (first_is_stored (omega arith) (omega arith))
       (place_is_stored num place columns rows is_stored y h (omega arith)) (omega (arith, r)) in
       omega (arith, ap length e, fits)
 
@@ -27,7 +27,7 @@ module _ {T : Type 0} (num : T → ℕ) (place : PlaneSlice T) (columns rows : �
   source_sample source x y e h k =
       let r = row_long num place columns rows is_stored in
       ap (λ u. slice_index (map num u) (y * place.plane_cfg.now.stride + x)) e
-      ∙ all_from_sample num (slice_plane place) place.x place.y y x is_stored.whole (first_is_stored (omega arith) (omega arith))
+      ∙ all_from_sample num (slice_plane place) place.x place.y y x place.whole (first_is_stored (omega arith) (omega arith))
       (place_is_stored num place columns rows is_stored y h (omega arith)) (omega (arith, r))
 
   -- the same by a stride that was asked for

@@ -48,7 +48,6 @@ module _ {T : Type 0} (num : T → ℕ) (place : PlaneSlice T) (zx zy : ℤ) (at
       let d = pads_low place.y cfg.ypad cfg.height in
       let e = pads_high place.y cfg.ypad cfg.height in
       record {
-        whole = w;
         left = omega (arith, ints, a, w.left_pad);
         right = omega (arith, ints, b, w.visible_columns);
         top = omega (arith, ints, d, w.top_pad);

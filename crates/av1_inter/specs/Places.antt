@@ -1,7 +1,6 @@
 -- Where a block reads its reference.
 use Rattle.std.specs.Prelude.{ℕ, ◌^◌, ◌<◌, pos, ◌+ℤ◌, ◌-ℤ◌, ◌≤ℤ◌}
 use Rattle.av1_frame.specs.declared.plane_slice.PlaneSlice.{PlaneSlice}
-use Rattle.av1_frame.specs.Planes.{IsWhole}
 use Rattle.av1_frame.specs.Slices.{stored_sample, slice_plane}
 
 -- the place 3 columns to the left and 3 rows above, where the taps for the first sample begin
@@ -14,7 +13,6 @@ samples_from num place x y = stored_sample num (slice_plane place) (place.x +ℤ
 
 -- so many columns and rows from a place on are stored
 pub record IsStoredFrom {T : Type 0} (place : PlaneSlice T) (columns rows : ℕ) : Type 0 where
-  pub whole : IsWhole (slice_plane place)
   pub left : pos 0 ≤ℤ (pos place.plane_cfg.now.xorigin +ℤ place.x)
   pub right : (pos place.plane_cfg.now.xorigin +ℤ place.x +ℤ pos columns) ≤ℤ pos place.plane_cfg.now.stride
   pub top : pos 0 ≤ℤ (pos place.plane_cfg.now.yorigin +ℤ place.y)

@@ -67,7 +67,7 @@ fn moved_slice<T: Pixel>(plane: &Plane<T>, at: PlaneOffset, mv: MotionVector) ->
 fn frame_filter<T: Pixel>(fi: &FrameInvariants<T>, length: usize) -> FilterMode
     ensures { result ≡ frame_filter fi.now length }
 {
-    mode_along(fi.short_by_av1, fi.default_filter, length)
+    mode_along(fi.follows_av1(), fi.default_filter, length)
 }
 
 /// Predicts a block from one reference.

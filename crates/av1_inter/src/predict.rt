@@ -43,7 +43,7 @@ fn is_reference(reference: RefType) -> bool
 
 /// Predicts a block from one reference: each sample of the first `height` rows and `width` columns of `dst` becomes
 /// that of plane `p` (0 for luma, 1 and 2 for chroma) of the reference, moved by `mv` and interpolated with the frame's
-/// filter. What the sharp filter is along sides up to 4, `short_by_av1` of the frame says.
+/// filter. What the sharp filter is along sides up to 4, `follows_av1` of the frame says.
 ///
 /// The block begins at `po`, counted from the tile's first sample. The reference's plane is padded, and reads past its
 /// sides give the nearest visible sample, however far the vector leads. Where the slot is empty, nothing is written.

@@ -15,6 +15,7 @@ pub mod Weighted
 pub mod Unchanged
 pub mod Lending
 pub mod LumaBlocks
+pub mod NearLeaf
 pub mod SubLuma
 pub mod BesideBlock
 pub mod ByMode

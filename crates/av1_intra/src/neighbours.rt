@@ -2,7 +2,7 @@
 //!
 //! AV1 specification: intra filter type process.
 
-ghost use Rattle.std.specs.Prelude.{◌≡◌};
+ghost use Rattle.std.specs.Prelude.{◌≡◌, None};
 ghost use Rattle.std.specs.Option.{option_map};
 ghost use Rattle.av1_intra.specs.Neighbours.{mode_in, parameters_of, is_smooth, is_intra, is_smooth_in, uses_smooth_filter};
 
@@ -23,6 +23,21 @@ pub struct IntraEdgeFilterParameters {
     pub above_mode: Option<PredictionMode>,
     /// The mode of the block to the left in this plane.
     pub left_mode: Option<PredictionMode>,
+}
+
+impl Default for IntraEdgeFilterParameters {
+    /// Those of a block in luma that has no neighbour.
+    fn default() -> IntraEdgeFilterParameters
+        ensures { result ≡ record { plane = 0; above_ref_frame_types = None; left_ref_frame_types = None; above_mode = None; left_mode = None } }
+    {
+        IntraEdgeFilterParameters {
+            plane: 0,
+            above_ref_frame_types: None,
+            left_ref_frame_types: None,
+            above_mode: None,
+            left_mode: None,
+        }
+    }
 }
 
 /// The mode of a neighbour in a plane.

@@ -1,6 +1,6 @@
 //! The luma that chroma of a leaf takes in a tile.
 
-ghost use Rattle.std.specs.Prelude.{◌≡◌, ℕ, ◌+◌, ◌*◌, ◌^◌, ◌<◌, ◌≤◌, length, take, drop, IsTrue};
+ghost use Rattle.std.specs.Prelude.{◌≡◌, ℕ, ◌+◌, ◌*◌, ◌^◌, ◌-◌, ◌<◌, ◌≤◌, min, length, take, drop, IsTrue};
 ghost use Rattle.std.specs.Borrow.{sem};
 ghost use Rattle.av1_blocks.specs.Chroma.{is_narrow, is_low};
 ghost use Rattle.av1_frame.specs.Regions.{InStorage};
@@ -12,7 +12,19 @@ use crate::luma::{LumaLeaf, leaf_luma_ac};
 use av1_blocks::{BlockSize, TxSize};
 use av1_frame::{FrameInvariants, Pixel, TileBlockOffset, TileStateMut};
 
-/// The leaf at the cell `tile_bo` of a tile.
+/// How many cells the greatest leaf has along a side.
+const MOST_CELLS: usize = 32;
+
+/// How many luma samples of a tile are visible along one direction, as far as a leaf at the cell `cell` reaches. The
+/// tile begins at the cell `start` of a frame that has `count`.
+fn visible_near(count: usize, start: usize, cell: usize) -> usize
+    requires { cell + 32 < 2 ^ 62 }
+    ensures { result ≡ 4 * min (count - start) (cell + 32) }
+{
+    4 * count.saturating_sub(start).min(cell + MOST_CELLS)
+}
+
+/// The leaf at the cell `tile_bo` of a tile. What is visible past it doesn't matter, and is not counted.
 fn leaf_in_tile<T: Pixel>(
     ts: &TileStateMut<'_, T>,
     tile_bo: TileBlockOffset,
@@ -20,19 +32,21 @@ fn leaf_in_tile<T: Pixel>(
     tx_size: TxSize,
     fi: &FrameInvariants<T>,
 ) -> LumaLeaf
-    requires few_columns { fi.now.w_in_b < 2 ^ 32 }
-    requires few_rows { fi.now.h_in_b < 2 ^ 32 }
-    requires column { tile_bo.0.x < 2 ^ 32 }
-    requires row { tile_bo.0.y < 2 ^ 32 }
-    ensures { result ≡ leaf_in_tile ts.now tile_bo bsize tx_size fi.now }
+    requires column { tile_bo.0.x + 32 < 2 ^ 62 }
+    requires row { tile_bo.0.y + 32 < 2 ^ 62 }
+    ensures place { result ≡ (let leaf = leaf_in_tile ts.now tile_bo bsize tx_size fi.now in
+        record leaf { visible_width = result.visible_width; visible_height = result.visible_height }) }
+    ensures block { chroma_block result ≡ chroma_block (leaf_in_tile ts.now tile_bo bsize tx_size fi.now) }
 {
+    let visible_width = visible_near(fi.w_in_b, ts.sbo.x, tile_bo.0.x);
+    let visible_height = visible_near(fi.h_in_b, ts.sbo.y, tile_bo.0.y);
     LumaLeaf {
         x: 4 * tile_bo.0.x,
         y: 4 * tile_bo.0.y,
         bsize,
         tx_size,
-        visible_width: 4 * fi.w_in_b.saturating_sub(ts.sbo.x),
-        visible_height: 4 * fi.h_in_b.saturating_sub(ts.sbo.y),
+        visible_width,
+        visible_height,
         xdec: ts.u.plane_cfg.xdec,
         ydec: ts.u.plane_cfg.ydec,
     }
@@ -56,10 +70,6 @@ fn filled<'ac, T: Pixel>(
     tx_size: TxSize,
     fi: &FrameInvariants<T>,
 ) -> (&'ac mut [i16], usize)
-    requires few_columns { fi.now.w_in_b < 2 ^ 32 }
-    requires few_rows { fi.now.h_in_b < 2 ^ 32 }
-    requires column { tile_bo.0.x < 2 ^ 32 }
-    requires row { tile_bo.0.y < 2 ^ 32 }
     requires fits { InStorage ts.old.y }
     requires xdec { ts.old.u.plane_cfg.xdec ≤ 1 }
     requires ydec { ts.old.u.plane_cfg.ydec ≤ ts.old.u.plane_cfg.xdec }
@@ -95,10 +105,6 @@ pub fn luma_ac<'ac, T: Pixel>(
     tx_size: TxSize,
     fi: &FrameInvariants<T>,
 ) -> &'ac mut [i16]
-    requires few_columns { fi.now.w_in_b < 2 ^ 32 }
-    requires few_rows { fi.now.h_in_b < 2 ^ 32 }
-    requires column { tile_bo.0.x < 2 ^ 32 }
-    requires row { tile_bo.0.y < 2 ^ 32 }
     requires fits { InStorage ts.old.y }
     requires xdec { ts.old.u.plane_cfg.xdec ≤ 1 }
     requires ydec { ts.old.u.plane_cfg.ydec ≤ ts.old.u.plane_cfg.xdec }

@@ -5,7 +5,7 @@ use Rattle.std.proofs.lemmas.List.Elements.{All-head, All-tail}
 use Rattle.std.proofs.lemmas.Nat.{pow_pos}
 use Rattle.std.proofs.Math.Nat.{le_of_eq}
 use Rattle.av1_frame.specs.declared.plane.Plane.{Plane}
-use Rattle.av1_frame.specs.Areas.{all_visible, VisibleArea}
+use Rattle.av1_frame.specs.Areas.{all_visible}
 use Rattle.av1_frame.specs.Planes.{InPlane, IsWhole, new_config, padded, painted_plane, sample_at}
 use Rattle.av1_frame.proofs.Planes.{painted_plane_whole, sample_at_inside}
 use Rattle.av1_inter.proofs.Vectors.{padded_is_padded, visible_stays}
@@ -74,10 +74,6 @@ filled_holds {T} num pixel back forth samples made filled result h p whole cfg p
     subst (λ (q : Plane T). HoldsPlane num h p samples q) (sym (pad ∙ ap padded fill))
     (put_holds num pixel back forth samples made whole h p columns rows (ap (λ s. s.width) cfg ∙ w) (ap (λ s. s.height) cfg ∙ t) (ap (λ s. s.xdec) cfg ∙ ex)
     (ap (λ s. s.ydec) cfg ∙ ey) below)
-
--- it is still whole once it is filled
-pub filled_whole : {T : Type 0} (made filled : Plane T) (a : VisibleArea) (f : ℕ → ℕ → T → T) → filled ≡ painted_plane made a f → IsWhole made → IsWhole filled
-filled_whole {T} made filled a f e whole = subst (λ (q : Plane T). IsWhole q) (sym e) (painted_plane_whole made a f whole)
 
 -- ---- the answers of calls
 

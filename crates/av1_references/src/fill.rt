@@ -3,7 +3,7 @@
 ghost use Rattle.std.specs.Prelude.{◌≡◌, ◌+◌, ◌*◌, ◌^◌, ◌<◌, ◌≤◌, length, slice_index};
 ghost use Rattle.std.specs.List.{All};
 ghost use Rattle.av1_frame.specs.Areas.{all_visible};
-ghost use Rattle.av1_frame.specs.Planes.{IsWhole, painted_plane};
+ghost use Rattle.av1_frame.specs.Planes.{painted_plane};
 ghost use Rattle.av1_frame.specs.Regions.{InStorage, painted};
 ghost use Rattle.av1_frame.specs.Samples.{paint_row};
 
@@ -45,7 +45,6 @@ fn fill_rows<T: Pixel>(
 
 /// The visible samples of the plane become those of `samples`, row by row.
 pub fn fill_plane<T: Pixel>(plane: &mut Plane<T>, samples: &[u16])
-    requires whole { IsWhole plane.old }
     requires count { length samples.now ≡ plane.old.plane_cfg.height * plane.old.plane_cfg.width }
     requires range { All (λ sample. sample < 2 ^ T.BITS) samples.now }
     ensures { let cfg = plane.old.plane_cfg

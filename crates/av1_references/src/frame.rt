@@ -91,7 +91,7 @@ pub fn stored_references<T: Pixel>(
         header.edge_filter,
         header.slots,
     )?;
-    fi.short_by_av1 = header.follows_av1();
+    fi.follow_av1(header.follows_av1());
     for slot in 0..SLOTS {
         if let Some(planes) = &references[slot] {
             let y = padded_plane(alloc, header, 0, &planes.y)?;
@@ -121,7 +121,7 @@ pub fn frame_invariants<T: Pixel>(
         header.edge_filter,
         header.slots,
     )?;
-    fi.short_by_av1 = header.follows_av1();
+    fi.follow_av1(header.follows_av1());
     for slot in 0..SLOTS {
         if header.has_slot(slot) {
             let y = slot_plane(alloc, plan, slot, 0)?;

@@ -281,7 +281,7 @@ impl<T: Pixel> Pictures<T> {
             ServesPlan T.num plan self.new.fi }
     {
         self.fi.default_filter = head.filter;
-        self.fi.short_by_av1 = self.header.follows_av1();
+        self.fi.follow_av1(self.header.follows_av1());
         self.fi.enable_intra_edge_filter = head.edge_filter;
         self.fi.ref_frames = places_of(&self.places, &head.slots);
     }

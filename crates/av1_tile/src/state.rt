@@ -140,7 +140,7 @@ impl<T: Pixel> TileState<T> {
     {
         self.header = *header;
         self.fi.default_filter = header.filter;
-        self.fi.short_by_av1 = header.follows_av1();
+        self.fi.follow_av1(header.follows_av1());
         self.fi.enable_intra_edge_filter = header.edge_filter;
         self.fi.ref_frames = header.slots;
     }

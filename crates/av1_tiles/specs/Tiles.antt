@@ -7,7 +7,7 @@ use Rattle.av1_frame.specs.Areas.{VisibleArea}
 use Rattle.av1_plan.specs.declared.header.Header.{Header}
 use Rattle.av1_plan.specs.declared.leaf.LeafKind.{LeafKind}
 use Rattle.av1_plan.specs.Format.{Format}
-use Rattle.av1_plan.specs.Geometry.{coded_side, follows_av1, xdec, ydec, shown_columns, shown_rows}
+use Rattle.av1_plan.specs.Geometry.{follows_av1, xdec, ydec, shown_columns, shown_rows}
 use Rattle.av1_plan.specs.Grammar.{plan_behind}
 use Rattle.av1_plan.specs.Plan.{PlanValue}
 use Rattle.av1_plan.specs.ReadPlans.{IsReadFrame}

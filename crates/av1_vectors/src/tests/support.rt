@@ -1,4 +1,8 @@
-// A worked plan and its planes, and what any plan comes to.
+// A worked plan and its planes, what any plan comes to, and the samples of a block.
+ghost use Rattle.std.specs.Prelude.{◌≤◌};
+ghost use Rattle.av1_frame.specs.Regions.{InStorage};
+
+use av1_frame::PlaneRegionMut;
 use av1_recon::{MemSink, SliceSource, reconstruct_plan};
 use std::alloc::Global;
 use std::test::Fail;
@@ -34,4 +38,17 @@ pub fn planes_of(alloc: Global, bytes: &[u8]) -> Result<Vec<u8>, Fail> {
     let mut planes = Vec::new(alloc);
     planes.extend_from_slice(sink.bytes())?;
     Ok(planes)
+}
+
+/// The samples of a block of 4 by 4.
+pub fn four_rows(block: &PlaneRegionMut<'_, u8>) -> [[u8; 4]; 4]
+    requires fits { InStorage block.now }
+    requires columns { 4 ≤ block.now.area.width }
+    requires rows { 4 ≤ block.now.area.height }
+{
+    let mut rows = [[0; 4]; 4];
+    for y in 0..4 {
+        rows[y].copy_from_slice(&block.row(y)[..4]);
+    }
+    rows
 }

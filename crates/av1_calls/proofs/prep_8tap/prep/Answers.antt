@@ -1,6 +1,10 @@
 use Rattle.std.proofs.Common.{ℕ, ◌∙◌, ◌^◌, ◌<◌, subst, sym}
-use Rattle.av1_calls.proofs.Motions.{fraction_is, prep_is, read_same, read_stored}
+use Rattle.av1_calls.proofs.Motions.{fraction_is, prep_is, read_same, read_storage, read_stored}
 use Rattle.av1_calls.proofs.prep_8tap.prep.Goals as goal
+
+pub from_slice-place-requires : goal.from_slice-place-requires
+from_slice-place-requires g c =
+    read_storage c.args.from c.args.block c.args.src.now c.requires.asked.motion _ _ c.rows_of-rows.ensures c.config_of-cfg.ensures
 
 pub prep_8tap-requires-clause-stored : goal.prep_8tap-requires-clause-stored
 prep_8tap-requires-clause-stored g c =

@@ -1,8 +1,12 @@
 use Rattle.std.proofs.Common.{ℕ, ◌∙◌, ◌+◌, ◌^◌, ◌<◌, ap, arith, subst, sym}
 use Rattle.av1_frame.specs.declared.plane_region.StoredArea.{StoredArea}
 use Rattle.av1_inter.specs.Places.{corner_of, IsStoredFrom}
-use Rattle.av1_calls.proofs.Motions.{fraction_is, put_is, read_same, read_stored}
+use Rattle.av1_calls.proofs.Motions.{fraction_is, put_is, read_same, read_storage, read_stored}
 use Rattle.av1_calls.proofs.put_8tap.put.Goals as goal
+
+pub from_slice-place-requires : goal.from_slice-place-requires
+from_slice-place-requires g c =
+    read_storage c.args.from c.args.block c.args.src.now c.requires.asked.motion _ _ c.rows_of-rows.ensures c.config_of-cfg.ensures
 
 pub put_8tap_to-requires-clause-stored : goal.put_8tap_to-requires-clause-stored
 put_8tap_to-requires-clause-stored g c =

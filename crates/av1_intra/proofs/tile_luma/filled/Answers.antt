@@ -2,8 +2,9 @@ use Rattle.std.proofs.Common.{ℕ, ◌≡◌, ◌+◌, ◌*◌, map, get_or, ap,
 use mathlib.Core.Path.{fun_ext}
 use Rattle.av1_frame.specs.Samples.{row_start}
 use Rattle.av1_edges.specs.Edges.{region_sample}
-use Rattle.av1_intra.specs.ChromaFromLuma.{chroma_block, leaf_difference, with_rows}
+use Rattle.av1_intra.specs.ChromaFromLuma.{chroma_block, first_luma_column, first_luma_row, luma_difference, with_rows}
 use Rattle.av1_intra.specs.TileLuma.{tile_luma, leaf_in_tile}
+use Rattle.av1_intra.specs.declared.luma.ChromaBlock.{ChromaBlock}
 use Rattle.av1_intra.specs.declared.luma.LumaLeaf.{LumaLeaf}
 use Rattle.av1_intra.proofs.tile_luma.filled.Goals as goal
 
@@ -14,12 +15,17 @@ returns-clause-entries g c =
     let y = a.ts.now.y in
     let r = c.as_const.result in
     let leaf = leaf_in_tile a.ts.now a.tile_bo a.bsize a.tx_size a.fi.now in
-    let rows = λ (f : ℕ → ℕ → ℕ) (l : LumaLeaf). with_rows (chroma_block l).width (chroma_block l).height (leaf_difference f l) a.ac.now in
+    let near = c.leaf_in_tile-leaf.result in
+    let rows = λ (f : ℕ → ℕ → ℕ) (b : ChromaBlock) (x y : ℕ).
+    with_rows b.width b.height (luma_difference (λ p q. f (x + p) (y + q)) b) a.ac.now in
     let same : region_sample num r ≡ tile_luma num y = fun_ext (λ p. fun_ext (λ q.
     ap (λ s. get_or (map num s) (row_start r.plane_cfg.stride r.area q + p) 0) c.as_const.ensures.samples
     ∙ ap (λ s. get_or (map num y.plane.now.samples) (row_start s.stride r.area q + p) 0) c.as_const.ensures.cfg
     ∙ ap (λ s. get_or (map num y.plane.now.samples) (row_start y.plane_cfg.stride s q + p) 0) c.as_const.ensures.area)) in
-    c.leaf_luma_ac.ensures ∙ ap (rows (region_sample num r)) c.leaf_in_tile-leaf.ensures ∙ ap (λ f. rows f leaf) same
+    c.leaf_luma_ac.ensures
+    ∙ ap (λ b. rows (region_sample num r) b (first_luma_column near) (first_luma_row near)) c.leaf_in_tile-leaf.ensures.block
+    ∙ ap (λ (l : LumaLeaf). rows (region_sample num r) (chroma_block leaf) (first_luma_column l) (first_luma_row l)) c.leaf_in_tile-leaf.ensures.place
+    ∙ ap (λ f. rows f (chroma_block leaf) (first_luma_column leaf) (first_luma_row leaf)) same
 
 pub returns-clause-count : goal.returns-clause-count
-returns-clause-count g c = c.area.ensures ∙ ap (λ (l : LumaLeaf). (chroma_block l).width * (chroma_block l).height) c.leaf_in_tile-leaf.ensures
+returns-clause-count g c = c.area.ensures ∙ ap (λ (b : ChromaBlock). b.width * b.height) c.leaf_in_tile-leaf.ensures.block

@@ -1,5 +1,5 @@
 use Rattle.std.proofs.Common.{arith}
-use Rattle.av1_references.proofs.Filled.{filled_holds, filled_whole}
+use Rattle.av1_references.proofs.Filled.{filled_holds}
 use Rattle.av1_plan.proofs.Shown.{columns_shown, rows_shown}
 use Rattle.av1_references.proofs.Sides.{fit_bits}
 use Rattle.av1_references.proofs.frame.padded_plane.Goals as goal
@@ -15,9 +15,6 @@ new-requires-clause-some_rows g c =
 pub fill_plane-requires-clause-range : goal.fill_plane-requires-clause-range
 fill_plane-requires-clause-range g c =
     fit_bits c.args.samples.now c.args.header.now.depth g.T.Pixel.BITS c.requires.depth c.requires.samples.range
-
-pub pad-requires : goal.pad-requires
-pad-requires g c = filled_whole c.in_ok-plane.plane c.fill_plane.new.plane _ _ c.fill_plane.ensures c.in_ok-plane.ensures.whole
 
 pub returns : goal.returns
 returns g c =

@@ -1,6 +1,3 @@
-use Rattle.std.proofs.Common.{subst, sym}
-use Rattle.av1_frame.specs.declared.plane.Plane.{Plane}
-use Rattle.av1_frame.specs.Planes.{IsWhole}
 use Rattle.av1_sequence.proofs.Shown.{cut_whole, sides_as}
 use Rattle.av1_sequence.proofs.pictures.pad_shown.Goals as goal
 
@@ -8,9 +5,3 @@ pub set_sides-requires : goal.set_sides-requires
 set_sides-requires g c =
     sides_as c.args.plane.now _ _ _ _ c.shown_columns.ensures.value c.shown_rows.ensures.value
     (cut_whole g.T.Pixel.num c.args.header.now c.args.p c.args.plane.now c.requires.frame c.requires.stores)
-
-pub pad-requires : goal.pad-requires
-pad-requires g c =
-    subst (λ (q : Plane _). IsWhole q) (sym c.set_sides.ensures)
-    (sides_as c.args.plane.now _ _ _ _ c.shown_columns.ensures.value c.shown_rows.ensures.value
-    (cut_whole g.T.Pixel.num c.args.header.now c.args.p c.args.plane.now c.requires.frame c.requires.stores))
