@@ -11,16 +11,13 @@ import argparse
 import hashlib
 import os
 import shutil
-import subprocess
 import sys
 import tarfile
 
-from . import edits
+from . import edits, packages
 
 HERE = os.path.dirname(os.path.abspath(__file__))
 OUT = os.path.join(os.path.dirname(HERE), "out")
-MIRROR = os.environ.get("DEBIAN_MIRROR") or "http://deb.debian.org/debian"
-KEYS = "/usr/share/keyrings/debian-archive-keyring.gpg"
 # version: suite, version of the package, SHA-256 of dav1d_VERSION.orig.tar.xz
 VERSIONS = {
     "1.5.4": ("sid", "1.5.4-1", "686616b7c69eb88d44459391ab25cac13b6647a3b288835c5784e71c1514a5c5"),
@@ -30,35 +27,15 @@ VERSIONS = {
 NEEDS = {"meson": "meson", "ninja": "ninja-build", "cc": "gcc"}
 
 
-def run(words, what, **options):
-    """Runs a command; returns an error in one line, or None."""
-    done = subprocess.run(words, capture_output=True, text=True, **options)
-    if done.returncode:
-        lines = [line for line in (done.stderr + done.stdout).splitlines() if line.strip()]
-        return f"{what}: {lines[-1] if lines else f'status {done.returncode}'}"
-    return None
-
-
 def fetch(folder, version):
     """Puts dav1d_VERSION.orig.tar.xz into the folder; returns an error, or None."""
     suite, package, checksum = VERSIONS[version]
     path = os.path.join(folder, f"dav1d_{version}.orig.tar.xz")
     if not os.path.isfile(path):
-        print(f"fetching dav1d {version} of {suite} from {MIRROR}", flush=True)
-        apt = os.path.join(folder, "apt")
-        for name in ("lists/partial", "cache/archives/partial"):
-            os.makedirs(os.path.join(apt, name), exist_ok=True)
-        for name, text in (("status", ""), ("sources.list", f"deb-src [signed-by={KEYS}] {MIRROR} {suite} main\n")):
-            with open(os.path.join(apt, name), "w", encoding="utf-8") as file:
-                file.write(text)
-        options = {"Dir::Etc::sourcelist": f"{apt}/sources.list", "Dir::Etc::sourceparts": "/dev/null", "Dir::State::lists": f"{apt}/lists",
-                   "Dir::State::status": f"{apt}/status", "Dir::Cache": f"{apt}/cache", "Acquire::Languages": "none",
-                   "Acquire::Retries": "2", "APT::Sandbox::User": "root"}
-        command = ["apt-get", "-qq"] + [word for name, value in options.items() for word in ("-o", f"{name}={value}")]
-        for words in (["update"], ["source", "--download-only", f"dav1d={package}"]):
-            error = run(command + words, f"dav1d {version} of {suite}: apt-get {words[0]}", cwd=folder)
-            if error:
-                return error
+        print(f"fetching dav1d {version} of {suite} from {packages.MIRROR}", flush=True)
+        error = packages.apt(folder, "deb-src", suite, ["source", "--download-only", f"dav1d={package}"])
+        if error:
+            return error
     with open(path, "rb") as file:
         if hashlib.sha256(file.read()).hexdigest() != checksum:
             return f"{path} hasn't the checksum {checksum}: remove it and try again"
@@ -85,7 +62,7 @@ def build(folder, version):
         archive.extractall(folder)
     edits.apply(source)
     words = ["-Denable_asm=false", "-Denable_tests=false", "-Ddefault_library=static", "-Dbuildtype=release"]
-    error = run(["meson", "setup", *words, "build"], "meson", cwd=source) or run(["ninja", "-C", "build"], "ninja", cwd=source)
+    error = packages.run(["meson", "setup", *words, "build"], "meson", cwd=source) or packages.run(["ninja", "-C", "build"], "ninja", cwd=source)
     if error:
         sys.exit(error)
     with open(stamp, "w", encoding="utf-8") as file:
@@ -102,7 +79,7 @@ def decoder(folder, version=None):
         if not error:
             return build(folder, one)
         print(error, file=sys.stderr, flush=True)
-    sys.exit(error and f"no source of dav1d can be fetched; $DEBIAN_MIRROR can name another mirror than {MIRROR}")
+    sys.exit(error and f"no source of dav1d can be fetched; $DEBIAN_MIRROR can name another mirror than {packages.MIRROR}")
 
 
 def main():
