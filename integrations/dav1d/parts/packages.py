@@ -33,12 +33,12 @@ def apt(folder, kind, suite, words):
 
 def unpack(folder, suite, names):
     """Unpacks the packages into FOLDER/SUITE, unless they are there; returns an error, or None."""
-    root = os.path.join(folder, suite)
-    missing = [name for name in names if not os.path.isfile(os.path.join(root, "usr/share/doc", name, "copyright"))]
+    root, done = os.path.join(folder, suite), os.path.join(folder, suite, "unpacked")
+    missing = [name for name in names if not os.path.isfile(os.path.join(done, name))]
     if not missing:
         return None
     print(f"fetching {' '.join(missing)} of {suite} from {MIRROR}", flush=True)
-    os.makedirs(root, exist_ok=True)
+    os.makedirs(done, exist_ok=True)
     error = apt(folder, "deb", suite, ["download", *missing])
     if error:
         return error
@@ -48,5 +48,5 @@ def unpack(folder, suite, names):
             error = run(["dpkg-deb", "--extract", path, root], file)
             if error:
                 return error
-            os.remove(path)
+            os.replace(path, os.path.join(done, file.split("_")[0]))
     return None
