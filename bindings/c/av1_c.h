@@ -42,7 +42,7 @@ uint32_t av1_c_version(void);
  *    4,096  av1_predict_cfl_8, av1_predict_cfl_16, av1_predict_in_plane_8, av1_predict_in_plane_16, av1_predict_intra_8, av1_predict_intra_16,
  *           av1_prep_8tap_8, av1_prep_8tap_16, av1_prep_moved_8, av1_prep_moved_16, av1_prep_tested_16, av1_put_8tap_8, av1_put_8tap_16,
  *           av1_put_moved_8, av1_put_moved_16, av1_put_tested_16
- *    8,192  av1_inverse_transform_add_8, av1_inverse_transform_add_16
+ *    8,192  av1_inverse_transform_add_8, av1_inverse_transform_add_16, av1_inverse_transform_add_rav1e_16
  *   12,288  av1_inverse_transform_add_clamped_16
  *   16,384  av1_trace_differences
  *   20,480  av1_reconstruct_plan, av1_reconstruct_sequence, av1_reconstruct_tiles */
@@ -181,14 +181,23 @@ uint32_t av1_inverse_transform_add_8(av1_transform_scratch *scratch, const int16
                                      size_t samples_len, size_t stride, size_t x, size_t y, uint8_t tx_size, uint8_t tx_type);
 
 /* The same for samples of 16 bits at a depth of 8, 10 or 12, of which each coefficient has at most bit_depth + 8 bits, its sign among them.
- * A sample that is past the depth is clipped with what is added to it.
+ * A sample that is past the depth is clipped with what is added to it. Where rav1e's transforms differ from AV1's, it does as AV1.
  * Answers AV1_BAD_DEPTH or AV1_BAD_COEFFICIENT, too. */
 uint32_t av1_inverse_transform_add_16(av1_transform_scratch *scratch, const int32_t *coefficients, size_t coefficients_len, uint16_t *samples,
                                       size_t samples_len, size_t stride, size_t x, size_t y, uint8_t tx_size, uint8_t tx_type,
                                       size_t bit_depth);
 
-/* The same, but that a coefficient of more bits is cut to the nearest number of bit_depth + 8 bits, as the AV1 specification's "Reconstruction"
- * cuts what it dequantizes. At a depth of 8 such a coefficient does not fit int16_t, so that there is no such call for samples of 8 bits.
+/* The same by rav1e's rule, which differs above a depth of 8. At a depth of 12 its identities of 4 and 16 values along rows wrap at 32 bits: of a
+ * 4x4 block of type 9 (IDTX) whose only coefficient is 400,000, the first sample becomes 0 by this call, and 4095 by the one above. And lossless
+ * blocks (type 16) are clamped between the passes, as all others.
+ * Answers as av1_inverse_transform_add_16. */
+uint32_t av1_inverse_transform_add_rav1e_16(av1_transform_scratch *scratch, const int32_t *coefficients, size_t coefficients_len,
+                                            uint16_t *samples, size_t samples_len, size_t stride, size_t x, size_t y, uint8_t tx_size,
+                                            uint8_t tx_type, size_t bit_depth);
+
+/* The same as av1_inverse_transform_add_16, but that a coefficient of more bits is cut to the nearest number of bit_depth + 8 bits, as the AV1
+ * specification's "Reconstruction" cuts what it dequantizes. At a depth of 8 such a coefficient does not fit int16_t, so that there is no such
+ * call for samples of 8 bits.
  * Answers as av1_inverse_transform_add_16, but never AV1_BAD_COEFFICIENT. */
 uint32_t av1_inverse_transform_add_clamped_16(av1_transform_scratch *scratch, const int32_t *coefficients, size_t coefficients_len,
                                               uint16_t *samples, size_t samples_len, size_t stride, size_t x, size_t y, uint8_t tx_size,
@@ -712,6 +721,16 @@ static inline uint32_t av1_inverse_transform_add_in_16(const av1_region_16 *to, 
     uint32_t status = av1_load_region_16(&from, x, y, width, height, room, room_len);
     if (!status) status = av1_inverse_transform_add_16(scratch, coefficients, coefficients_len, room, room_len, width, 0, 0, tx_size, tx_type,
                                                        bit_depth);
+    return status ? status : av1_store_region_16(to, x, y, width, height, room, room_len);
+}
+static inline uint32_t av1_inverse_transform_add_rav1e_in_16(const av1_region_16 *to, size_t x, size_t y, uint16_t *room, size_t room_len,
+                                                             av1_transform_scratch *scratch, const int32_t *coefficients, size_t coefficients_len,
+                                                             uint8_t tx_size, uint8_t tx_type, size_t bit_depth) {
+    size_t width = av1_tx_width(tx_size), height = av1_tx_height(tx_size);
+    av1_read_region_16 from = {to->first, to->stride, to->width, to->height};
+    uint32_t status = av1_load_region_16(&from, x, y, width, height, room, room_len);
+    if (!status) status = av1_inverse_transform_add_rav1e_16(scratch, coefficients, coefficients_len, room, room_len, width, 0, 0, tx_size,
+                                                             tx_type, bit_depth);
     return status ? status : av1_store_region_16(to, x, y, width, height, room, room_len);
 }
 static inline uint32_t av1_inverse_transform_add_clamped_in_16(const av1_region_16 *to, size_t x, size_t y, uint16_t *room, size_t room_len,

@@ -296,6 +296,8 @@ uint32_t av1_inverse_transform_add_8(av1_transform_scratch *, const int16_t *, s
     size_t, size_t, uint8_t, uint8_t);
 uint32_t av1_inverse_transform_add_16(av1_transform_scratch *, const int32_t *, size_t, uint16_t *, size_t, size_t,
     size_t, size_t, uint8_t, uint8_t, size_t);
+uint32_t av1_inverse_transform_add_rav1e_16(av1_transform_scratch *, const int32_t *, size_t, uint16_t *, size_t,
+    size_t, size_t, size_t, uint8_t, uint8_t, size_t);
 uint32_t av1_inverse_transform_add_clamped_16(av1_transform_scratch *, const int32_t *, size_t, uint16_t *, size_t,
     size_t, size_t, size_t, uint8_t, uint8_t, size_t);
 uint32_t av1_c_version(void);

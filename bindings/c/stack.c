@@ -56,17 +56,22 @@ static int is_transform(uint8_t size, uint8_t type) {
     return av1_inverse_transform_add_8(&scratch, few, 1024, plane_8, 0, SIDE, 0, 0, size, type) == AV1_BAD_AREA;
 }
 
-static void transforms(int is_deep) {
+enum transform { ADD_8, ADD_16, ADD_RAV1E };
+
+static void transforms(enum transform call) {
+    static const char *names[] = {"av1_inverse_transform_add_8", "av1_inverse_transform_add_16", "av1_inverse_transform_add_rav1e_16"};
     size_t deepest = 0;
     for (uint8_t size = 0; size < 19; size++)
         for (uint8_t type = 0; type < 17; type++) {
             if (!is_transform(size, type)) continue;
-            if (is_deep)
+            if (call == ADD_16)
                 DEEP(av1_inverse_transform_add_16(&scratch, many, 1024, plane_16, SIDE * SIDE, SIDE, 4, 4, size, type, 10));
+            else if (call == ADD_RAV1E)
+                DEEP(av1_inverse_transform_add_rav1e_16(&scratch, many, 1024, plane_16, SIDE * SIDE, SIDE, 4, 4, size, type, 10));
             else
                 DEEP(av1_inverse_transform_add_8(&scratch, few, 1024, plane_8, SIDE * SIDE, SIDE, 4, 4, size, type));
         }
-    tell(is_deep ? "av1_inverse_transform_add_16" : "av1_inverse_transform_add_8", deepest);
+    tell(names[call], deepest);
 }
 
 static void clamped(void) {
@@ -319,7 +324,7 @@ int main(int count, char **words) {
     parts(plan, len);
     builder();
     for (int is_deep = 0; is_deep < 2; is_deep++) {
-        transforms(is_deep);
+        transforms(is_deep ? ADD_16 : ADD_8);
         averages(is_deep);
         moved(is_deep, 0, is_deep ? "av1_put_moved_16" : "av1_put_moved_8");
         moved(is_deep, 1, is_deep ? "av1_prep_moved_16" : "av1_prep_moved_8");
@@ -329,6 +334,7 @@ int main(int count, char **words) {
         intra(EDGE, is_deep, is_deep ? "av1_intra_edge_16" : "av1_intra_edge_8");
         intra(PLANE, is_deep, is_deep ? "av1_predict_in_plane_16" : "av1_predict_in_plane_8");
     }
+    transforms(ADD_RAV1E);
     clamped();
     numbers();
     rows();

@@ -8,7 +8,7 @@
 #define CHECK(e) do { if (!(e)) { fprintf(stderr, "%s:%d: %s\n", __FILE__, __LINE__, #e); exit(1); } } while (0)
 
 enum { STRIDE = 80, ROWS = 70, ALL = STRIDE * ROWS };
-enum { TX_4X4 = 0, TX_64X64 = 4, DCT_DCT = 0, ADST_DCT = 1, WHT_WHT = 16 };
+enum { TX_4X4 = 0, TX_64X64 = 4, DCT_DCT = 0, ADST_DCT = 1, IDTX = 9, WHT_WHT = 16 };
 
 /* Left as it comes: a call reads nothing that it hasn't written there. */
 static av1_transform_scratch *scratch;
@@ -67,6 +67,24 @@ static void blocks_of_10_bits(void) {
     for (int i = 0; i < 16; i++) CHECK(samples[i] == before[i] + 3);
 }
 
+/* Two blocks in which rav1e's rule differs from AV1's. */
+static void blocks_by_both_rules(void) {
+    uint16_t by_av1[16], by_rav1e[16];
+    /* an identity along rows that passes 32 bits, at a depth of 12 */
+    int32_t large[1] = {400000};
+    memset(by_av1, 0, sizeof by_av1);
+    memset(by_rav1e, 0, sizeof by_rav1e);
+    CHECK(av1_inverse_transform_add_16(scratch, large, 1, by_av1, 16, 4, 0, 0, TX_4X4, IDTX, 12) == AV1_DONE);
+    CHECK(av1_inverse_transform_add_rav1e_16(scratch, large, 1, by_rav1e, 16, 4, 0, 0, TX_4X4, IDTX, 12) == AV1_DONE);
+    CHECK(by_av1[0] == 4095 && by_rav1e[0] == 0);
+    /* a lossless block whose first rows come to more than 16 bits, at a depth of 10 */
+    int32_t lossless[16];
+    for (int i = 0; i < 16; i++) lossless[i] = i % 4 == 0 ? 131068 : i % 4 == 1 ? 131060 : 0, by_av1[i] = by_rav1e[i] = 512;
+    CHECK(av1_inverse_transform_add_16(scratch, lossless, 16, by_av1, 16, 4, 0, 0, TX_4X4, WHT_WHT, 10) == AV1_DONE);
+    CHECK(av1_inverse_transform_add_rav1e_16(scratch, lossless, 16, by_rav1e, 16, 4, 0, 0, TX_4X4, WHT_WHT, 10) == AV1_DONE);
+    CHECK(by_av1[8] == 514 && by_rav1e[8] == 512);
+}
+
 /* How many coefficients the transform of each size has. */
 static const unsigned numbers[] = {16, 64, 256, 1024, 1024, 32, 32, 128, 128, 512, 512, 1024, 1024, 64, 64, 256, 256, 512, 512};
 
@@ -123,6 +141,7 @@ int main(void) {
     refused_blocks();
     short_lists();
     blocks_of_10_bits();
+    blocks_by_both_rules();
     clamped_blocks();
     free(scratch);
     return 0;

@@ -1,13 +1,16 @@
-/* av1_inverse_transform_add_8 and _16. */
+/* av1_inverse_transform_add_8, _16 and _rav1e_16. */
 #include "fuzz.h"
 
 static area to;
 static uint8_t size, type;
 static size_t bits;
+static bool as_rav1e;
 
 static uint32_t add(numbers scratch, const void *coefficients, size_t count, numbers samples) {
     return samples.width == 1
         ? av1_inverse_transform_add_8(scratch.at, coefficients, count, samples.at, samples.count, to.stride, to.x, to.y, size, type)
+        : as_rav1e
+        ? av1_inverse_transform_add_rav1e_16(scratch.at, coefficients, count, samples.at, samples.count, to.stride, to.x, to.y, size, type, bits)
         : av1_inverse_transform_add_16(scratch.at, coefficients, count, samples.at, samples.count, to.stride, to.x, to.y, size, type, bits);
 }
 
@@ -60,6 +63,7 @@ int LLVMFuzzerTestOneInput(const uint8_t *data, size_t length) {
     fill_coefficients(coefficients, is_depth(bits) ? bits + 8 : 16);
     numbers scratch = lay(6144, 4);
     memset(scratch.at, byte(), 6144 * 4);
+    as_rav1e = one_in(2);
     uint32_t status = add(scratch, coefficients.at, coefficients.count, samples);
     came_up(wide, size, type * 4 + bits, status);
     answered(status, 0 OR(DONE) OR(BAD_SIZE) OR(BAD_TYPE) OR(BAD_AREA) | (wide ? 0 OR(BAD_DEPTH) OR(BAD_COEFFICIENT) : 0));

@@ -26,7 +26,7 @@ HERE = pathlib.Path(__file__).resolve().parent
 REPOSITORY = HERE.parent.parent
 CRATE = REPOSITORY / "crates" / "av1_vectors"
 LIBRARY = "refused_calls"
-STANDS_ON = "av1_blocks av1_edges av1_frame av1_generate av1_inter av1_itx av1_plan av1_recon"
+STANDS_ON = "av1_blocks av1_edges av1_frame av1_inter av1_itx av1_plan av1_recon"
 CALLS = ("Plane::new Plane::from_slice FrameInvariants::new IntraEdgeBuffer::new InterCompoundBuffers::new TxScratch::new "
          "inverse_transform_add parse_plan make_plan MemSink::new TileState::new read_plan_bytes reconstruct_plan run").split()
 

@@ -291,5 +291,7 @@ const _: unsafe extern "C" fn(&mut sys::TransformScratch, *const i16, usize, *mu
 const _: unsafe extern "C" fn(&mut sys::TransformScratch, *const i32, usize, *mut u16, usize, usize, usize, usize, u8,
     u8, usize) -> u32 = sys::av1_inverse_transform_add_16;
 const _: unsafe extern "C" fn(&mut sys::TransformScratch, *const i32, usize, *mut u16, usize, usize, usize, usize, u8,
+    u8, usize) -> u32 = sys::av1_inverse_transform_add_rav1e_16;
+const _: unsafe extern "C" fn(&mut sys::TransformScratch, *const i32, usize, *mut u16, usize, usize, usize, usize, u8,
     u8, usize) -> u32 = sys::av1_inverse_transform_add_clamped_16;
 const _: unsafe extern "C" fn() -> u32 = sys::av1_c_version;

@@ -2,7 +2,8 @@
 //! them, and how the archive is built.
 //!
 //! [`inverse_transform_add_8`] and [`inverse_transform_add_16`] add the residue of a block to samples of the caller, and so does
-//! [`inverse_transform_add_clamped_16`], which cuts coefficients that are too large. [`put_8tap_8`] and
+//! [`inverse_transform_add_clamped_16`], which cuts coefficients that are too large; [`inverse_transform_add_rav1e_16`] does it as rav1e, where
+//! that differs from AV1. [`put_8tap_8`] and
 //! [`put_8tap_16`] predict a block from one reference; [`prep_8tap_8`], [`prep_8tap_16`], [`mc_avg_8`] and [`mc_avg_16`] prepare blocks of two, and
 //! average them. [`motion_place`] tells where a vector leads, and [`put_moved_8`], [`prep_moved_8`] and their like for 16 bits follow it in a plane
 //! without pads. A reference of 16 bits that is [`Tested`] once is not looked at again by [`put_tested_16`] and [`prep_tested_16`].
@@ -82,7 +83,7 @@ pub use tested::{Tested, prep_tested_16, put_tested_16};
 pub use tile::{predict_in_tile_8, predict_in_tile_16};
 pub use transform::{
     TransformBlock, TransformScratch, inverse_transform_add_8, inverse_transform_add_16,
-    inverse_transform_add_clamped_16,
+    inverse_transform_add_clamped_16, inverse_transform_add_rav1e_16,
 };
 pub use version::{VERSION, version};
 

@@ -161,6 +161,20 @@ extern "C" {
         bit_depth: usize,
     ) -> u32;
 
+    pub fn av1_inverse_transform_add_rav1e_16(
+        scratch: &mut TransformScratch,
+        coefficients: *const i32,
+        coefficients_len: usize,
+        samples: *mut u16,
+        samples_len: usize,
+        stride: usize,
+        x: usize,
+        y: usize,
+        tx_size: u8,
+        tx_type: u8,
+        bit_depth: usize,
+    ) -> u32;
+
     pub fn av1_inverse_transform_add_clamped_16(
         scratch: &mut TransformScratch,
         coefficients: *const i32,

@@ -63,6 +63,7 @@ pub fn inverse_transform_add_8(
 }
 
 /// The same for samples of 16 bits at a depth of 8, 10 or 12. A sample that is past the depth is clipped with what is added to it.
+/// Where rav1e's transforms differ from AV1's, it does as AV1.
 ///
 /// # Errors
 ///
@@ -94,8 +95,40 @@ pub fn inverse_transform_add_16(
     })
 }
 
-/// The same, but that a coefficient of more bits is cut to the nearest number of `bit_depth + 8` bits, as AV1 cuts what it dequantizes. At a depth
-/// of 8 such a coefficient does not fit `i16`, so that there is no such call for samples of 8 bits.
+/// The same by rav1e's rule, which differs above a depth of 8. At a depth of 12 its identities of 4 and 16 values along rows wrap at 32 bits, where
+/// AV1's don't. And lossless blocks (`WHT_WHT`) are clamped between the passes, as all others.
+///
+/// # Errors
+///
+/// Those of [`inverse_transform_add_16`]. The samples are then as they were.
+pub fn inverse_transform_add_rav1e_16(
+    scratch: &mut TransformScratch,
+    coefficients: &[i32],
+    samples: &mut [u16],
+    stride: usize,
+    block: TransformBlock,
+    bit_depth: usize,
+) -> Result<(), Error> {
+    // SAFETY: as above.
+    told(unsafe {
+        sys::av1_inverse_transform_add_rav1e_16(
+            &mut scratch.0,
+            coefficients.as_ptr(),
+            coefficients.len(),
+            samples.as_mut_ptr(),
+            samples.len(),
+            stride,
+            block.x,
+            block.y,
+            block.tx_size,
+            block.tx_type,
+            bit_depth,
+        )
+    })
+}
+
+/// The same as [`inverse_transform_add_16`], but that a coefficient of more bits is cut to the nearest number of `bit_depth + 8` bits, as AV1 cuts
+/// what it dequantizes. At a depth of 8 such a coefficient does not fit `i16`, so that there is no such call for samples of 8 bits.
 ///
 /// # Errors
 ///

@@ -2,7 +2,7 @@
 
 use av1_c::{
     Error, TransformBlock, TransformScratch, inverse_transform_add_8, inverse_transform_add_16,
-    inverse_transform_add_clamped_16,
+    inverse_transform_add_clamped_16, inverse_transform_add_rav1e_16,
 };
 
 // A block of 4x4 by the cosine transform both ways.
@@ -111,6 +111,22 @@ fn depths_and_coefficients_are_tested() {
     coefficients[15] = 0;
     assert_eq!(add(&coefficients, 10), Ok(()));
     assert_eq!(samples, [515; 16]);
+}
+
+#[test]
+fn rules_differ_where_an_identity_passes_32_bits() {
+    let mut scratch = TransformScratch::new();
+    let (mut by_av1, mut by_rav1e) = ([0; 16], [0; 16]);
+    let identity = TransformBlock {
+        tx_type: 9,
+        ..block_at(0, 0)
+    };
+    let added = inverse_transform_add_16(&mut scratch, &[400_000], &mut by_av1, 4, identity, 12);
+    assert_eq!(added, Ok(()));
+    let added =
+        inverse_transform_add_rav1e_16(&mut scratch, &[400_000], &mut by_rav1e, 4, identity, 12);
+    assert_eq!(added, Ok(()));
+    assert_eq!((by_av1[0], by_rav1e[0]), (4095, 0));
 }
 
 #[test]

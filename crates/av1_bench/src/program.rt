@@ -4,7 +4,7 @@ ghost use Rattle.av1_recon.specs.Answers.{HasLine, status_of, line_of};
 ghost use Rattle.av1_recon.specs.Lines.{sum_lines};
 ghost use Rattle.av1_recon.specs.Outcomes.{Answer, Converts};
 ghost use Rattle.av1_recon.specs.Writing.{Writes};
-ghost use Rattle.av1_generate.specs.Generator.{plan_bytes_in};
+ghost use Rattle.av1_plan.specs.Generator.{plan_bytes_in};
 ghost use Rattle.av1_bench.specs.Count.{IsCount, made_of, usage};
 
 use crate::bench::bench;

@@ -81,6 +81,7 @@ pub use status::{
 };
 pub use tiles::av1_reconstruct_tiles;
 pub use transform_calls::{
-    av1_inverse_transform_add_8, av1_inverse_transform_add_16, av1_inverse_transform_add_clamped_16,
+    av1_inverse_transform_add_8, av1_inverse_transform_add_16,
+    av1_inverse_transform_add_clamped_16, av1_inverse_transform_add_rav1e_16,
 };
 pub use version::av1_c_version;

@@ -20,7 +20,7 @@ pub extern "C" fn av1_inverse_transform_add_8(
     tx_size: u8,
     tx_type: u8,
 ) -> u32
-    ensures { AddsResidue false 8 tx_size tx_type stride x y coefficients.now samples.old samples.new result }
+    ensures { AddsResidue true false 8 tx_size tx_type stride x y coefficients.now samples.old samples.new result }
 {
     av1_calls::av1_inverse_transform_add_8(
         scratch,
@@ -47,7 +47,7 @@ pub extern "C" fn av1_inverse_transform_add_16(
     tx_type: u8,
     bit_depth: usize,
 ) -> u32
-    ensures { AddsResidue true bit_depth tx_size tx_type stride x y coefficients.now samples.old samples.new result }
+    ensures { AddsResidue true true bit_depth tx_size tx_type stride x y coefficients.now samples.old samples.new result }
 {
     av1_calls::av1_inverse_transform_add_16(
         scratch,
@@ -62,7 +62,35 @@ pub extern "C" fn av1_inverse_transform_add_16(
     )
 }
 
-/// The same where coefficients that are too large for the depth are cut to it.
+/// The same by rav1e's rule.
+#[unsafe(no_mangle)]
+pub extern "C" fn av1_inverse_transform_add_rav1e_16(
+    scratch: &mut TxRoom,
+    coefficients: &[i32],
+    samples: &mut [u16],
+    stride: usize,
+    x: usize,
+    y: usize,
+    tx_size: u8,
+    tx_type: u8,
+    bit_depth: usize,
+) -> u32
+    ensures { AddsResidue false true bit_depth tx_size tx_type stride x y coefficients.now samples.old samples.new result }
+{
+    av1_calls::av1_inverse_transform_add_rav1e_16(
+        scratch,
+        coefficients,
+        samples,
+        stride,
+        x,
+        y,
+        tx_size,
+        tx_type,
+        bit_depth,
+    )
+}
+
+/// The same as `av1_inverse_transform_add_16` where coefficients that are too large for the depth are cut to it.
 #[unsafe(no_mangle)]
 pub extern "C" fn av1_inverse_transform_add_clamped_16(
     scratch: &mut TxRoom,

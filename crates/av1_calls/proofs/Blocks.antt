@@ -35,11 +35,11 @@ too_large depth size_number type_number stride x y coefficients samples size typ
     (size, (type, (block, (is, denied told tells failed))))
 
 -- a call that added a residue
-pub adds_residue : (wide : Bool) (depth size_number type_number stride x y : ℕ) (coefficients : List ℤ) (before after : List ℕ) (size : TxSize)
+pub adds_residue : (by_av1 wide : Bool) (depth size_number type_number stride x y : ℕ) (coefficients : List ℤ) (before after : List ℕ) (size : TxSize)
     (type : TxType) → IsBlock size_number type_number stride x y (length before) size type
-    → IfWide wide (AreOfDepth depth size coefficients) → after ≡ with_residue depth stride x y size type coefficients before →
-    AddsResidue wide depth size_number type_number stride x y coefficients before after 0
-adds_residue wide depth size_number type_number stride x y coefficients before after size type block fit added = record {
+    → IfWide wide (AreOfDepth depth size coefficients) → after ≡ with_residue by_av1 depth stride x y size type coefficients before →
+    AddsResidue by_av1 wide depth size_number type_number stride x y coefficients before after 0
+adds_residue by_av1 wide depth size_number type_number stride x y coefficients before after size type block fit added = record {
   done = λ _. (size, (type, (block, (fit, added))));
   asked = λ _ _ _ _. refl;
   size = λ e. cc;

@@ -1,5 +1,5 @@
 -- A residue is that of the coefficients that its transform has, whatever stands behind them; and one of cut coefficients.
-use Rattle.std.proofs.Common.{ℕ, ℤ, pos, ◌≡◌, ◌∙◌, ◌+◌, ◌*◌, ◌<◌, ◌≤◌, List, length, take, false, inl, inr, refl, arith, sym, subst, ap, ◌+ℤ◌}
+use Rattle.std.proofs.Common.{ℕ, ℤ, pos, ◌≡◌, ◌∙◌, ◌+◌, ◌*◌, ◌<◌, ◌≤◌, List, All, length, take, Bool, true, false, inl, inr, refl, arith, sym, subst, ap, ◌+ℤ◌}
 use Rattle.std.specs.Prelude.{if◌then◌else◌, nat_lt}
 use Rattle.std.proofs.lemmas.Bool.{cases_lt}
 use Rattle.std.proofs.lemmas.List.{get_or-map, get_or-take, get_or_past, length-map, length-take}
@@ -7,7 +7,9 @@ use Rattle.std.proofs.lemmas.Nat.{mul-add-lt}
 use Rattle.std.proofs.Math.Nat.{mul_comm}
 use Rattle.av1_blocks.specs.Transforms.{coded, coded_area, tx_height, tx_width}
 use Rattle.av1_blocks.specs.declared.transform.TxSize.{TxSize}
+use Rattle.av1_blocks.specs.declared.transform.TxSize.TheVariants.{TX_4X4}
 use Rattle.av1_blocks.specs.declared.transform.TxType.{TxType}
+use Rattle.av1_blocks.specs.declared.transform.TxType.TheVariants.{WHT_WHT}
 use Rattle.av1_dct.specs.Arithmetic.{at, clamp_value, FitsBits}
 use Rattle.av1_dct.proofs.Fits.{clamp_value-fits, clamped_same, zero_fits}
 use Rattle.av1_dct.proofs.Zero.{clamp-zero}
@@ -16,10 +18,12 @@ use Rattle.av1_frame.specs.Samples.{paint, paint_row}
 use Rattle.av1_frame.specs.declared.plane_region.StoredArea.{StoredArea}
 use Rattle.av1_frame.proofs.Paint.{paint_same}
 use Rattle.av1_inter.proofs.Rows.{painted_sample}
-use Rattle.av1_itx.specs.Kinds.{column_kind, row_kind}
+use Rattle.av1_itx.specs.Kinds.{column_kind, row_kind_by}
 use Rattle.av1_itx.specs.Networks.{network}
-use Rattle.av1_itx.specs.Residue.{column_network, column_power, column_range, column_shift, residue, residue_by, row_input, row_power, row_range}
-use Rattle.av1_itx.specs.Residue.{row_shift, row_value, transformed_column, transformed_row}
+use Rattle.av1_itx.specs.Residue.{column_network, column_power, column_range, column_shift, column_value, is_lossless, residue, residue_by, row_input}
+use Rattle.av1_itx.specs.Residue.{row_power}
+use Rattle.av1_itx.specs.Residue.{row_range, row_value, transformed_column, transformed_row}
+use Rattle.av1_itx.proofs.NoWrap.{lossless_residue, shallow_residue}
 use Rattle.av1_itx.proofs.Passes.{input_past, row_is, row_past}
 use Rattle.av1_lists.proofs.Lists.{by_index-same}
 use Rattle.av1_calls.specs.Transforms.{cut_to}
@@ -28,7 +32,7 @@ use Rattle.av1_calls.specs.Transforms.{cut_to}
 abbrev pub AreSameFor : TxSize → (xs ys : List ℤ) → Type 0
 AreSameFor size xs ys = (i : ℕ) → i < coded_area size → at xs i ≡ at ys i
 
-module _ (size : TxSize) (type : TxType) (depth : ℕ) (xs ys : List ℤ) (same : AreSameFor size xs ys) where
+module _ (by_av1 : Bool) (size : TxSize) (type : TxType) (depth : ℕ) (xs ys : List ℤ) (same : AreSameFor size xs ys) where
   input_same : (r c : ℕ) → r < coded (tx_height size) → row_input size type depth xs r c ≡ row_input size type depth ys r c
   unfolding row_input
   input_same r c low =
@@ -40,22 +44,32 @@ module _ (size : TxSize) (type : TxType) (depth : ℕ) (xs ys : List ℤ) (same 
         | inr b ↦ sym (input_past size type depth xs r c b) ∙ input_past size type depth ys r c b
       ]
 
-  row_same : (r c : ℕ) → at (transformed_row false size type depth xs r) c ≡ at (transformed_row false size type depth ys r) c
+  row_same : (r c : ℕ) → at (transformed_row by_av1 size type depth xs r) c ≡ at (transformed_row by_av1 size type depth ys r) c
   row_same r c =
       elim (cases_lt r (coded (tx_height size))) [
-        | inl b ↦ sym (row_is false size type depth xs r c b)
-            ∙ ap (λ zs. at (network (row_kind type) (row_range depth) (row_power size) zs) c)
+        | inl b ↦ sym (row_is by_av1 size type depth xs r c b)
+            ∙ ap (λ zs. at (network (row_kind_by by_av1 type) (row_range depth) (row_power size) zs) c)
             (by_index-same (tx_width size) (row_input size type depth xs r) (row_input size type depth ys r) (λ k _. input_same r k b))
-            ∙ row_is false size type depth ys r c b
-        | inr b ↦ row_past false size type depth xs r c b ∙ sym (row_past false size type depth ys r c b)
+            ∙ row_is by_av1 size type depth ys r c b
+        | inr b ↦ row_past by_av1 size type depth xs r c b ∙ sym (row_past by_av1 size type depth ys r c b)
       ]
 
   -- their residues are the same
-  pub residue_same : (r c : ℕ) → residue size type depth xs r c ≡ residue size type depth ys r c
+  pub residue_same : (r c : ℕ) → residue_by by_av1 size type depth xs r c ≡ residue_by by_av1 size type depth ys r c
   unfolding residue_by transformed_column column_network
   residue_same r c =
       ap (λ zs. round_shift (at (network (column_kind type) (column_range depth) (column_power size) zs) r) (column_shift type))
-      (by_index-same (tx_height size) _ _ (λ y _. ap (λ z. clamp_value (round_shift z (row_shift size)) (column_range depth)) (row_same y c)))
+      (by_index-same (tx_height size) _ _ (λ y _. ap (column_value by_av1 size type depth) (row_same y c)))
+
+-- at a depth of 8 the residue of coefficients of 16 bits is the same by both rules
+pub shallow_same : (size : TxSize) (type : TxType) (cs : List ℤ) (r c : ℕ) → (type ≡ WHT_WHT → size ≡ TX_4X4) → All (FitsBits 17) cs →
+    residue size type 8 cs r c ≡ residue_by true size type 8 cs r c
+shallow_same size type cs r c small few =
+    (elim type as (λ t. (t ≡ WHT_WHT → size ≡ TX_4X4) → residue size t 8 cs r c ≡ residue_by true size t 8 cs r c) [
+      | WHT_WHT ↦ (λ told. subst (λ s. residue s WHT_WHT 8 cs r c ≡ residue_by true s WHT_WHT 8 cs r c) (sym (told refl))
+          (sym (lossless_residue true 8 cs r c few)))
+      | _ ↦ (λ told. sym (shallow_residue true size _ 8 cs r c (omega arith) (λ e. let no : false ≡ true = ap is_lossless e in cc)))
+    ]) small
 
 -- a coefficient of the cut list is the one that is cut, and 0 behind the end
 cut_at : (bits : ℕ) (coefficients : List ℤ) (i : ℕ) → at (cut_to bits coefficients) i ≡ clamp_value (at coefficients i) bits
@@ -100,8 +114,9 @@ given_fit bits count given coefficients rest fit i h =
     ]
 
 -- what is painted by coefficients that are the same for the transform
-pub painted_cut : (stride depth : ℕ) (size : TxSize) (type : TxType) (area : StoredArea) (xs ys : List ℤ) (before after : List ℕ) → AreSameFor size xs ys
-    → after ≡ paint stride area (λ r c v. clip depth (pos v +ℤ residue size type depth xs r c)) before
-    → after ≡ paint stride area (λ r c v. clip depth (pos v +ℤ residue size type depth ys r c)) before
-painted_cut stride depth size type area xs ys before after same painted =
-    painted ∙ paint_same stride area _ _ before (λ r c v _ _. ap (λ z. clip depth (pos v +ℤ z)) (residue_same size type depth xs ys same r c))
+pub painted_cut : (by_av1 : Bool) (stride depth : ℕ) (size : TxSize) (type : TxType) (area : StoredArea) (xs ys : List ℤ) (before after : List ℕ) →
+    AreSameFor size xs ys
+    → after ≡ paint stride area (λ r c v. clip depth (pos v +ℤ residue_by by_av1 size type depth xs r c)) before
+    → after ≡ paint stride area (λ r c v. clip depth (pos v +ℤ residue_by by_av1 size type depth ys r c)) before
+painted_cut by_av1 stride depth size type area xs ys before after same painted =
+    painted ∙ paint_same stride area _ _ before (λ r c v _ _. ap (λ z. clip depth (pos v +ℤ z)) (residue_same by_av1 size type depth xs ys same r c))

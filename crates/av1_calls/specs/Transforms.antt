@@ -1,7 +1,7 @@
 -- What the calls that add a residue say of their arguments: of numbers of a size and a type, of where the first sample
 -- stands (column x of row y), of rows that stand `stride` apart, of how many samples there are, and of the
 -- coefficients, of which those past the end of their list are 0 (`at`).
-use Rattle.std.specs.Prelude.{◌≡◌, ◌≢◌, ◌⊎◌, Bool, ℕ, ◌+◌, ◌<◌, IsTrue, Some, ℤ, pos, ◌+ℤ◌, List, length}
+use Rattle.std.specs.Prelude.{◌≡◌, ◌≢◌, ◌⊎◌, Bool, true, ℕ, ◌+◌, ◌<◌, IsTrue, Some, ℤ, pos, ◌+ℤ◌, List, length}
 use Rattle.std.specs.Prelude.{map, slice_get}
 use Rattle.av1_blocks.specs.Depths.{IsDepth}
 use Rattle.av1_blocks.specs.Transforms.{coded_area, valid_av1_transform}
@@ -14,7 +14,7 @@ use Rattle.av1_dct.specs.Arithmetic.{at, clamp_value, FitsBits}
 use Rattle.av1_frame.specs.Areas.{AreRows}
 use Rattle.av1_frame.specs.Arithmetic.{clip}
 use Rattle.av1_frame.specs.Samples.{paint}
-use Rattle.av1_itx.specs.Residue.{residue}
+use Rattle.av1_itx.specs.Residue.{residue_by}
 use Rattle.av1_calls.specs.Arguments.{HasNoSize, IfWide, IsSize, OnlyWide, rectangle}
 use Rattle.av1_calls.specs.declared.argument.BadArgument.{BadArgument}
 use Rattle.av1_calls.specs.declared.argument.BadArgument.TheVariants as bad
@@ -52,10 +52,13 @@ AllFitDepth depth size coefficients = (i : ℕ) → i < coded_area size → Fits
 abbrev pub AreOfDepth : ℕ → TxSize → List ℤ → Type 0
 AreOfDepth depth size coefficients = IsDepth depth × AllFitDepth depth size coefficients
 
--- the samples with the residue added to the rectangle, clipped to the depth; all others stay
-abbrev pub with_residue : (depth stride x y : ℕ) → TxSize → TxType → List ℤ → List ℕ → List ℕ
-with_residue depth stride x y size type coefficients samples =
-    paint stride (rectangle x y size) (λ r c v. clip depth (pos v +ℤ residue size type depth coefficients r c)) samples
+-- the samples with the residue added to the rectangle, by AV1's rule or by rav1e's, clipped to the depth; all others
+-- stay
+abbrev pub with_residue : (by_av1 : Bool) → (depth stride x y : ℕ) → TxSize → TxType → List ℤ → List ℕ → List ℕ
+with_residue by_av1 depth stride x y size type coefficients samples =
+    paint stride (rectangle x y size)
+    (λ r c v. clip depth (pos v +ℤ residue_by by_av1 size type depth coefficients r c))
+    samples
 
 -- each coefficient as the nearest number of so many bits, its sign among them
 abbrev pub cut_to : ℕ → List ℤ → List ℤ
@@ -92,15 +95,16 @@ HasTooLarge depth size_number type_number stride x y coefficients samples =
 
 -- ---- what the calls say
 
--- Of a residue that is added to samples at this depth: they were `before` and are `after`, and `answer` is the status.
-pub record AddsResidue (wide : Bool) (bit_depth size_number type_number stride x y : ℕ) (coefficients : List ℤ)
+-- Of a residue that is added to samples at this depth, by AV1's rule or by rav1e's: they were `before` and are `after`,
+-- and `answer` is the status.
+pub record AddsResidue (by_av1 wide : Bool) (bit_depth size_number type_number stride x y : ℕ) (coefficients : List ℤ)
     (before after : List ℕ) (answer : ℕ) : Type 0 where
   -- The arguments name a transform, and the residue of the coefficients is added; of those that the list is too short
   -- for each is 0.
   pub done : answer ≡ DONE → (size : TxSize) × ((type : TxType)
       × (IsBlock size_number type_number stride x y (length before) size type
       × (IfWide wide (AreOfDepth bit_depth size coefficients)
-      × (after ≡ with_residue bit_depth stride x y size type coefficients before))))
+      × (after ≡ with_residue by_av1 bit_depth stride x y size type coefficients before))))
   -- Nothing else is asked of them.
   pub asked : (size : TxSize) → (type : TxType)
       → IsBlock size_number type_number stride x y (length before) size type
@@ -118,14 +122,14 @@ pub record AddsResidue (wide : Bool) (bit_depth size_number type_number stride x
   pub known : (answer ≡ DONE) ⊎ ((answer ≡ BAD_SIZE) ⊎ ((answer ≡ BAD_TYPE) ⊎ ((answer ≡ BAD_AREA)
       ⊎ OnlyWide wide ((answer ≡ BAD_DEPTH) ⊎ (answer ≡ BAD_COEFFICIENT)))))
 
--- Of the same where coefficients that are too large for the depth are cut to it.
+-- Of the same by AV1's rule, where coefficients that are too large for the depth are cut to it.
 pub record AddsClamped (bit_depth size_number type_number stride x y : ℕ) (coefficients : List ℤ)
     (before after : List ℕ) (answer : ℕ) : Type 0 where
   -- The arguments name a transform, and the residue of what the coefficients are cut to is added.
   pub done : answer ≡ DONE → (size : TxSize) × ((type : TxType)
       × (IsBlock size_number type_number stride x y (length before) size type
       × (IsDepth bit_depth
-      × (after ≡ with_residue bit_depth stride x y size type (cut_to (bit_depth + 8) coefficients) before))))
+      × (after ≡ with_residue true bit_depth stride x y size type (cut_to (bit_depth + 8) coefficients) before))))
   -- Nothing else is asked of them.
   pub asked : (size : TxSize) → (type : TxType)
       → IsBlock size_number type_number stride x y (length before) size type

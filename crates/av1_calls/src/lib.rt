@@ -1,7 +1,8 @@
 //! Calls on one block of samples, which test all of their arguments.
 //!
 //! [`av1_inverse_transform_add_8`] and [`av1_inverse_transform_add_16`] add the residue of a block to samples, and
-//! [`av1_inverse_transform_add_clamped_16`] that of coefficients that it cuts to the depth. [`av1_put_8tap_8`] and
+//! [`av1_inverse_transform_add_clamped_16`] that of coefficients that it cuts to the depth, all as AV1;
+//! [`av1_inverse_transform_add_rav1e_16`] adds it as rav1e. [`av1_put_8tap_8`] and
 //! [`av1_put_8tap_16`] predict one from a reference; [`av1_prep_8tap_8`] and [`av1_prep_8tap_16`] prepare one of two
 //! references, and [`av1_mc_avg_8`] and [`av1_mc_avg_16`] average what they prepare; [`av1_motion_place`] tells where a
 //! vector leads, and [`av1_put_moved_8`], [`av1_prep_moved_8`] and their like for samples of 16 bits follow it in a
@@ -82,5 +83,7 @@ pub use status::{
     BAD_SAMPLING, BAD_SIZE, BAD_TYPE, DONE, ROOM_TOO_SMALL, TOO_SHORT,
 };
 pub use tested::av1_test_samples_16;
-pub use transform_add::{av1_inverse_transform_add_8, av1_inverse_transform_add_16};
+pub use transform_add::{
+    av1_inverse_transform_add_8, av1_inverse_transform_add_16, av1_inverse_transform_add_rav1e_16,
+};
 pub use transform_clamped::av1_inverse_transform_add_clamped_16;

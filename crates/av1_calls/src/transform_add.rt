@@ -1,7 +1,11 @@
 //! The residue of a block, added to samples of the caller.
-ghost use Rattle.std.specs.Prelude.{true, false, ◌≡◌, ◌⊎◌, ℕ, ◌+◌, ◌<◌, ◌≤◌, IfOk, IfErr, length, ◌≤ℤ◌};
+ghost use Rattle.std.specs.Prelude.{true, false, ◌≡◌, ◌⊎◌, ℕ, ◌+◌, ◌<◌, ◌≤◌, IfOk, IfErr, length, pos, ◌+ℤ◌, ◌≤ℤ◌};
 ghost use Rattle.av1_blocks.specs.Depths.{IsDepth};
 ghost use Rattle.av1_dct.specs.Arithmetic.{at, FitsBits};
+ghost use Rattle.av1_frame.specs.Areas.{AreRows};
+ghost use Rattle.av1_frame.specs.Arithmetic.{clip};
+ghost use Rattle.av1_frame.specs.Samples.{paint};
+ghost use Rattle.av1_itx.specs.Residue.{residue_by};
 ghost use Rattle.av1_calls.specs.Arguments.{rectangle};
 ghost use Rattle.av1_calls.specs.Transforms.{AddsResidue, AllFitDepth, IsBlock, IsBlockFault, IsDeepFault, IsDepthFault, IsRunnable};
 
@@ -197,6 +201,40 @@ fn deep_block_of(
     }
 }
 
+/// Adds the residue of coefficients that fit the depth, by AV1's rule or by rav1e's.
+#[inline(always)]
+pub(crate) fn add_deep(
+    scratch: &mut TxRoom,
+    coefficients: &[i32],
+    samples: &mut [u16],
+    stride: usize,
+    block: Block,
+    bit_depth: usize,
+    by_av1: bool,
+)
+    requires is_depth { IsDepth bit_depth }
+    requires runs { IsRunnable block.size block.kind }
+    requires rows { AreRows stride block.area (length samples.old) }
+    requires placed { block.area ≡ rectangle block.area.x block.area.y block.size }
+    requires fit { AllFitDepth bit_depth block.size coefficients.now }
+    ensures { samples.new ≡ paint stride block.area
+        (λ r c v. clip bit_depth (pos v +ℤ residue_by by_av1 block.size block.kind bit_depth coefficients.now r c)) samples.old }
+{
+    inverse_transform_add_in(
+        scratch,
+        coefficients,
+        samples,
+        stride,
+        block.area,
+        av1_itx::Block {
+            tx_size: block.size,
+            tx_type: block.kind,
+            by_av1,
+            bd: bit_depth,
+        },
+    );
+}
+
 /// Adds the residue of coefficients to the samples of a rectangle, which has the transform's sides, and clips, at a
 /// depth of 8: the specification's "2D inverse transform process" and the addition of "Reconstruction". The rectangle
 /// begins at column `x` of row `y`, and rows of samples stand `stride` apart. The size and the type are told by their
@@ -218,7 +256,7 @@ pub fn av1_inverse_transform_add_8(
     tx_size: u8,
     tx_type: u8,
 ) -> u32
-    ensures { AddsResidue false 8 tx_size tx_type stride x y coefficients.now samples.old samples.new result }
+    ensures { AddsResidue true false 8 tx_size tx_type stride x y coefficients.now samples.old samples.new result }
 {
     let at = Place { stride, x, y };
     match block_of(tx_size, tx_type, at, samples.len()) {
@@ -230,9 +268,12 @@ pub fn av1_inverse_transform_add_8(
                 samples,
                 stride,
                 block.area,
-                block.size,
-                block.kind,
-                8,
+                av1_itx::Block {
+                    tx_size: block.size,
+                    tx_type: block.kind,
+                    by_av1: false,
+                    bd: 8,
+                },
             );
             DONE
         }
@@ -241,7 +282,8 @@ pub fn av1_inverse_transform_add_8(
 }
 
 /// The same for samples of 16 bits at a depth of 8, 10 or 12. A sample that is past the depth is clipped with what is
-/// added to it.
+/// added to it. Where rav1e's transforms differ from AV1's, it does as AV1; `av1_inverse_transform_add_rav1e_16` does
+/// as rav1e.
 ///
 /// `BAD_DEPTH`: samples have no such depth. `BAD_COEFFICIENT`: one of the transform's coefficients has more than
 /// `bit_depth + 8` bits, its sign among them.
@@ -256,20 +298,53 @@ pub fn av1_inverse_transform_add_16(
     tx_type: u8,
     bit_depth: usize,
 ) -> u32
-    ensures { AddsResidue true bit_depth tx_size tx_type stride x y coefficients.now samples.old samples.new result }
+    ensures { AddsResidue true true bit_depth tx_size tx_type stride x y coefficients.now samples.old samples.new result }
 {
     let at = Place { stride, x, y };
     match deep_block_of(tx_size, tx_type, at, coefficients, samples.len(), bit_depth) {
         Ok(block) => {
-            inverse_transform_add_in(
+            add_deep(
                 scratch,
                 coefficients,
                 samples,
                 stride,
-                block.area,
-                block.size,
-                block.kind,
+                block,
                 bit_depth,
+                true,
+            );
+            DONE
+        }
+        Err(refused) => refused.status(),
+    }
+}
+
+/// The same by rav1e's rule, which differs at depths above 8. At a depth of 12 its identities of 4 and 16 values along
+/// rows wrap at 32 bits, where AV1's don't. And it clamps lossless blocks (`WHT_WHT`) between the passes, as all
+/// others.
+pub fn av1_inverse_transform_add_rav1e_16(
+    scratch: &mut TxRoom,
+    coefficients: &[i32],
+    samples: &mut [u16],
+    stride: usize,
+    x: usize,
+    y: usize,
+    tx_size: u8,
+    tx_type: u8,
+    bit_depth: usize,
+) -> u32
+    ensures { AddsResidue false true bit_depth tx_size tx_type stride x y coefficients.now samples.old samples.new result }
+{
+    let at = Place { stride, x, y };
+    match deep_block_of(tx_size, tx_type, at, coefficients, samples.len(), bit_depth) {
+        Ok(block) => {
+            add_deep(
+                scratch,
+                coefficients,
+                samples,
+                stride,
+                block,
+                bit_depth,
+                false,
             );
             DONE
         }

@@ -1,19 +1,21 @@
 //! The residue of coefficients that are cut to the depth, added to samples of the caller.
-ghost use Rattle.std.specs.Prelude.{◌≡◌, ◌+◌, ◌≤◌, length, pos, ◌+ℤ◌};
+ghost use Rattle.std.specs.Prelude.{true, ◌≡◌, ◌+◌, ◌≤◌, length, pos, ◌+ℤ◌};
 ghost use Rattle.av1_blocks.specs.Depths.{IsDepth};
 ghost use Rattle.av1_dct.specs.Arithmetic.{at, clamp_value};
 ghost use Rattle.av1_frame.specs.Areas.{AreRows};
 ghost use Rattle.av1_frame.specs.Arithmetic.{clip};
 ghost use Rattle.av1_frame.specs.Samples.{paint, paint_row};
-ghost use Rattle.av1_itx.specs.Residue.{residue};
+ghost use Rattle.av1_itx.specs.Residue.{residue_by};
 ghost use Rattle.av1_calls.specs.Arguments.{rectangle};
 ghost use Rattle.av1_calls.specs.Transforms.{AddsClamped, IsRunnable, cut_to};
 
 use crate::motion::Place;
 use crate::status::DONE;
-use crate::transform_add::{Block, all_given_fit, block_at_depth, given_count, number_at};
+use crate::transform_add::{
+    Block, add_deep, all_given_fit, block_at_depth, given_count, number_at,
+};
 use av1_dct::clamp_value;
-use av1_itx::{TxRoom, inverse_transform_add_in};
+use av1_itx::TxRoom;
 
 /// How many coefficients a transform has at most.
 const MOST_COEFFICIENTS: usize = 1024;
@@ -46,20 +48,19 @@ fn add_cut(
     requires rows { AreRows stride block.area (length samples.old) }
     requires placed { block.area ≡ rectangle block.area.x block.area.y block.size }
     ensures { samples.new ≡ paint stride block.area
-        (λ r c v. clip bit_depth (pos v +ℤ residue block.size block.kind bit_depth (cut_to (bit_depth + 8) coefficients.now) r c)) samples.old }
+        (λ r c v. clip bit_depth (pos v +ℤ residue_by true block.size block.kind bit_depth (cut_to (bit_depth + 8) coefficients.now) r c)) samples.old }
 {
     let mut room = [0; MOST_COEFFICIENTS];
     let given = given_count(coefficients, block.size.coded_area());
     cut(&mut room, coefficients, given, bit_depth + 8);
-    inverse_transform_add_in(
+    add_deep(
         scratch,
         &room[..given],
         samples,
         stride,
-        block.area,
-        block.size,
-        block.kind,
+        block,
         bit_depth,
+        true,
     );
 }
 
@@ -78,18 +79,17 @@ fn add_clamped(
     requires rows { AreRows stride block.area (length samples.old) }
     requires placed { block.area ≡ rectangle block.area.x block.area.y block.size }
     ensures { samples.new ≡ paint stride block.area
-        (λ r c v. clip bit_depth (pos v +ℤ residue block.size block.kind bit_depth (cut_to (bit_depth + 8) coefficients.now) r c)) samples.old }
+        (λ r c v. clip bit_depth (pos v +ℤ residue_by true block.size block.kind bit_depth (cut_to (bit_depth + 8) coefficients.now) r c)) samples.old }
 {
     if all_given_fit(coefficients, block.size.coded_area(), bit_depth + 8) {
-        inverse_transform_add_in(
+        add_deep(
             scratch,
             coefficients,
             samples,
             stride,
-            block.area,
-            block.size,
-            block.kind,
+            block,
             bit_depth,
+            true,
         );
     } else {
         add_cut(scratch, coefficients, samples, stride, block, bit_depth);

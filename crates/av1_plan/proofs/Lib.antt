@@ -30,3 +30,17 @@ pub mod Continued
 pub mod Lengths
 pub mod Widened
 pub mod Shown
+pub mod Written
+pub mod Turns
+pub mod DrawnBlocks
+pub mod Fills
+pub mod FieldKinds
+pub mod Sides
+pub mod LeafKinds
+pub mod LeafTransforms
+pub mod LeafTriples
+pub mod LeafFills
+pub mod NodeFills
+pub mod ReferenceFills
+pub mod PlanFills
+pub mod DrawnExamples

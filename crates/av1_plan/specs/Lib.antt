@@ -14,3 +14,8 @@ pub mod Values
 pub mod Versions
 pub mod Pieces
 pub mod Lengths
+pub mod Draft
+pub mod Numbers
+pub mod Generator
+pub mod Text
+pub mod Making

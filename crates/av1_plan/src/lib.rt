@@ -28,11 +28,14 @@
 //!   rise strictly by block and place.
 //! - A leaf's rectangle in a plane, the size of its transforms there and the blocks that begin in the frame are worked
 //!   out here alone (`specs/Geometry.antt`), for the check and for the reconstruction.
+//! - `make_plan` gives a large plan from a number, for measuring and for trying out: its bytes are those of the
+//!   definition (`specs/Generator.antt`), and the text of a valid plan.
 #![tactic(auto)]
 
 mod access;
 mod check;
 mod error;
+mod generate;
 mod geometry;
 mod header;
 mod laws;
@@ -46,6 +49,7 @@ mod reader;
 
 pub use check::{admits_references, check_leaves, check_plan, is_inter_size};
 pub use error::{Invalid, InvalidKind, PlanError};
+pub use generate::{make_plan, make_plan_in};
 pub use geometry::{PlaneArea, TransformBlock, carries_chroma, plane_tx_size};
 pub use header::Header;
 pub use laws::{

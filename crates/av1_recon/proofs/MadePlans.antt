@@ -1,8 +1,8 @@
 -- The plan of a number: that parsing it refuses nothing, and that there are lines on it.
 use Rattle.std.proofs.Common.{◌≡◌, ℕ, List, Result, Ok, Err, refl, sym, ap, subst, ◌∙◌}
 use Rattle.std.specs.Prelude.{IsErrAnd, IfErr}
-use Rattle.av1_generate.specs.Text.{ArePlan}
-use Rattle.av1_generate.proofs.PlanFills.{plan_is, faultless_is, few_bytes}
+use Rattle.av1_plan.specs.Text.{ArePlan}
+use Rattle.av1_plan.proofs.PlanFills.{plan_is, faultless_is, few_bytes}
 use Rattle.av1_plan.specs.Grammar.{plan}
 use Rattle.av1_plan.specs.Plan.{PlanValue}
 use Rattle.av1_plan.specs.Spelling.{AreText}

@@ -1,7 +1,7 @@
 -- The words after the program's name.
 use Rattle.std.specs.Prelude.{◌≡◌, ℕ, List, [], ◌∷◌, Option, Some, None, option_and_then, bytes_eq, codes}
 use Rattle.std.specs.Prelude.{if◌then◌else◌, ⊤}
-use Rattle.av1_generate.specs.Generator.{plan_bytes}
+use Rattle.av1_plan.specs.Generator.{plan_bytes}
 use Rattle.av1_recon.specs.declared.command.Command.{Command}
 use Rattle.av1_recon.specs.declared.command.Command.TheVariants.{Reconstruct, Make, Sum}
 use Rattle.av1_recon.specs.Made.{AreMadeSums}

@@ -1,6 +1,6 @@
 -- What is written of the plan of a number.
 use Rattle.std.specs.Prelude.{ℕ, List, Ok}
-use Rattle.av1_generate.specs.Generator.{plan_bytes}
+use Rattle.av1_plan.specs.Generator.{plan_bytes}
 use Rattle.av1_recon.specs.Lines.{sum_lines}
 use Rattle.av1_recon.specs.Outcomes.{HasOutcomeBy}
 

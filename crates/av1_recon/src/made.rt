@@ -1,6 +1,6 @@
 //! The plan of a number: its bytes, and four lines on it.
 ghost use Rattle.std.specs.Prelude.{◌≡◌, ◌≤◌, None, IfOk, IfErr, ℕ, List};
-ghost use Rattle.av1_generate.specs.Generator.{plan_bytes, plan_bytes_in};
+ghost use Rattle.av1_plan.specs.Generator.{plan_bytes, plan_bytes_in};
 ghost use Rattle.av1_plan.specs.Values.{plan_value};
 ghost use Rattle.av1_plan.specs.Validity.{first_fault};
 ghost use Rattle.av1_recon.specs.Made.{AreMadeSums};
@@ -9,8 +9,7 @@ ghost use Rattle.av1_recon.specs.Writing.{Writes};
 ghost use Rattle.av1_recon.specs.declared.error.ReconError.TheVariants.{Memory};
 
 use crate::{ReconError, Sink, write_sums};
-use av1_generate::{make_plan, make_plan_in};
-use av1_plan::{Plan, parse_plan};
+use av1_plan::{Plan, make_plan, make_plan_in, parse_plan};
 use av1_streams::write_bytes;
 use std::alloc::Global;
 use std::num::NonZeroU32;
@@ -20,7 +19,7 @@ use std::num::NonZeroU32;
 /// # Errors
 ///
 /// `Memory` before the first written byte, and `WriteFault`.
-#[tactic(auto, unfolding(av1_generate::specs::Generator::plan_bytes))]
+#[tactic(auto, unfolding(av1_plan::specs::Generator::plan_bytes))]
 pub fn write_made<W: Sink>(alloc: Global, number: u32, sink: &mut W) -> Result<(), ReconError>
     ensures { Writes W.taken W.faults sink.old sink.new (plan_bytes number) result }
 {

@@ -31,7 +31,7 @@ impl From<OutOfMemory> for FrameError {
     }
 }
 
-/// Why a frame of a sequence is refused.
+/// Why a frame of a sequence is rejected.
 #[derive(Copy, Clone, Debug, PartialEq, Eq)]
 pub enum FrameFault {
     /// Its plan, with the reference samples of the slots that it reads, would have more than 64 MiB.
@@ -53,11 +53,11 @@ pub enum SequenceError {
     /// The field that begins at byte `at` is cut, has a value that is not admitted, or is left over after the end. The
     /// part of a frame is one field.
     Malformed { at: u32 },
-    /// Entry number `frame`, counted from 0, is the first that is refused: it is a frame, and why it is refused. The
+    /// Entry number `frame`, counted from 0, is the first that is rejected. It is a frame, and `fault` says why. The
     /// frames that are shown before it were written.
     Frame { frame: u16, fault: FrameFault },
-    /// Entry number `frame`, counted from 0, is the first that is refused: it shows the frame of a slot again, and the
-    /// slot is empty. The frames that are shown before it were written.
+    /// Entry number `frame`, counted from 0, is the first that is rejected. It shows a slot again that is empty. The
+    /// frames that are shown before it were written.
     EmptySlot { frame: u16 },
     /// A write failed. A prefix of what was to be written stands.
     WriteFault,

@@ -11,7 +11,7 @@ use crate::frame::{Frame, PlaneConfig, PlaneOffset};
 use crate::mc::{FilterMode, MotionVector};
 use crate::partition::BlockSize;
 use crate::predict::{IntraEdgeFilterParameters, IntraParam, PredictionMode};
-use crate::recorder::{setting, short_filter};
+use crate::recorder::{identities_wrap, setting, short_filter};
 use crate::tiling::{PlaneRegion, PlaneRegionMut, Rect};
 use crate::transform::{TxSize, TxType};
 use crate::util::{Pixel, PixelType};
@@ -214,7 +214,8 @@ fn read<T: Pixel, S: Sample>(
   call(samples, at)
 }
 
-/// Adds the residue of a block to the samples of `output`, in place of rav1e's function of this name.
+/// Adds the residue of a block to the samples of `output`, in place of rav1e's function of this name.  Identities wrap where
+/// the encoder's do.
 pub fn inverse_transform_add<T: Pixel>(
   input: &[T::Coeff], output: &mut PlaneRegionMut<'_, T>, _eob: usize, tx_size: TxSize, tx_type: TxType, bd: usize,
   _cpu: CpuFeatureLevel,
@@ -230,6 +231,12 @@ pub fn inverse_transform_add<T: Pixel>(
         "inverse_transform_add_8",
         change(output, sides, |samples: &mut [u8], at| {
           av1_c::inverse_transform_add_8(scratch, unsafe { same(input) }, samples, at.stride, block(at))
+        })
+      ),
+      PixelType::U16 if identities_wrap() => call!(
+        "inverse_transform_add_rav1e_16",
+        change(output, sides, |samples: &mut [u16], at| {
+          av1_c::inverse_transform_add_rav1e_16(scratch, unsafe { same(input) }, samples, at.stride, block(at), bd)
         })
       ),
       PixelType::U16 => call!(

@@ -124,11 +124,15 @@ pub fn short_filter(filter: usize) -> usize {
   }
 }
 
-/// A value that an identity scales by so many 4096ths: as AV1 has it, or with plans of versions 1 and 2 as rav1e, where it wraps
-/// at 32 bits.
-pub fn scaled(factor: i32, value: i32) -> i32 {
+/// Whether identities wrap at 32 bits, as rav1e has them: with plans of versions 1 and 2.
+pub fn identities_wrap() -> bool {
   static WRAPS: OnceLock<bool> = OnceLock::new();
-  if *WRAPS.get_or_init(earlier_versions) {
+  *WRAPS.get_or_init(earlier_versions)
+}
+
+/// A value that an identity scales by so many 4096ths: as AV1 has it, or as rav1e, where it wraps.
+pub fn scaled(factor: i32, value: i32) -> i32 {
+  if identities_wrap() {
     factor.wrapping_mul(value).wrapping_add(1 << 11) >> 12
   } else {
     (factor as i64 * value as i64 + (1 << 11) >> 12) as i32

@@ -4,7 +4,8 @@ use crate::calls::{self, Kind, Numbers, Transform};
 use crate::made::{compare, narrow, refuse, wide};
 use crate::spoiled::{depth, past, place};
 use av1_c::{
-    Error, TransformBlock, TransformScratch, inverse_transform_add_8, inverse_transform_add_16,
+    Error, TransformBlock, TransformScratch, inverse_transform_add_8,
+    inverse_transform_add_rav1e_16,
 };
 
 // The coefficients up to the last that isn't 0.
@@ -25,7 +26,8 @@ fn add(call: &mut Transform) -> Result<(), Error> {
         y: target.y,
     };
     if call.format.wide {
-        return inverse_transform_add_16(
+        // rav1e recorded it.
+        return inverse_transform_add_rav1e_16(
             &mut scratch,
             coefficients,
             &mut target.samples,

@@ -1,5 +1,5 @@
 use Rattle.std.proofs.Common.{List, ℕ, sym, subst}
-use Rattle.av1_generate.specs.Text.{AreFaultless}
+use Rattle.av1_plan.specs.Text.{AreFaultless}
 use Rattle.av1_plan.specs.Values.{plan_value}
 use Rattle.av1_recon.proofs.MadePlans.{memory_alone}
 use Rattle.av1_recon.proofs.made.parse_made.Goals as goal

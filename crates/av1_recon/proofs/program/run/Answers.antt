@@ -1,5 +1,5 @@
 use Rattle.std.proofs.Common.{◌≡◌, ◌∙◌, ap, map, refl, string_bytes, subst, sym, Some}
-use Rattle.av1_generate.specs.Generator.{plan_bytes}
+use Rattle.av1_plan.specs.Generator.{plan_bytes}
 use Rattle.av1_tile.specs.Output.{planes_of}
 use Rattle.av1_recon.specs.Commands.{IsMade, command_of}
 use Rattle.av1_recon.specs.Ends.{IsDone, written}

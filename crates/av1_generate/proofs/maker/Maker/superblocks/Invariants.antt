@@ -1,9 +1,0 @@
-use Rattle.std.proofs.Common.{◌≡◌, ◌-◌}
-use Rattle.av1_generate.specs.Draft.{each}
-use Rattle.av1_generate.specs.Generator.{superblock_row}
-use Rattle.av1_generate.specs.Making.{run, work}
-use Rattle.av1_generate.proofs.maker.Maker.superblocks.Given as goal
-
-abbrev pub invariant-loop-row : goal.invariant-loop-row
-invariant-loop-row l =
-    run (each (superblock_row l.frame) l.row (8 - l.row)) (work l.self) ≡ run (each (superblock_row l.frame) 0 8) (work l.initial.self)
