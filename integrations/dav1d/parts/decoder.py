@@ -62,7 +62,8 @@ def build(folder, version):
         archive.extractall(folder)
     edits.apply(source)
     words = ["-Denable_asm=false", "-Denable_tests=false", "-Ddefault_library=static", "-Dbuildtype=release"]
-    error = packages.run(["meson", "setup", *words, "build"], "meson", cwd=source) or packages.run(["ninja", "-C", "build"], "ninja", cwd=source)
+    error = (packages.run(["meson", "setup", *words, "build"], "meson", cwd=source) or
+             packages.run(["ninja", "-C", "build"], "ninja", cwd=source))
     if error:
         sys.exit(error)
     with open(stamp, "w", encoding="utf-8") as file:

@@ -20,7 +20,8 @@ def program(name, given=None):
     if not given and not os.access(path, os.X_OK):
         path = shutil.which(name) or path
     if not os.access(path, os.X_OK) or os.path.isdir(path):
-        print(f"{path} isn't there: install a release, or `rt run` in crates/{name} builds it, or name it by ${name.upper()}", file=sys.stderr)
+        print(f"{path} is missing: install a release, run `rt run` in crates/{name}, or set ${name.upper()} to its path",
+              file=sys.stderr)
         sys.exit(4)
     return path
 
@@ -83,8 +84,9 @@ def described(plan, found):
         mode = MODES[leaf.uv_mode] if plane else (MODES[:-1] + ["filter intra"])[leaf.mode]
     else:
         mode = ("intra block copy", "one reference", "two references")[len(leaf.vectors()) if leaf.kind == INTER else 0]
-    fields = {"leaf": leaf.number, "x": 4 * leaf.x, "y": 4 * leaf.y, "width": 4 * leaf.w, "height": 4 * leaf.h, "mode": mode,
-              "judged": plan.level(leaf), "plane": "YUV"[plane], "row": row, "column": column, "decoder": decoder, "defined": defined}
+    fields = {"leaf": leaf.number, "x": 4 * leaf.x, "y": 4 * leaf.y, "width": 4 * leaf.w, "height": 4 * leaf.h,
+              "mode": mode, "judged": plan.level(leaf), "plane": "YUV"[plane], "row": row, "column": column,
+              "decoder": decoder, "defined": defined}
     line = (f"leaf {leaf.number} at {4 * leaf.x},{4 * leaf.y}, {4 * leaf.w}x{4 * leaf.h}, {mode}: plane {'YUV'[plane]} row {row} "
             f"column {column} decoder {decoder} defined {defined}")
     return line, fields

@@ -161,8 +161,9 @@ void plan_log_transform(const Dav1dTaskContext *const t, const int plane, const 
         else ((int16_t *) coefficients)[last] ^= 64;
     }
     const int width = 4 * d->w << wide, height = 4 * d->h;
-    const uint8_t *const from = (const uint8_t *) p->data[plane] + 4 * (t->by >> half_y) * p->stride[!!plane] + (4 * (t->bx >> half_x) << wide);
-    for (int y = 0; y < height; y++) memcpy((uint8_t *) &n[k] + y * width, from + y * p->stride[!!plane], width);
+    const ptrdiff_t stride = p->stride[!!plane];
+    const uint8_t *const from = (const uint8_t *) p->data[plane] + 4 * (t->by >> half_y) * stride + (4 * (t->bx >> half_x) << wide);
+    for (int y = 0; y < height; y++) memcpy((uint8_t *) &n[k] + y * width, from + y * stride, width);
     record(TRANSFORM, k + width * height / 4, n);
 }
 
