@@ -1,6 +1,6 @@
 // What no recorded row can say: counts, planes that held something before, memory that runs out, readers and writers,
-// builders, printed text, frames of any sides, rules that are AV1's, chroma that leaves share. And worked values of calls
-// of the libraries.
+// builders, printed text, frames of any sides, rules that are AV1's, chroma that leaves share. And worked values of
+// calls of the libraries.
 mod builder;
 mod chroma;
 mod edges;
