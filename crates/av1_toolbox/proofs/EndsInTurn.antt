@@ -17,6 +17,7 @@ before_frames errors.ReadFault is = tt
 before_frames errors.TooLong is = tt
 before_frames (errors.Malformed at) is = tt
 before_frames (errors.Frame i fault) is = absurd cc
+before_frames (errors.EmptySlot i) is = absurd cc
 before_frames errors.WriteFault is = absurd cc
 before_frames errors.Memory is = absurd cc
 
