@@ -3,6 +3,7 @@
 // calls of the libraries, and of plans that are short enough to be read.
 mod builder;
 mod chroma;
+mod compared;
 mod cuts;
 mod edges;
 mod memory;
@@ -15,6 +16,7 @@ mod program;
 mod refused;
 mod residues;
 mod rules;
+mod sequence;
 mod sides;
 mod sizes;
 mod state;
