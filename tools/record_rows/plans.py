@@ -55,20 +55,6 @@ def tiles(parts, width=128, height=8, columns=(64,), rows=(), references=b"", ma
     return file + b"".join(part(it) for it in parts)
 
 
-def third_grid(file, seed):
-    """A grid of the second version like this one of the first: of sides that are coded alike, to which its references are cut."""
-    width, height, depth, sampling = struct.unpack_from("<HHBB", file, 4)
-    shown = width - seed % 8, height - seed // 8 % 8
-    samples, at = b"", 20
-    each = 1 if depth == 8 else 2
-    for xdec, ydec in file[19].bit_count() * ((0, 0), *2 * ((sampling < 2, sampling == 0),)):
-        stride, kept = (width >> xdec) * each, (shown[0] + xdec >> xdec) * each
-        for row in range(shown[1] + ydec >> ydec):
-            samples += file[at + row * stride:at + row * stride + kept]
-        at += stride * (height >> ydec)
-    return b"RTL2" + struct.pack("<HH", *shown) + file[8:20] + samples + file[at:]
-
-
 def trace(plan, given, length=None):
     return b"RTR1" + struct.pack("<I", len(plan) if length is None else length) + plan + given
 
@@ -92,23 +78,6 @@ def shown_sequence(entries, width=8, height=8, depth=8, sampling=2, count=None):
 # The kinds of entries, and how many bytes stand before them.
 HIDDEN, SHOWN, AGAIN = range(3)
 FRONT_OF_SEQUENCE = 12
-
-
-def with_entries(file, seed, sharp=False):
-    """A sequence of the second version like this one of the first: of sides that are coded alike, with frames that aren't shown and slots that are
-    shown again, mostly some that are filled, and without `sharp` with the regular filter in place of the sharp one."""
-    width, height, depth, sampling, count = struct.unpack_from("<HHBBH", file, 4)
-    them, held, at = [], set(), 12
-    for frame in range(count):
-        length, = struct.unpack_from("<I", file, at + 10)
-        filter = 0 if file[at] == 2 and not sharp else file[at]
-        them.append(bytes([SHOWN if (seed + frame) % 3 else HIDDEN, filter]) + file[at + 1:at + 14 + length])
-        held |= {slot for slot in range(8) if file[at + 9] >> slot & 1}
-        if (seed + frame) % 2 and held:
-            slots = sorted(held) if seed % 8 else range(8)
-            them.append(bytes([AGAIN, slots[(seed + frame) % len(slots)], (37 * seed + 11 * frame) % 256 if seed % 3 else 0]))
-        at += 14 + length
-    return b"RSQ2" + struct.pack("<HHBBH", width - seed % 8, height - seed // 8 % 8, depth, sampling, len(them)) + b"".join(them)
 
 
 # ---- worked plans

@@ -2,7 +2,7 @@
 from plans import (APART, DIRECTIONAL, DOWN_TO_4, FLAT, FROM_LUMA_420, FROM_LUMA_422, HALVED, HALVED_QUARTERS, LIFTED, MOVED, NINE_BY_NINE, ONE_HALF,
                    ONE_ROW, ONE_SAMPLE, PLAIN, PLAN, QUARTERS, REFERRING, SINGLE, SMALL_QUARTERS, WIDE, changed, header, leaf, moved, of_two, parts,
                    planes, sloping)
-from runs import ANSWERS, NEVER
+from runs import NEVER
 
 # Where fields stand: of the header, of a plan of one leaf, and of the first leaf of the plan of four.
 WIDTH, HEIGHT, DEPTH, SAMPLING, EDGE_FILTER, MASK = 4, 6, 8, 9, 11, 19
@@ -183,24 +183,6 @@ def made(add):
     add("made, full", PLAN, ("make", "5"), failing_read=0, out=(26, 7, NEVER))
 
 
-# Of random plans the slots that have planes, and how many kinds of fields vary: up to all 15.
-MASKS = (0, 1, 0, 0, 2, 0, 0, 64, 0, 0, 5)
-STAGES = (15, 15, *range(1, 8), 15, 15, *range(8, 16))
-
-
-def random_plans(runs):
-    """Random plans of every sampling, depth and version, good and broken, and a few larger ones."""
-    kinds = [(sampling, depth, magic) for sampling in range(3) for depth in (8, 10, 12) for magic in (1, 2)]
-    for seed in range(318):
-        sampling, depth, magic = kinds[seed % len(kinds)]
-        options = (f"samp={sampling}", f"depth={depth}", f"magic={magic}", f"maxside={32 if seed < 300 else 136}",
-                   f"mask={MASKS[seed % len(MASKS)]}", f"stage={STAGES[seed % len(STAGES)]}")
-        for kind in ("random", "randombad"):
-            plan = runs.oracle.made(kind, str(seed), *options)
-            if len(plan) < 60_000:
-                runs.add(kind, plan, piece=4096, out=(2**20, 65536, NEVER))
-
-
 def sides(add):
     """Frames of any sides: worked plans, vectors that lead past a side, and sides that a version doesn't admit."""
     quarters = header(61, 57, magic=b"RPL3") + b"\x08" + 4 * leaf(tx_size=18)
@@ -226,18 +208,6 @@ def sides(add):
         add("sides, write", NINE_BY_NINE, out=(131, 7, call))
 
 
-def plans_of_any_sides(runs):
-    """Random plans of the third version, of every sampling and depth, good and broken, where rav1e's code has an answer (`ANSWERS`)."""
-    kinds = [(sampling, depth) for sampling in range(3) for depth in (8, 10, 12)]
-    for seed in range(198):
-        sampling, depth = kinds[seed % len(kinds)]
-        options = [f"samp={sampling}", f"depth={depth}", "magic=3", f"maxside={24 if seed < 189 else 136}", f"filter={seed % 7 % 4}"]
-        for kind in ("random", "randombad"):
-            plan = runs.oracle.made(kind, str(seed), *options, f"mask={MASKS[seed % len(MASKS)]}")
-            if len(plan) < 40_000 and runs.oracle.run((), plan)[0] in ANSWERS:
-                runs.add(kind + " of any sides", plan, piece=4096, out=(2**20, 65536, NEVER))
-
-
 def shared_chroma(add):
     """Chroma that leaves with a side of 4 share: in parts, whole beside an intra leaf at each place, from two references; and in earlier versions, which
     have no such leaves."""
@@ -256,19 +226,7 @@ def shared_chroma(add):
             add("shared chroma, an earlier version", sloping(magic=magic) + it)
 
 
-def small_leaves(runs):
-    """Random plans of the third version of every depth and filter, whose leaves with a side of 4 are mostly from references."""
-    for seed in range(432):
-        options = (f"samp={(0, 0, 1, 2)[seed % 4]}", f"depth={(8, 10, 12)[seed // 4 % 3]}", f"filter={seed // 12 % 4}", f"mask={(1, 5, 64)[seed % 3]}")
-        plan = runs.oracle.made("random", str(seed), *options, "magic=3", "small=85", "maxside=24", f"split={(75, 90)[seed % 5 % 2]}", "coef=20")
-        if len(plan) < 8_000:
-            runs.add("random of small leaves", plan, piece=4096, out=(2**20, 4096, NEVER))
-
-
 def record(runs):
     for rows in (one_leaf, four_leaves, frames, references, refusals, faults, lines, made, sides, shared_chroma):
         rows(runs.add)
     runs.add("too long", piece=2**26 + 1, zeros=2**26 + 1)
-    random_plans(runs)
-    plans_of_any_sides(runs)
-    small_leaves(runs)

@@ -1,4 +1,4 @@
-"""Runs of a program over memory: what an oracle answers, cut by the rules of sources and sinks where a read or a write fails."""
+"""Runs of a program over memory: what rav1e's code answers, cut by the rules of sources and sinks if a read or a write fails."""
 import struct
 import subprocess
 import zlib
@@ -6,16 +6,15 @@ import zlib
 # The number of a call that no run makes.
 NEVER = 2**32 - 1
 PROGRAM, TOOLS = 0, 1
-# The statuses of an oracle's answers: done, refused, and of a trace that planes differ. Where rav1e departs from AV1 and its code isn't edited, an oracle
-# of plans of the third version has no answer, and another status.
+# The statuses of answers: done, refused, and of a trace that planes differ.
 ANSWERS = (0, 2, 7)
 WORDS_OF_TOOLS = ("tiles", "trace", "sequence", "bare")
 # What the first read asks for. Longer inputs take as many reads more as their pieces, and more where a piece doesn't fit.
 FIRST_READ = 65536
 
 
-class Oracle:
-    """A program that answers by rav1e's code what the program of a run would."""
+class Wrapper:
+    """The program of `integrations/rav1e/answer`, which answers by rav1e's code what the program of a run would."""
 
     def __init__(self, program):
         self.program, self.known = program, {}
@@ -27,10 +26,6 @@ class Oracle:
             it = subprocess.run([self.program, *words], input=data, capture_output=True)
             self.known[key] = it.returncode, it.stdout, it.stderr
         return self.known[key]
-
-    def made(self, *words):
-        """A random plan or file."""
-        return subprocess.run([self.program, *words], capture_output=True, check=True).stdout
 
 
 class Sink:
@@ -97,11 +92,29 @@ def row_of(kind, words, source, sinks, data, zeros, answer):
     return bytes([kind]) + struct.pack("<I", len(body)) + body
 
 
+class Run:
+    """What a stored row says of its run."""
+
+    def __init__(self, row):
+        self.kind, self.at, self.row = row[0], 5, row
+        self.words = tuple(self.take(*self.fields("B")).decode().split("\n")[:-1])
+        self.source, self.out, self.err = self.fields("II"), self.fields("III"), self.fields("III")
+        self.data = self.take(*self.fields("I"))
+        self.zeros, = self.fields("I")
+
+    def take(self, count):
+        self.at += count
+        return self.row[self.at - count:self.at]
+
+    def fields(self, form):
+        return struct.unpack("<" + form, self.take(struct.calcsize("<" + form)))
+
+
 class Runs:
     """The rows of runs, and a name for each."""
 
-    def __init__(self, oracle):
-        self.oracle, self.rows, self.names = oracle, [], []
+    def __init__(self, wrapper):
+        self.wrapper, self.rows, self.names = wrapper, [], []
 
     def reads(self, kind, words):
         """Whether a run with these words reads its input."""
@@ -112,7 +125,7 @@ class Runs:
         piece, failing = source
         if self.reads(kind, words) and failing != NEVER and failing < reads_of(len(data), piece):
             return 4, b"read fault\n"
-        status, output, line = self.oracle.run((*(["tools"] if kind == TOOLS else []), *words), data)
+        status, output, line = self.wrapper.run((*(["tools"] if kind == TOOLS else []), *words), data)
         if all(out.write(part) for part in parts_of(kind, words, data, output)):
             return status, line
         return 5, b"write fault\n"
@@ -123,4 +136,13 @@ class Runs:
         status, line = self.answer(kind, tuple(words), data + bytes(zeros), source, out)
         err.write(line)
         self.rows.append(row_of(kind, words, source, (out, err), data, zeros, (status, err.taken, out.taken)))
+        self.names.append(name)
+
+    def again(self, name, row):
+        """A row with the same run as a stored one, answered anew."""
+        run = Run(row)
+        out, err = Sink(*run.out), Sink(*run.err)
+        status, line = self.answer(run.kind, run.words, run.data + bytes(run.zeros), run.source, out)
+        err.write(line)
+        self.rows.append(row_of(run.kind, run.words, run.source, (out, err), run.data, run.zeros, (status, err.taken, out.taken)))
         self.names.append(name)

@@ -1,9 +1,8 @@
 """Runs of the tools: grids of tiles, traces, sequences, plans without their coefficients."""
 from departure_rows import BACK, RISING
 from plans import (AGAIN, APART, DIRECTIONAL, DOWN_TO_4, FLAT, FROM_LUMA_420, HALVED, HIDDEN, MOVED, NINE_BY_NINE, ONE_HALF, ONE_SAMPLE, PLAIN, PLAN,
-                   QUARTERS, SHOWN, SINGLE, changed, header, leaf, moved, of_two, parts, planes, sequence, shown_sequence, third_grid, tiles, trace,
-                   with_entries)
-from runs import NEVER, TOOLS, WORDS_OF_TOOLS, reads_of
+                   QUARTERS, SHOWN, SINGLE, changed, header, leaf, moved, of_two, parts, planes, sequence, shown_sequence, tiles, trace)
+from runs import NEVER, TOOLS, reads_of
 
 # A leaf of 64x64 from above, one by DC, one from the left, and one from the first slot.
 FROM_ABOVE, BY_DC, FROM_LEFT = (b"\0" + leaf(mode=mode, tx_size=4) for mode in (1, 0, 2))
@@ -216,69 +215,6 @@ def faults(add):
     add("words, line", PLAN, ("x",), err=(20, 6, NEVER))
 
 
-# Sides of random grids, in which one or more tiles fit.
-GRIDS = ((72, 8), (8, 72), (128, 16), (72, 72), (24, 136), (136, 24), (64, 64), (200, 8))
-
-
-def random_files(runs, count):
-    """Random files of each tool, good and broken."""
-    for seed in range(count):
-        width, height = GRIDS[seed % len(GRIDS)]
-        mask = [0, 0, 1][seed % 3]
-        options = {
-            "tiles": (f"w={width}", f"h={height}", "coef=20", f"mask={mask}"),
-            "trace": (f"maxside={[16, 24, 32, 72][seed % 4]}", f"mask={mask}"),
-            "sequence": (f"maxside={[16, 24, 40, 72][seed % 4]}",),
-            "bare": ("maxside=24", f"mask={mask}", "stage=15")}
-        for word in WORDS_OF_TOOLS:
-            for kind in ("random", "randombad"):
-                name = kind + ("" if word == "bare" else word)
-                file = runs.oracle.made(name, str(seed), *options[word])
-                if len(file) < 12_000:
-                    runs.add(name, file, (word,), kind=TOOLS, piece=4096, out=(2**20, 4096, NEVER))
-
-
-def random_sides(runs, count):
-    """Random traces of the third version, and plans without their coefficients."""
-    for seed in range(count):
-        for word, kind in (("trace", "randomtrace"), ("bare", "random")):
-            file = runs.oracle.made(kind, str(seed), "magic=3", f"maxside={[16, 24, 40][seed % 3]}", f"mask={seed % 2}", f"filter={seed % 2}", "depth=10")
-            if len(file) < 8_000:
-                runs.add(kind + " of any sides", file, (word,), kind=TOOLS, piece=4096, out=(2**20, 4096, NEVER))
-
-
-def small_leaves(runs, count):
-    """Random files of the third version whose leaves with a side of 4 are mostly from references: traces, plans without their coefficients, and sequences
-    whose frames are shown or not."""
-    for seed in range(count):
-        options = ("small=85", f"maxside={[16, 24][seed % 2]}", f"samp={(0, 0, 1, 2)[seed % 4]}", "split=90", "coef=20")
-        for word, kind in (("trace", "randomtrace"), ("bare", "random"), ("sequence", "randomsequence")):
-            version = ("maxcoef=100000",) if word == "sequence" else ("magic=3", "mask=1", f"filter={seed // 4 % 4}")
-            file = runs.oracle.made(kind, str(seed), *options, *version)
-            if word == "sequence":
-                file = with_entries(file, seed, sharp=True)
-            if len(file) < 8_000:
-                runs.add(kind + " of small leaves", file, (word,), kind=TOOLS, piece=4096, out=(2**20, 4096, NEVER))
-
-
-def random_grids(runs, count):
-    """Random grids of the third version, every other one with small leaves."""
-    for seed in range(count):
-        width, height = GRIDS[seed % len(GRIDS)]
-        small = ("small=85", "split=90", "mask=1") if seed % 2 else (f"mask={(1, 3, 0, 1)[seed // 2 % 4]}",)
-        file = runs.oracle.made("randomtiles", str(seed), f"w={width}", f"h={height}", f"samp={(0, 0, 1, 2)[seed // 2 % 4]}", "coef=20", *small)
-        if len(file) < 12_000:
-            runs.add("randomtiles, in the third version", third_grid(file, seed), ("tiles",), kind=TOOLS, piece=4096, out=(2**20, 4096, NEVER))
-
-
-def random_entries(runs, count):
-    """Random sequences whose frames are shown or not."""
-    for seed in range(count):
-        file = runs.oracle.made("randomsequence", str(seed), f"maxside={[16, 24, 40][seed % 3]}", "maxcoef=100000")
-        if len(file) < 8_000:
-            runs.add("randomsequence, shown", with_entries(file, seed), ("sequence",), kind=TOOLS, piece=4096, out=(2**20, 4096, NEVER))
-
-
 def record(runs):
     def add(*call, **more):
         runs.add(*call, kind=TOOLS, **more)
@@ -286,8 +222,3 @@ def record(runs):
     for rows in (worked_tiles, third_grids, worked_traces, worked_sequences, worked_plans, faults, any_sides, shown_sequences):
         rows(add)
     add("too long", words=("tiles",), piece=2**26 + 1, zeros=2**26 + 1)
-    random_files(runs, 64)
-    random_sides(runs, 24)
-    random_grids(runs, 96)
-    random_entries(runs, 64)
-    small_leaves(runs, 96)

@@ -133,7 +133,7 @@ module _ (h : Header) (p : ℕ) (l : LeafValue) (frame : IsWholeFrame h) (grid :
       (coded_width h / 4 / 2 ^ xdec h p) (coded_height h / 4 / 2 ^ ydec h p) n
       (place_is p l.x (xdec h p) (halved_x h p) (luma_x h p) grid.cell_x) (place_is p l.y (ydec h p) low (luma_y h p) grid.cell_y)
       (tx_units t).0 (tx_units t).1 (visible_units (coded_width h) (xdec h p) (halved_x h p) frame.width)
-          (visible_units (coded_height h) (ydec h p) low frame.height) across_is
+      (visible_units (coded_height h) (ydec h p) low frame.height) across_is
       (lt-ltb n (block_count area_in) lt)
 
   pub same_number : (n : ℕ) → n < block_count area_in → option_map (place_of (xdec h p) (ydec h p)) (numbered_in n) ≡ transform_block h p area_in n

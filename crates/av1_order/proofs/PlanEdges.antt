@@ -37,14 +37,14 @@ visible_in h p frame x y column row =
 -- the steps of all leaves write each of them
 pub plan_written : (h : Header) (p : ℕ) (leaves : List LeafValue) (trees : List (Tree Coding 4)) → IsWholeFrame h → All (λ l. fault_of h l ≡ None) leaves
     → frame_leaves (coded_width h / 4) (coded_height h / 4) trees ≡ map (placed (coding_in h p)) leaves →
-        length trees ≡ superblock_count (coded_width h / 4) (coded_height h / 4)
+    length trees ≡ superblock_count (coded_width h / 4) (coded_height h / 4)
     → (x y : ℕ) → IsVisible (xdec h p) (ydec h p) (coded_width h / 4) (coded_height h / 4) x y
     → is_covered_sample (xdec h p) (ydec h p)
-        (plane_steps (xdec h p) (ydec h p) (coded_width h / 4) (coded_height h / 4) (map (placed (coding_in h p)) leaves)) x y ≡ true
+    (plane_steps (xdec h p) (ydec h p) (coded_width h / 4) (coded_height h / 4) (map (placed (coding_in h p)) leaves)) x y ≡ true
 plan_written h p leaves trees frame faultless ordered count x y here =
     ap (λ ls. is_covered_sample (xdec h p) (ydec h p) (plane_steps (xdec h p) (ydec h p) (coded_width h / 4) (coded_height h / 4) ls) x y) (sym ordered)
     ∙ planes_are_written (xdec h p) (ydec h p) (coded_width h / 4)
-        (coded_height h / 4) trees (plans_are_frames h p leaves trees frame faultless ordered) count x y here
+    (coded_height h / 4) trees (plans_are_frames h p leaves trees frame faultless ordered) count x y here
 
 module _ (h : Header) (p : ℕ) (earlier : List LeafValue) (l : LeafValue) (later : List LeafValue) (trees : List (Tree Coding 4))
     (frame : IsWholeFrame h) (grid : IsOnGrid h l) (valid : IsValidLeaf h l) (faultless : All (λ l. fault_of h l ≡ None) (earlier ++ l ∷ later))
@@ -82,14 +82,14 @@ module _ (h : Header) (p : ℕ) (earlier : List LeafValue) (l : LeafValue) (late
   block_edges =
       edges_at_cut (xdec h p) (ydec h p) (coded_width h / 4) (coded_height h / 4) (length trees) (frame_leaves (coded_width h / 4) (coded_height h / 4) trees)
       (frame_is_ordered (xdec h p) (ydec h p) (coded_width h / 4)
-            (coded_height h / 4) trees (plans_are_frames h p (earlier ++ l ∷ later) trees frame faultless ordered))
+      (coded_height h / 4) trees (plans_are_frames h p (earlier ++ l ∷ later) trees frame faultless ordered))
       steps_before s steps_after cut_there
 
   pub block_placed : IsPlaced (xdec h p) (ydec h p) (coded_width h / 4) (coded_height h / 4) s
   block_placed =
       placed_at_cut (xdec h p) (ydec h p) (coded_width h / 4) (coded_height h / 4) (length trees) (frame_leaves (coded_width h / 4) (coded_height h / 4) trees)
       (frame_is_ordered (xdec h p) (ydec h p) (coded_width h / 4)
-            (coded_height h / 4) trees (plans_are_frames h p (earlier ++ l ∷ later) trees frame faultless ordered))
+      (coded_height h / 4) trees (plans_are_frames h p (earlier ++ l ∷ later) trees frame faultless ordered))
       steps_before s steps_after cut_there
 
   pub block_told : (x y : ℕ) → IsVisible (xdec h p) (ydec h p) (coded_width h / 4) (coded_height h / 4) x y
@@ -97,7 +97,7 @@ module _ (h : Header) (p : ℕ) (earlier : List LeafValue) (l : LeafValue) (late
   block_told =
       told_at_cut (xdec h p) (ydec h p) (coded_width h / 4) (coded_height h / 4) (length trees) (frame_leaves (coded_width h / 4) (coded_height h / 4) trees)
       (frame_is_ordered (xdec h p) (ydec h p) (coded_width h / 4)
-            (coded_height h / 4) trees (plans_are_frames h p (earlier ++ l ∷ later) trees frame faultless ordered))
+      (coded_height h / 4) trees (plans_are_frames h p (earlier ++ l ∷ later) trees frame faultless ordered))
       steps_before s steps_after cut_there
 
   pub block_answered : (b : BlockSize) (t : TxSize) → HasSizes s b t →

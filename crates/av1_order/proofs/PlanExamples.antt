@@ -10,7 +10,8 @@ use Rattle.av1_blocks.specs.declared.transform.TxType.TheVariants.{DCT_DCT}
 use Rattle.av1_plan.specs.declared.geometry.TransformBlock.{TransformBlock}
 use Rattle.av1_plan.specs.declared.header.Header.{Header}
 use Rattle.av1_plan.specs.declared.leaf.LeafKind.TheVariants.{Intra}
-use Rattle.av1_plan.specs.Geometry.{coded_width, coded_height, xdec, ydec, block_at, block_count, blocks_across, carries_chroma, covers_plane, has_block, plane_area, plane_height}
+use Rattle.av1_plan.specs.Geometry.{coded_width, coded_height, xdec, ydec, block_at, block_count, blocks_across, carries_chroma, covers_plane, has_block}
+use Rattle.av1_plan.specs.Geometry.{plane_area, plane_height}
 use Rattle.av1_plan.specs.Geometry.{plane_place, plane_size, plane_tx_size, plane_width, transform_block}
 use Rattle.av1_plan.specs.Plan.{LeafValue}
 use Rattle.av1_plan.specs.Tree.{Placed}
@@ -70,7 +71,8 @@ corner x y = record { x = x; y = y }
 -- ---- answers: above right of the third leaf stands the second, and right of the fourth the frame ends
 
 third_block : leaf_block header 0 third 0 ≡ Some (corner 0 4)
-unfolding header third corner xdec ydec coded_width coded_height plane_width plane_height plane_area plane_place plane_size plane_tx_size blocks_across block_count block_at has_block
+unfolding header third corner xdec ydec coded_width coded_height plane_width plane_height plane_area plane_place plane_size plane_tx_size blocks_across
+    block_count block_at has_block
     transform_block
 third_block = refl
 

@@ -45,7 +45,7 @@ module _ (h : Header) (p : ℕ) where
       let right = n % (u.columns / c.columns) * c.columns in
       let down = n / (u.columns / c.columns) * c.rows in
       if nat_lt (u.x + right) (coded_width h / 4 / 2 ^ xdec h p)
-          && nat_lt (u.y + down) (coded_height h / 4 / 2 ^ ydec h p)
+      && nat_lt (u.y + down) (coded_height h / 4 / 2 ^ ydec h p)
       then Some (record { block = b; right = right; down = down; columns = c.columns; rows = c.rows }) else None
 
   -- the steps before block n of a leaf: those of the leaves before it, and those of its blocks of lower numbers

@@ -29,10 +29,14 @@ use Rattle.av1_plan.proofs.Sides.{frame_coded}
 luma_block : (version number x y : ℕ) (size : BlockSize) (v : ℕ) → x < 512 → y < 512
     → has_block (frame version number) 0 (plane_area (frame version number) x y size (luma_tx_size size v) 0) 0 ≡ true
 unfolding frame has_block plane_area plane_place plane_size plane_tx_size plane_width plane_height xdec ydec block_count blocks_across block_at luma_tx_size
-luma_block version number x y BLOCK_4X4 zero lt_x lt_y = rw ((frame_coded version number).0, (frame_coded version number).1, lt-ltb (x + 0) 512 (omega arith), lt-ltb (y + 0) 512 (omega arith)) refl
-luma_block version number x y _ zero lt_x lt_y = rw ((frame_coded version number).0, (frame_coded version number).1, lt-ltb (x + 0) 512 (omega arith), lt-ltb (y + 0) 512 (omega arith)) refl
-luma_block version number x y BLOCK_4X4 (suc v) lt_x lt_y = rw ((frame_coded version number).0, (frame_coded version number).1, lt-ltb (x + 0) 512 (omega arith), lt-ltb (y + 0) 512 (omega arith)) refl
-luma_block version number x y _ (suc v) lt_x lt_y = rw ((frame_coded version number).0, (frame_coded version number).1, lt-ltb (x + 0) 512 (omega arith), lt-ltb (y + 0) 512 (omega arith)) refl
+luma_block version number x y BLOCK_4X4 zero lt_x lt_y =
+    rw ((frame_coded version number).0, (frame_coded version number).1, lt-ltb (x + 0) 512 (omega arith), lt-ltb (y + 0) 512 (omega arith)) refl
+luma_block version number x y _ zero lt_x lt_y =
+    rw ((frame_coded version number).0, (frame_coded version number).1, lt-ltb (x + 0) 512 (omega arith), lt-ltb (y + 0) 512 (omega arith)) refl
+luma_block version number x y BLOCK_4X4 (suc v) lt_x lt_y =
+    rw ((frame_coded version number).0, (frame_coded version number).1, lt-ltb (x + 0) 512 (omega arith), lt-ltb (y + 0) 512 (omega arith)) refl
+luma_block version number x y _ (suc v) lt_x lt_y =
+    rw ((frame_coded version number).0, (frame_coded version number).1, lt-ltb (x + 0) 512 (omega arith), lt-ltb (y + 0) 512 (omega arith)) refl
 
 luma_places : (size : BlockSize) (v : ℕ) → 4 ≤ coded_area (luma_tx_size size v)
 unfolding luma_tx_size
@@ -53,8 +57,20 @@ luma_first version number x y size s (v, is) lt_x lt_y =
 chroma_block : (version number x y : ℕ) (size : BlockSize) (s : TxSize) (q : ℕ) → x < 512 → y < 512
     → has_block (frame version number) (suc q) (plane_area (frame version number) x y size s (suc q)) 0 ≡ true
 unfolding frame has_block plane_area plane_place plane_size plane_tx_size plane_width plane_height xdec ydec block_count blocks_across block_at
-chroma_block version number x y BLOCK_4X4 s q lt_x lt_y = rw ((frame_coded version number).0, (frame_coded version number).1, lt-ltb (x / 4 / 2 * 4 + 0) 256 (omega arith), lt-ltb (y / 4 / 2 * 4 + 0) 256 (omega arith)) refl
-chroma_block version number x y _ s q lt_x lt_y = rw ((frame_coded version number).0, (frame_coded version number).1, lt-ltb (x / 4 / 2 * 4 + 0) 256 (omega arith), lt-ltb (y / 4 / 2 * 4 + 0) 256 (omega arith)) refl
+chroma_block version number x y BLOCK_4X4 s q lt_x lt_y =
+    rw (
+      (frame_coded version number).0,
+      (frame_coded version number).1,
+      lt-ltb (x / 4 / 2 * 4 + 0) 256 (omega arith),
+      lt-ltb (y / 4 / 2 * 4 + 0) 256 (omega arith),
+    ) refl
+chroma_block version number x y _ s q lt_x lt_y =
+    rw (
+      (frame_coded version number).0,
+      (frame_coded version number).1,
+      lt-ltb (x / 4 / 2 * 4 + 0) 256 (omega arith),
+      lt-ltb (y / 4 / 2 * 4 + 0) 256 (omega arith),
+    ) refl
 
 chroma_places : (version number : ℕ) (size : BlockSize) (s : TxSize) (q : ℕ) → 4 ≤ coded_area (plane_tx_size (frame version number) size s (suc q))
 unfolding frame plane_tx_size xdec ydec

@@ -35,7 +35,7 @@ all_same (suc n) (suc i) x = all_same n i x
 -- a new frame with the filter of a header holds no slot yet
 pub holds_none : {T : Type 0} (num : T → ℕ) (value : PlanValue) (fi : FrameInvariants T) → let h = value.header
     in fi ≡ record (new_frame (coded_width h) (coded_height h) h.filter h.depth h.edge_filter h.slots) { short_by_av1 = follows_av1 h } →
-        HoldsFirst num value 0 fi
+    HoldsFirst num value 0 fi
 holds_none {T} num value fi e = subst (λ (f : FrameInvariants T). HoldsFirst num value 0 f) (sym e) (record {
   settings = record { columns = refl; rows = refl; depth = refl; filter = refl; short_by_av1 = refl; edge_filter = refl; slots = refl };
   count = refl;

@@ -16,7 +16,8 @@ use Rattle.av1_plan.specs.declared.header.Header.{Header}
 use Rattle.av1_plan.specs.declared.leaf.Triple.{Triple}
 use Rattle.av1_plan.specs.declared.leaf.LeafKind.TheVariants.{Intra}
 use Rattle.av1_plan.specs.declared.leaf.ChromaMode.TheVariants.{Plain}
-use Rattle.av1_plan.specs.Geometry.{coded_width, coded_height, xdec, ydec, plane_width, plane_height, carries_chroma, plane_place, plane_size, plane_tx_size, plane_area, blocks_across}
+use Rattle.av1_plan.specs.Geometry.{coded_width, coded_height, xdec, ydec, plane_width, plane_height, carries_chroma, plane_place, plane_size}
+use Rattle.av1_plan.specs.Geometry.{plane_tx_size, plane_area, blocks_across}
 use Rattle.av1_plan.specs.Geometry.{block_count, block_at, has_block, transform_block, is_inside, shown_columns, shown_rows}
 use Rattle.av1_plan.specs.Plan.{LeafValue, PlanValue}
 use Rattle.av1_tile.specs.Edge.{edge}
@@ -61,7 +62,8 @@ plan = record {
 
 -- 64 samples of 131, and 128 of 128
 worked_planes : planes_of plan ≡ replicate 64 131 ++ replicate 128 128
-unfolding header leaf plan xdec ydec coded_width coded_height plane_width plane_height shown_columns shown_rows carries_chroma plane_place plane_size plane_tx_size plane_area
+unfolding header leaf plan xdec ydec coded_width coded_height plane_width plane_height shown_columns shown_rows carries_chroma plane_place plane_size
+    plane_tx_size plane_area
     blocks_across block_count
     block_at has_block transform_block is_inside edge by_prediction intra_predicted predicted joined steps_at steps_of coefficients block_residue slow_in
     slow_step slow_walk walk_of visible planes_of clamp_value half_btf_with brev cos128 cosine_with odd_half_with group_sum_with inner_turn_with mirror_sum_with

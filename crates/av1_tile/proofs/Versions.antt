@@ -23,7 +23,8 @@ use Rattle.av1_itx.specs.Residue.{is_lossless, residue, residue_by}
 use Rattle.av1_itx.proofs.NoWrap.{lossless_residue, shallow_residue}
 use Rattle.av1_plan.specs.declared.header.Header.{Header}
 use Rattle.av1_plan.specs.declared.leaf.Triple.{Triple}
-use Rattle.av1_plan.specs.Geometry.{coded_width, coded_height, xdec, ydec, plane_width, plane_height, carries_chroma, covers_plane, plane_place, plane_size, plane_tx_size, plane_area}
+use Rattle.av1_plan.specs.Geometry.{coded_width, coded_height, xdec, ydec, plane_width, plane_height, carries_chroma, covers_plane, plane_place, plane_size}
+use Rattle.av1_plan.specs.Geometry.{plane_tx_size, plane_area}
 use Rattle.av1_plan.specs.declared.leaf.LeafKind.{LeafKind}
 use Rattle.av1_plan.specs.declared.leaf.LeafKind.TheVariants.{Intra, Single, Compound}
 use Rattle.av1_plan.specs.Geometry.{follows_av1, has_block, transform_block, shown_columns, shown_rows}
@@ -48,7 +49,8 @@ use Rattle.av1_tile.specs.Versions.{AddsTheSame, AgreesIn, EarlierKeepFilter, Ea
 module _ (n : ℕ) (h : Header) where
   component_same : (earlier : List LeafValue) (leaf : LeafValue) (c : Component)
       → component_steps (header_in n h) (λ k. plane_block (header_in n h) earlier k leaf) leaf c ≡ component_steps h (λ k. plane_block h earlier k leaf) leaf c
-  unfolding steps_at transform_block has_block plane_area plane_place plane_size plane_tx_size coded_width coded_height plane_width plane_height xdec ydec covers_plane carries_chroma
+  unfolding steps_at transform_block has_block plane_area plane_place plane_size plane_tx_size coded_width coded_height plane_width plane_height xdec ydec
+      covers_plane carries_chroma
   component_same earlier leaf Y = refl
   component_same earlier leaf U = refl
   component_same earlier leaf V = refl

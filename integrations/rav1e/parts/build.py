@@ -1,51 +1,57 @@
-"""Builds the recorder: rav1e 0.5.1 as Debian 12 packages it, edited, in integrations/rav1e/out; with the library, in out/library."""
+"""Builds encoders from a copy of rav1e's source in integrations/rav1e/out/VERSION: the recorder, and the one on the library."""
 import hashlib
 import os
 import shutil
 import subprocess
 import sys
 
-from . import edits, library
+from . import edits, library, wrapper
 
 HOME = os.path.dirname(edits.HERE)
 OUT = os.path.join(HOME, "out")
-REGISTRY = "/usr/share/cargo/registry"
-SOURCE = os.path.join(REGISTRY, "rav1e-0.5.1")
-
-# A program, and the package of Debian 12 that has it.
-PROGRAMS = {"dav1d": "dav1d", "aomdec": "aom-tools", "ffmpeg": "ffmpeg"}
-CONFIG = f"""[source.crates-io]
+# Where the crates of each version are: those that `source` unpacks, and those of Debian 12.
+REGISTRIES = {"0.8.1": os.path.join(OUT, "source/crates"), "0.5.1": "/usr/share/cargo/registry"}
+CONFIG = """[source.crates-io]
 replace-with = "debian"
 [source.debian]
-directory = "{REGISTRY}"
+directory = "{registry}"
 [net]
 offline = true
 """
+HOW = """rav1e 0.8.1, from Debian's suite sid: integrations/rav1e/source
+or rav1e 0.5.1, on Debian 12: apt-get install --no-install-recommends librust-rav1e-dev"""
 
 
-def missing(programs, source=None):
-    """What lacks, as (what, package); of the source, the package with its dependencies."""
-    lacks = [(name, PROGRAMS[name]) for name in programs if not shutil.which(name)]
-    if source and not os.path.isfile(os.path.join(source, "src/lib.rs")):
-        lacks.append((source, "librust-rav1e-dev"))
-    if source and not os.path.isdir(REGISTRY):
-        lacks.append((REGISTRY, "librust-rav1e-dev"))
-    if source and not shutil.which("cargo"):
-        lacks.append(("cargo (of Rust 1.70 or later, which Debian 12 lacks)", None))
-    return lacks
+def default_source():
+    """The folder of rav1e's source: $RAV1E_SOURCE, else 0.8.1 as `source` unpacks it, else 0.5.1 of Debian 12."""
+    if os.environ.get("RAV1E_SOURCE"):
+        return os.environ["RAV1E_SOURCE"]
+    folders = [os.path.join(registry, "rav1e-" + version) for version, registry in REGISTRIES.items()]
+    return next(filter(os.path.isdir, folders), folders[0])
 
 
-def need(programs, source=None):
-    """Ends the program where something lacks, with how it is installed."""
-    lacks = missing(programs, source)
-    if lacks:
-        print("missing: " + ", ".join(what for what, _ in lacks), file=sys.stderr)
-        packages = sorted({package for _, package in lacks if package})
-        if packages:
-            print("on Debian 12: apt-get install --no-install-recommends " + " ".join(packages), file=sys.stderr)
-        if any(package is None for _, package in lacks):
-            print("cargo: https://rustup.rs", file=sys.stderr)
-        sys.exit(3)
+def registry_of(source, version):
+    """The folder of the crates that the rav1e in `source` depends on: the one that it stands in, if that has crates."""
+    beside = os.path.dirname(os.path.abspath(source))
+    if any(name.startswith("arrayvec-") for name in os.listdir(beside)):
+        return beside
+    return REGISTRIES[version]
+
+
+def need(source):
+    """Ends the program if the source, its crates or cargo is missing, with how to get it."""
+    if not os.path.isfile(os.path.join(source, "src/lib.rs")):
+        fail(f"{source}, rav1e's source", HOW)
+    registry = registry_of(source, edits.version_of(source))
+    if not os.path.isdir(registry):
+        fail(f"{registry}, the crates that rav1e depends on", HOW)
+    if not shutil.which("cargo"):
+        fail("cargo, of Rust 1.85 or later", "https://rustup.rs")
+
+
+def fail(what, how):
+    print(f"missing: {what}\n{how}", file=sys.stderr)
+    sys.exit(3)
 
 
 def digest(source, features, made):
@@ -65,54 +71,91 @@ def recorder_parts():
     return parts_of(("edits.py", *(module + ".rs" for module in edits.MODULES)))
 
 
-def encoder(source=SOURCE, assembly=False):
-    """The path of the recorder; with `assembly` that has rav1e's assembler in it."""
-    return built(OUT, source, assembly, recorder_parts(), edits.apply, {})
+def encoder(source, assembly=False, as_it_is=False):
+    """The path of the recorder; with `assembly` it has rav1e's assembler, with `as_it_is` its decisions and bits are rav1e's."""
+    kind, chosen = ("as_it_is", edits.AS_IT_IS) if as_it_is else ("recorder", edits.EDITS)
+    return Build(source, kind, features_with(assembly), recorder_parts()).program(lambda copy: edits.apply(copy, chosen))
 
 
-def encoder_on_library(archive, crate, source=SOURCE, assembly=False):
+def encoder_on_library(archive, crate, source, assembly=False):
     """The path of the recorder whose block operations are those of the archive `libav1_c.a`, called by the crate."""
     names = sorted(os.listdir(os.path.join(crate, "src")))
     made = [*recorder_parts(), *parts_of(("library.py", library.MODULE)), *(os.path.join(crate, "src", name) for name in names), archive]
 
     def apply(copy):
-        edits.apply(copy)
+        edits.apply(copy, edits.EDITS)
         library.apply(copy, crate)
 
-    return built(os.path.join(OUT, "library"), source, assembly, made, apply, {"AV1_C_FOLDER": os.path.dirname(os.path.abspath(archive))})
+    build = Build(source, "library", features_with(assembly), made)
+    return build.program(apply, AV1_C_FOLDER=os.path.dirname(os.path.abspath(archive)))
+
+
+def features_with(assembly):
+    """The features of rav1e that an encoder is built with."""
+    return "binaries,asm" if assembly else "binaries"
+
+
+def answering(source):
+    """The path of the program that answers plans by rav1e's functions, of rav1e 0.8.1, for the processors that `rt` builds for."""
+    need(source)
+    if edits.version_of(source) != "0.8.1":
+        fail(f"rav1e 0.8.1, which the wrapper calls; {source} is another version", HOW)
+    made = [*parts_of(("edits.py", "wrapper.py")), *(os.path.join(wrapper.FOLDER, name) for name in sorted(os.listdir(wrapper.FOLDER)))]
+    build = Build(source, "wrapper", "", made, flags=" -C target-cpu=x86-64-v2")
+    return build.program(wrapper.apply)
 
 
 def stamp_of(program):
     """What a built encoder was made of."""
-    with open(os.path.join(os.path.dirname(program), "../../stamp"), encoding="utf-8") as file:
+    with open(os.path.join(os.path.dirname(program), "stamp"), encoding="utf-8") as file:
         return file.read()
 
 
-def built(out, source, assembly, made, apply, variables):
-    """The path of an encoder, built in the folder `out` where it isn't there yet or what it is made of has changed."""
-    if assembly:
-        out = os.path.join(out, "assembly")
-    features = "binaries,asm" if assembly else "binaries"
-    program, stamp = os.path.join(out, "target/release/rav1e"), os.path.join(out, "stamp")
-    told = digest(source, features, made)
-    if os.path.isfile(program) and os.path.isfile(stamp):
-        with open(stamp, encoding="utf-8") as file:
-            if file.read() == told:
-                return program
-    need([], source)
-    crate = os.path.join(out, "rav1e")
-    shutil.rmtree(crate, ignore_errors=True)
-    shutil.copytree(source, crate)
-    apply(crate)
-    os.makedirs(os.path.join(crate, ".cargo"), exist_ok=True)
-    with open(os.path.join(crate, ".cargo/config.toml"), "w", encoding="utf-8") as file:
-        file.write(CONFIG)
-    environment = {**os.environ, **variables, "RUSTFLAGS": "--cap-lints allow", "CARGO_TARGET_DIR": os.path.join(out, "target")}
-    words = ["cargo", "build", "--release", "--offline", "--quiet", "-j", os.environ.get("RECORD_JOBS", "2"),
-             "--no-default-features", "--features", features]
-    print("building an encoder (some minutes, once)", file=sys.stderr)
-    if subprocess.run(words, cwd=crate, env=environment).returncode:
-        sys.exit("the encoder didn't build")
-    with open(stamp, "w", encoding="utf-8") as file:
-        file.write(told)
-    return program
+def wait(process):
+    """The status of a process, with a line for each half minute that it takes."""
+    seconds = 0
+    while True:
+        try:
+            return process.wait(30)
+        except subprocess.TimeoutExpired:
+            seconds += 30
+            print(f"building: {seconds} s", file=sys.stderr, flush=True)
+
+
+class Build:
+    """A program that is built in out/VERSION/KIND; those with the same flags share what they depend on."""
+
+    def __init__(self, source, kind, features, made, flags=""):
+        need(source)
+        self.source, self.features, self.flags = source, features, "--cap-lints allow" + flags
+        self.version = edits.version_of(source)
+        self.out = os.path.join(OUT, self.version, kind + "_assembly" * ("asm" in features))
+        self.target = os.path.join(OUT, self.version, "target" if not flags else f"target_{kind}")
+        self.stamp = digest(source, features, made)
+
+    def program(self, apply, **variables):
+        """The program's path; it is built if it isn't there, or if what it is made of has changed."""
+        path = os.path.join(self.out, "rav1e")
+        if not (os.path.isfile(path) and os.path.isfile(os.path.join(self.out, "stamp")) and stamp_of(path) == self.stamp):
+            built = self.built(apply, variables)
+            shutil.copy(built, path)
+            with open(os.path.join(self.out, "stamp"), "w", encoding="utf-8") as file:
+                file.write(self.stamp)
+        return path
+
+    def built(self, apply, variables):
+        """Copies the source, applies the edits and builds the copy; gives the path that cargo leaves."""
+        crate = os.path.join(self.out, "source")
+        shutil.rmtree(crate, ignore_errors=True)
+        shutil.copytree(self.source, crate)
+        apply(crate)
+        os.makedirs(os.path.join(crate, ".cargo"), exist_ok=True)
+        with open(os.path.join(crate, ".cargo/config.toml"), "w", encoding="utf-8") as file:
+            file.write(CONFIG.format(registry=registry_of(self.source, self.version)))
+        environment = {**os.environ, **variables, "RUSTFLAGS": self.flags, "CARGO_TARGET_DIR": self.target}
+        words = ["cargo", "build", "--release", "--offline", "--quiet", "-j", os.environ.get("RECORD_JOBS", "2"),
+                 "--no-default-features", "--features", self.features]
+        print(f"building {os.path.basename(self.out)} of rav1e {self.version}, once, from {self.source}", file=sys.stderr, flush=True)
+        if wait(subprocess.Popen(words, cwd=crate, env=environment)):
+            sys.exit(f"{crate} didn't build")
+        return os.path.join(self.target, "release/rav1e")

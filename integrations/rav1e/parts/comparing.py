@@ -3,10 +3,16 @@ import os
 import struct
 import subprocess
 
-from .recording import Again, events, read
+from .recording import Again, Coded, events, read
 
 # What a frame can be, in the order in which `compared.txt` counts them.
-COUNTS = ("frames", "again", "refused", "program", "encoder", "aomdec", "listed", "follow", "unlisted")
+COUNTS = ("frames", "tiled", "again", "refused", "program", "encoder", "aomdec", "listed", "follow", "unlisted", "decoded", "other")
+
+
+def unlisted(folder, counts):
+    """How much of these counts isn't a departure that is listed.  dav1d's assembly may wrap where `--wrapping` drew coefficients."""
+    wrapping = b"RECORD_WRAPPING" in read(folder, "settings.txt")
+    return sum(counts[name] for name in ("refused", "program", "aomdec", "unlisted")) + (0 if wrapping else counts["other"])
 
 
 class Comparison:
@@ -19,9 +25,19 @@ class Comparison:
         self.counts = dict.fromkeys(COUNTS, 0)
         self.sequence = "none"
         self.apart = False  # program and encoder differ somewhere, so their references do
-        self.dav1d, self.aomdec, self.shown = (read(folder, name + ".yuv") for name in ("dav1d", "aomdec", "shown"))
+        first = next(event for event in events(folder) if isinstance(event, Coded))
+        self.dav1d, self.aomdec, self.shown = (first.with_chroma(read(folder, name + ".yuv")) for name in ("dav1d", "aomdec", "shown"))
         self.slots = [None] * 8  # by slot: the encoder's, dav1d's frame, both cropped
         self.planes = []
+        self.other_decoders()
+
+    def other_decoders(self):
+        """Counts how often the clip was decoded, and how many decodings are other than those that are compared."""
+        for line in read(self.folder, "decoders.txt").decode().splitlines():
+            self.counts["decoded"] += 1
+            if line.startswith("other "):
+                self.counts["other"] += 1
+                self.lines.append(f"{self.name}: {line}")
 
     def tell(self, frame, text):
         self.lines.append(f"{self.name} frame {frame}: {text}")
@@ -59,12 +75,13 @@ class Comparison:
 
     def frame(self, frame):
         self.counts["frames"] += 1
-        made = subprocess.run([self.program], input=frame.plan.data, capture_output=True)
+        self.counts["tiled"] += frame.plan.tiles
+        made = self.reconstructed(frame.plan, frame.plan.data)
         if made.returncode:
             self.tell(frame.number, "refused: " + made.stderr.decode().strip())
             self.counts["refused"] += 1
         elif made.stdout != frame.planes:
-            self.differs(frame, "program", "program and encoder differ", self.first_leaf(frame, frame.trace))
+            self.differs(frame, "program", "program and encoder differ", self.first_leaf(frame, frame.plan.data, frame.planes))
             self.apart = True
         self.planes.append(made.stdout)
         seen = frame.plan.cropped(frame.filtered or frame.planes, frame.true)
@@ -84,7 +101,7 @@ class Comparison:
         held = {s: frame.plan.padded(self.slots[s][1], frame.true) for s in range(8) if frame.plan.mask >> s & 1}
         plan = frame.plan.with_references(held)
         given = self.decoders_planes(frame, dav1d, plan)
-        said = self.first_leaf(frame, b"RTR1" + struct.pack("<I", len(plan)) + plan + given)
+        said = self.first_leaf(frame, plan, given)
         if said == "same":
             self.counts["follow"] += 1
         else:
@@ -104,12 +121,20 @@ class Comparison:
         """The decoder's planes; past the true sides, which a decoder doesn't write, those of the program."""
         if frame.whole():
             return dav1d
-        made = subprocess.run([self.program], input=plan, capture_output=True).stdout
+        made = self.reconstructed(frame.plan, plan).stdout
         return overlaid(frame.plan, made, frame.true, dav1d) if made else frame.plan.padded(dav1d, frame.true)
 
-    def first_leaf(self, frame, trace):
-        """What the tool `trace` says first, with the leaf's own words; the leaf is kept in `leaf`."""
+    def reconstructed(self, plan, data):
+        """What the program makes of the bytes of a plan, or the tool `tiles` of those of a grid."""
+        return subprocess.run([self.tools, "tiles"] if plan.tiles else [self.program], input=data, capture_output=True)
+
+    def first_leaf(self, frame, plan, planes):
+        """What the tool `trace` says first of a plan and given planes, with the leaf's own words; the leaf is kept in `leaf`.
+        A grid has no trace: of it only whether the planes are the same is said."""
         self.leaf = None
+        if frame.plan.tiles:
+            return "same" if self.reconstructed(frame.plan, plan).stdout == planes else "in a grid"
+        trace = b"RTR1" + struct.pack("<I", len(plan)) + plan + planes
         said = subprocess.run([self.tools, "trace"], input=trace, capture_output=True)
         lines = (said.stdout or said.stderr).decode().splitlines() or ["nothing"]
         words = lines[0].split()
@@ -119,10 +144,12 @@ class Comparison:
         return f"{lines[0]} ({self.leaf}, filter {frame.plan.filter})"
 
     def compare_sequence(self, last):
-        """A sequence is to be what dav1d shows; where `last`, the last frame, has a plan before version 3, what the program made
-        of each frame.  Its slots hold what the program made, and nothing filtered: where the encoder's hold something else,
-        or dav1d something else than the encoder, nothing can be said."""
+        """A sequence is to be what dav1d shows; if `last`, the last frame, has a plan before version 3, what the program made
+        of each frame.  Its slots hold what the program made, and nothing filtered: if the encoder's hold something else, or
+        dav1d something else than the encoder, nothing can be said; and frames of several tiles stand in no sequence."""
         has_shown = last.plan.version == 3
+        if self.counts["tiled"]:
+            return
         if self.apart or last.filtered is not None or not last.whole() or has_shown and self.counts["encoder"]:
             self.sequence = "not said"
             return
@@ -136,8 +163,7 @@ class Comparison:
             self.counts["unlisted"] += 1
 
     def unlisted(self):
-        """How much is no listed departure."""
-        return self.counts["unlisted"] + self.counts["program"] + self.counts["refused"] + self.counts["aomdec"]
+        return unlisted(self.folder, self.counts)
 
     def write(self):
         """Adds the last line, and writes all lines into the folder."""

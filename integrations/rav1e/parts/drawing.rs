@@ -1,14 +1,14 @@
 //! Draws an encoder's decisions from a seed, in place of its search: how a superblock is cut, and what each leaf is.
 //!
-//! `edits.py` puts this file into a copy of rav1e 0.5.1.  With RECORD_SEED set, `node` codes each superblock by the encoder's
-//! own writers and reconstruction, and `levels.rs` replaces what quantization left.  What is drawn is what AV1 admits and
+//! `edits.py` puts this file into a copy of rav1e.  With RECORD_SEED set, `node` codes each superblock by the encoder's
+//! own writers and reconstruction, and `drawn_levels.rs` replaces what quantization left.  What is drawn is what AV1 admits and
 //! a plan can say; the comments name the rules.
 
 use crate::api::InterConfig;
 use crate::context::*;
 use crate::ec::Writer;
+use crate::drawn_levels;
 use crate::encoder::{encode_block_post_cdef, encode_block_pre_cdef, FrameInvariants};
-use crate::levels;
 use crate::mc::MotionVector;
 use crate::partition::PartitionType::*;
 use crate::partition::RefType::*;
@@ -172,7 +172,7 @@ fn leaf<T: Pixel, W: Writer>(
   let (size, kind) = draw_transform(fi, bsize, inter, skip);
   // A chroma block takes its type from the luma block over its first sample, and rav1e from the leaf.
   let split = size != max_txsize_rect_lookup[bsize as usize];
-  levels::each_has_some(inter && split && kind != TxType::DCT_DCT);
+  drawn_levels::each_has_some(inter && split && kind != TxType::DCT_DCT);
   cw.bc.blocks.set_segmentation_idx(at, bsize, 0);
   let before = cw.bc.cdef_coded as usize;
   let coded = encode_block_pre_cdef(&fi.sequence, ts, cw, writers[before], bsize, at, skip);

@@ -1,6 +1,6 @@
 //! rav1e's block operations by the library `libav1_c.a`, through the crate in `bindings/rust`.
 //!
-//! `library.py` puts this file into a copy of rav1e 0.5.1, in place of its inverse transforms, its intra edges and
+//! `library.py` puts this file into a copy of rav1e, in place of its inverse transforms, its intra edges and
 //! predictors, the differences of luma for chroma from luma, and its motion: put, prepare and average.  What had to be
 //! copied or fitted for that has a comment that begins with FITTED, and stands in the README beside.
 

@@ -1,4 +1,4 @@
-"""Reads plans (docs/PLAN_FORMAT.md): what stands first, and the leaves in coding order."""
+"""Reads plans and grids of tiles (docs/PLAN_FORMAT.md): what stands first, and the leaves in coding order."""
 import struct
 
 MODES = ("DC V H D45 D135 D113 D157 D203 D67 SMOOTH SMOOTH_V SMOOTH_H PAETH CFL "
@@ -89,11 +89,12 @@ class Leaf:
 
 
 class Plan(Frame):
-    """A plan's bytes, read."""
+    """A plan's bytes, read, or those of a grid of tiles, which has plans of a version by one higher."""
 
     def __init__(self, data):
         self.data = data
-        self.version = int(data[3:4])
+        self.tiles = data[:3] == b"RTL"
+        self.version = int(data[3:4]) + self.tiles
         width, height, depth, sampling, self.filter, self.edge_filter = struct.unpack_from("<HHBBBB", data, 4)
         super().__init__(width, height, depth, sampling)
         self.slots, self.mask = data[12:19], data[19]
@@ -107,13 +108,30 @@ class Plan(Frame):
         return self.data[:20] + b"".join(planes[s] for s in slots) + self.data[self.head:]
 
     def leaves(self):
-        """The leaves in coding order."""
+        """The leaves in coding order, each at its place in the frame."""
         self.at = self.head
-        for y in range(0, self.rows, 64):
-            for x in range(0, self.columns, 64):
-                yield from self.node(x, y, 64)
-        if self.at != len(self.data):
-            raise ValueError(f"{len(self.data) - self.at} bytes are left")
+        for left, top, right, bottom in self.rectangles():
+            end = self.at + self.take("I")[0] + 4 if self.tiles else len(self.data)
+            for y in range(top, bottom, 64):
+                for x in range(left, right, 64):
+                    yield from self.node(x, y, 64)
+            if self.at != end:
+                raise ValueError(f"{end - self.at} bytes are left")
+
+    def grid(self):
+        """The rectangles of the tiles."""
+        self.at = self.head
+        return self.rectangles()
+
+    def rectangles(self):
+        """The rectangle of each tile, as its first and last column and row; of a plan the whole frame."""
+        if not self.tiles:
+            return [(0, 0, self.columns, self.rows)]
+        ends = []
+        for side in (self.columns, self.rows):
+            count, = self.take("B")
+            ends.append([0, *(self.take("H")[0] for _ in range(count - 1)), side])
+        return [(left, top, right, bottom) for top, bottom in zip(ends[1], ends[1][1:]) for left, right in zip(ends[0], ends[0][1:])]
 
     def node(self, x, y, side):
         if x >= self.columns or y >= self.rows:

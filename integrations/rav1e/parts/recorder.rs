@@ -1,8 +1,9 @@
-//! Writes a plan of each frame that the encoder codes, and the planes that it holds itself.
+//! Writes a plan of each frame that the encoder codes, of several tiles a grid, and the planes that it holds itself.
 //!
-//! `edits.py` puts this file into a copy of rav1e 0.5.1, with the calls of it: `start` and `finish` about a frame, `begin` and
-//! `end` about a leaf, `block` at each transform block.  An encoder that decides by trying codes a place several times; the
+//! `edits.py` puts this file into a copy of rav1e, with the calls of it: `start` and `finish` around a frame, `begin` and
+//! `end` around a leaf, `block` at each transform block.  An encoder that decides by trying codes a place several times; the
 //! last time is the one that stays in its planes and in its bits.  So the recorder keeps the last leaf over each cell of 4x4.
+//! Tiles may be coded by several threads, each of which codes one leaf at a time.
 
 use crate::api::ChromaSampling;
 use crate::context::{has_chroma, CFLParams, TileBlockOffset};
@@ -12,11 +13,14 @@ use crate::frame::Frame;
 use crate::mc::{FilterMode, MotionVector};
 use crate::partition::{BlockSize, RefType};
 use crate::predict::{AngleDelta, PredictionMode};
+use crate::tiling::{TileRect, TilingInfo};
 use crate::transform::{TxSize, TxType};
 use crate::util::{CastFromPrimitive, Pixel};
 
+use std::cell::RefCell;
 use std::fs::OpenOptions;
 use std::io::Write;
+use std::sync::atomic::{AtomicBool, Ordering::Relaxed};
 use std::sync::{Mutex, OnceLock};
 
 /// The number of an intra mode is at most that of chroma from luma.
@@ -29,9 +33,11 @@ const SUPERBLOCK: usize = 16;
 /// A coefficient that isn't 0: the number of its block, its place there, its value.
 type Triple = (u8, u16, i32);
 
+/// A leaf; until it is coded (x, y) is its cell in its tile, and then in the frame.
 struct Leaf {
   x: usize,
   y: usize,
+  tile: (usize, usize),
   size: BlockSize,
   luma: u8,
   chroma: u8,
@@ -42,6 +48,7 @@ struct Leaf {
   transform: u8,
   luma_type: u8,
   chroma_type: u8,
+  halved: (usize, usize),
   carries_chroma: bool,
   coefficients: [Vec<Triple>; 3],
 }
@@ -71,11 +78,26 @@ struct Recorder {
   rows: usize,
   leaves: Vec<Leaf>,
   cells: Vec<usize>,
-  current: Option<Leaf>,
-  on: bool,
+  tiles: (Vec<usize>, Vec<usize>),
 }
 
 static RECORDER: Mutex<Option<Recorder>> = Mutex::new(None);
+
+/// Set while leaves are recorded: from `start` to `finish`.
+static ON: AtomicBool = AtomicBool::new(false);
+
+/// Set while a frame is coded only to count its bits, as rav1e does for a target bitrate; it is coded once more after that.
+static TRIAL: AtomicBool = AtomicBool::new(false);
+
+thread_local! {
+  /// The leaf that this thread is coding.
+  static CURRENT: RefCell<Option<Leaf>> = const { RefCell::new(None) };
+}
+
+/// The next frame is coded only to count its bits.
+pub fn trial() {
+  TRIAL.store(true, Relaxed);
+}
 
 /// A setting, by its variable of the environment; one that is empty isn't set.
 pub fn setting(name: &str) -> Option<String> {
@@ -150,77 +172,90 @@ pub fn filter_of(frame: usize) -> FilterMode {
   [FilterMode::REGULAR, FilterMode::SMOOTH, FilterMode::SHARP, FilterMode::BILINEAR][number]
 }
 
-/// A frame is to be coded.  It has one tile.
+/// Whether a frame has no chroma.  It is then written as 4:2:0, and its chroma is grey: each leaf has DC without coefficients,
+/// and so have the references.
+fn is_monochrome<T: Pixel>(fi: &FrameInvariants<T>) -> bool {
+  fi.sequence.chroma_sampling == ChromaSampling::Cs400
+}
+
+/// Where the tiles' columns begin, and their rows, in cells.
+fn tile_starts(tiling: &TilingInfo) -> (Vec<usize>, Vec<usize>) {
+  let starts = |count: usize, superblocks: usize| (0..count).map(|i| i * superblocks * SUPERBLOCK).collect();
+  (starts(tiling.cols, tiling.tile_width_sb), starts(tiling.rows, tiling.tile_height_sb))
+}
+
+/// A frame is to be coded.
 pub fn start<T: Pixel>(fi: &FrameInvariants<T>, fs: &FrameState<T>) {
   let Some(folder) = setting("RECORD_FOLDER") else { return };
-  assert_eq!(fi.sequence.tiling.tile_count(), 1);
+  if TRIAL.load(Relaxed) {
+    return;
+  }
   let mut recorder = RECORDER.lock().unwrap();
   let frame = recorder.as_ref().map_or(0, |r| r.frame);
   let coded = (4 * fi.w_in_b, 4 * fi.h_in_b);
   let (width, height) = if earlier_versions() { coded } else { (fi.width, fi.height) };
+  let chroma = &fs.rec.planes[1].cfg;
+  let (xdec, ydec) = if is_monochrome(fi) { (1, 1) } else { (chroma.xdec, chroma.ydec) };
   *recorder = Some(Recorder {
     folder,
     frame,
     width,
     height,
-    xdec: fs.rec.planes[1].cfg.xdec,
-    ydec: fs.rec.planes[1].cfg.ydec,
+    xdec,
+    ydec,
     cols: fi.w_in_b,
     rows: fi.h_in_b,
     leaves: vec![],
     cells: vec![usize::MAX; fi.w_in_b * fi.h_in_b],
-    current: None,
-    on: true,
+    tiles: tile_starts(&fi.sequence.tiling),
   });
+  ON.store(true, Relaxed);
 }
 
-/// Does `what` with the recorder while a frame is coded.
-fn with_recorder(what: impl FnOnce(&mut Recorder)) {
-  if let Some(recorder) = RECORDER.lock().unwrap().as_mut().filter(|r| r.on) {
-    what(recorder);
-  }
-}
-
-/// A leaf is to be coded.  What isn't `kept` is a trial whose planes the encoder doesn't make.
+/// A leaf is to be coded in a tile.  What isn't `kept` is a trial whose planes the encoder doesn't make.
 #[allow(clippy::too_many_arguments)]
 pub fn begin(
-  at: TileBlockOffset, size: BlockSize, luma: PredictionMode, chroma: PredictionMode, steps: AngleDelta, cfl: CFLParams,
-  references: [RefType; 2], vectors: [MotionVector; 2], transform: TxSize, luma_type: TxType, sampling: ChromaSampling,
-  kept: bool,
+  tile: TileRect, at: TileBlockOffset, size: BlockSize, luma: PredictionMode, chroma: PredictionMode, steps: AngleDelta,
+  cfl: CFLParams, references: [RefType; 2], vectors: [MotionVector; 2], transform: TxSize, luma_type: TxType,
+  sampling: ChromaSampling, kept: bool,
 ) {
-  if !kept {
+  if !kept || !ON.load(Relaxed) {
     return;
   }
-  with_recorder(|r| {
-    let weight = |plane| if chroma.is_cfl() { cfl.alpha(plane) as i8 } else { 0 };
-    r.current = Some(Leaf {
-      x: at.0.x,
-      y: at.0.y,
-      size,
-      luma: luma as u8,
-      chroma: chroma as u8,
-      steps,
-      weights: [weight(0), weight(1)],
-      references,
-      vectors,
-      transform: transform as u8,
-      luma_type: luma_type as u8,
-      chroma_type: 0,
-      carries_chroma: has_chroma(at, size, r.xdec, r.ydec, sampling),
-      coefficients: [vec![], vec![], vec![]],
-    });
-  });
+  let grey = sampling == ChromaSampling::Cs400;
+  let (chroma, sampling) = if grey { (PredictionMode::DC_PRED, ChromaSampling::Cs420) } else { (chroma, sampling) };
+  let (xdec, ydec) = sampling.get_decimation().unwrap();
+  let weight = |plane| if chroma.is_cfl() { cfl.alpha(plane) as i8 } else { 0 };
+  let leaf = Leaf {
+    x: at.0.x,
+    y: at.0.y,
+    tile: (tile.x / 4, tile.y / 4),
+    size,
+    luma: luma as u8,
+    chroma: chroma as u8,
+    steps: AngleDelta { y: steps.y, uv: if grey { 0 } else { steps.uv } },
+    weights: [weight(0), weight(1)],
+    references,
+    vectors,
+    transform: transform as u8,
+    luma_type: luma_type as u8,
+    chroma_type: 0,
+    halved: (xdec, ydec),
+    carries_chroma: has_chroma(at, size, xdec, ydec, sampling),
+    coefficients: [vec![], vec![], vec![]],
+  };
+  CURRENT.with_borrow_mut(|current| *current = Some(leaf));
 }
 
 /// The coefficients of one transform block of the leaf that is being coded, as the inverse transform gets them, or none of
-/// them where the leaf is skipped.  (x, y) is the block's first sample in its plane.
+/// them where the leaf is skipped.  (x, y) is the block's first sample in its plane of the tile.
 pub fn block<C: Copy>(plane: usize, x: isize, y: isize, size: TxSize, kind: TxType, coefficients: &[C])
 where
   i32: CastFromPrimitive<C>,
 {
-  with_recorder(|r| {
-    let (xdec, ydec) = if plane == 0 { (0, 0) } else { (r.xdec, r.ydec) };
-    let Some(leaf) = r.current.as_mut() else { return };
+  CURRENT.with_borrow_mut(|current| {
+    let Some(leaf) = current.as_mut() else { return };
+    let (xdec, ydec) = if plane == 0 { (0, 0) } else { leaf.halved };
     if plane > 0 {
       leaf.chroma_type = kind as u8;
     }
@@ -237,32 +272,43 @@ where
 
 /// The leaf is coded.
 pub fn end() {
-  with_recorder(|r| {
-    if let Some(leaf) = r.current.take() {
-      let number = r.leaves.len();
-      for y in leaf.y..(leaf.y + leaf.size.height_mi()).min(r.rows) {
-        for x in leaf.x..(leaf.x + leaf.size.width_mi()).min(r.cols) {
-          r.cells[y * r.cols + x] = number;
-        }
-      }
-      r.leaves.push(leaf);
+  let Some(mut leaf) = CURRENT.take() else { return };
+  let mut recorder = RECORDER.lock().unwrap();
+  let Some(r) = recorder.as_mut() else { return };
+  leaf.x += leaf.tile.0;
+  leaf.y += leaf.tile.1;
+  let number = r.leaves.len();
+  for y in leaf.y..(leaf.y + leaf.size.height_mi()).min(r.rows) {
+    for x in leaf.x..(leaf.x + leaf.size.width_mi()).min(r.cols) {
+      r.cells[y * r.cols + x] = number;
     }
-  });
+  }
+  r.leaves.push(leaf);
+}
+
+/// A sample as it stands in a file.
+fn write_sample(out: &mut Vec<u8>, sample: u16, depth: usize) {
+  if depth == 8 {
+    out.push(sample as u8);
+  } else {
+    out.extend_from_slice(&sample.to_le_bytes());
+  }
 }
 
 /// The planes of so many columns and rows of luma, as a plan's references and a trace's planes stand.
 fn write_planes<T: Pixel>(out: &mut Vec<u8>, frame: &Frame<T>, width: usize, height: usize, depth: usize) {
   for plane in frame.planes.iter() {
+    if plane.cfg.width == 0 {
+      for _ in 0..width.div_ceil(2) * height.div_ceil(2) {
+        write_sample(out, 1 << (depth - 1), depth);
+      }
+      continue;
+    }
     let width = (width + plane.cfg.xdec) >> plane.cfg.xdec;
     let height = (height + plane.cfg.ydec) >> plane.cfg.ydec;
     for row in plane.data_origin().chunks(plane.cfg.stride).take(height) {
       for &sample in &row[..width] {
-        let sample = u16::cast_from(sample);
-        if depth == 8 {
-          out.push(sample as u8);
-        } else {
-          out.extend_from_slice(&sample.to_le_bytes());
-        }
+        write_sample(out, u16::cast_from(sample), depth);
       }
     }
   }
@@ -354,12 +400,19 @@ impl Recorder {
     sizes.into_iter().any(|(w, h)| w == 4 * h || h == 4 * w)
   }
 
-  /// The letters of the plan's version.
+  /// Whether the frame has several tiles, so that a grid is written.
+  fn has_tiles(&self) -> bool {
+    self.tiles.0.len() * self.tiles.1.len() > 1
+  }
+
+  /// The letters of the version of the grid or plan.
   fn letters(&self) -> &'static [u8; 4] {
-    match (earlier_versions(), self.has_quarters()) {
-      (false, _) => b"RPL3",
-      (true, true) => b"RPL2",
-      (true, false) => b"RPL1",
+    match (self.has_tiles(), earlier_versions(), self.has_quarters()) {
+      (true, false, _) => b"RTL2",
+      (true, true, _) => b"RTL1",
+      (false, false, _) => b"RPL3",
+      (false, true, true) => b"RPL2",
+      (false, true, false) => b"RPL1",
     }
   }
 
@@ -371,26 +424,55 @@ impl Recorder {
       .fold(0, |mask, &reference| mask | 1 << slots[reference as usize - 1])
   }
 
-  fn plan<T: Pixel>(&self, fi: &FrameInvariants<T>, mask: u8) -> (Vec<u8>, usize) {
+  /// What stands first in a plan and in a grid.
+  fn head<T: Pixel>(&self, fi: &FrameInvariants<T>, mask: u8) -> Vec<u8> {
     let depth = fi.sequence.bit_depth;
-    let mut plan = self.letters().to_vec();
-    plan.extend_from_slice(&(self.width as u16).to_le_bytes());
-    plan.extend_from_slice(&(self.height as u16).to_le_bytes());
+    let mut head = self.letters().to_vec();
+    head.extend_from_slice(&(self.width as u16).to_le_bytes());
+    head.extend_from_slice(&(self.height as u16).to_le_bytes());
     let sampling = 2 - self.xdec - self.ydec;
-    plan.extend([depth as u8, sampling as u8, fi.default_filter as u8, fi.sequence.enable_intra_edge_filter as u8]);
-    plan.extend(fi.ref_frames.iter().map(|&slot| if fi.intra_only { 0 } else { slot }));
-    plan.push(mask);
+    head.extend([depth as u8, sampling as u8, fi.default_filter as u8, fi.sequence.enable_intra_edge_filter as u8]);
+    head.extend(fi.ref_frames.iter().map(|&slot| if fi.intra_only { 0 } else { slot }));
+    head.push(mask);
     for slot in (0..8).filter(|slot| mask >> slot & 1 == 1) {
       let held = fi.rec_buffer.frames[slot].as_ref().unwrap();
-      write_planes(&mut plan, &held.frame, self.width, self.height, depth);
+      write_planes(&mut head, &held.frame, self.width, self.height, depth);
     }
-    let head = plan.len();
-    for y in (0..self.rows).step_by(SUPERBLOCK) {
-      for x in (0..self.cols).step_by(SUPERBLOCK) {
-        self.node(&mut plan, x, y, SUPERBLOCK);
+    head
+  }
+
+  /// The leaves of the tile that begins in these cells, by superblock.
+  fn part(&self, left: usize, top: usize) -> Vec<u8> {
+    let behind = |starts: &[usize], first: usize, last: usize| starts.iter().copied().find(|&it| it > first).unwrap_or(last);
+    let mut part = vec![];
+    for y in (top..behind(&self.tiles.1, top, self.rows)).step_by(SUPERBLOCK) {
+      for x in (left..behind(&self.tiles.0, left, self.cols)).step_by(SUPERBLOCK) {
+        self.node(&mut part, x, y, SUPERBLOCK);
       }
     }
-    (plan, head)
+    part
+  }
+
+  /// The tiles, as they stand in a grid.
+  fn grid(&self) -> Vec<u8> {
+    let mut out = vec![];
+    for starts in [&self.tiles.0, &self.tiles.1] {
+      out.push(starts.len() as u8);
+      out.extend(starts[1..].iter().flat_map(|start| (4 * *start as u16).to_le_bytes()));
+    }
+    for &y in &self.tiles.1 {
+      for &x in &self.tiles.0 {
+        let part = self.part(x, y);
+        out.extend_from_slice(&(part.len() as u32).to_le_bytes());
+        out.extend(part);
+      }
+    }
+    out
+  }
+
+  /// Writes a file of the frame that is coded.
+  fn write(&self, ending: &str, bytes: &[u8]) {
+    std::fs::write(format!("{}/{:04}.{ending}", self.folder, self.frame), bytes).unwrap();
   }
 
   fn log(&self, line: &str) {
@@ -400,28 +482,38 @@ impl Recorder {
   }
 }
 
-/// The frame is coded and not yet filtered: writes its plan and its trace, and tells of it in `index.txt`.
+/// The frame is coded and not yet filtered: writes its plan and its trace, or its grid and its planes, and tells of it in
+/// `index.txt`.
 pub fn finish<T: Pixel>(fi: &FrameInvariants<T>, fs: &FrameState<T>) {
-  with_recorder(|r| {
-    let (plan, head) = r.plan(fi, r.mask(&fi.ref_frames));
-    let name = format!("{}/{:04}", r.folder, r.frame);
-    std::fs::write(format!("{name}.plan"), &plan).unwrap();
-    let mut trace = b"RTR1".to_vec();
-    trace.extend_from_slice(&(plan.len() as u32).to_le_bytes());
-    trace.extend_from_slice(&plan);
-    write_planes(&mut trace, &fs.rec, r.width, r.height, fi.sequence.bit_depth);
-    std::fs::write(format!("{name}.trace"), &trace).unwrap();
-    r.log(&format!(
-      "coded {} shown {} refresh {} head {head} quantizer {} width {} height {}\n",
-      r.frame, fi.show_frame as u8, fi.refresh_frame_flags, fi.base_q_idx, fi.width, fi.height
-    ));
-    r.frame += 1;
-    r.on = false;
-  });
+  if !ON.swap(false, Relaxed) {
+    return;
+  }
+  let mut recorder = RECORDER.lock().unwrap();
+  let r = recorder.as_mut().unwrap();
+  let mut planes = vec![];
+  write_planes(&mut planes, &fs.rec, r.width, r.height, fi.sequence.bit_depth);
+  let mut text = r.head(fi, r.mask(&fi.ref_frames));
+  let head = text.len();
+  text.extend(if r.has_tiles() { r.grid() } else { r.part(0, 0) });
+  if r.has_tiles() {
+    r.write("grid", &text);
+    r.write("planes", &planes);
+  } else {
+    r.write("plan", &text);
+    r.write("trace", &[b"RTR1", &(text.len() as u32).to_le_bytes(), &text[..], &planes[..]].concat());
+  }
+  r.log(&format!(
+    "coded {} shown {} refresh {} head {head} quantizer {} width {} height {} monochrome {}\n",
+    r.frame, fi.show_frame as u8, fi.refresh_frame_flags, fi.base_q_idx, fi.width, fi.height, is_monochrome(fi) as u8
+  ));
+  r.frame += 1;
 }
 
 /// The frame is filtered: what other frames and the viewer see.
 pub fn filtered<T: Pixel>(fi: &FrameInvariants<T>, fs: &FrameState<T>) {
+  if TRIAL.swap(false, Relaxed) {
+    return;
+  }
   if let Some(r) = RECORDER.lock().unwrap().as_ref().filter(|_| filters_on()) {
     let mut planes = vec![];
     write_planes(&mut planes, &fs.rec, r.width, r.height, fi.sequence.bit_depth);

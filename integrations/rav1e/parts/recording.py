@@ -1,23 +1,27 @@
-"""What `record` leaves in a folder, and what is made of it: frames in coding order, a sequence, the decoders' frames."""
+"""What `record` leaves in a folder, and what is made of it: frames in coding order, a sequence."""
 import os
 import struct
-import subprocess
 
 from .plans import Frame, Plan
 
 
 class Coded:
-    """A coded frame: its plan, the encoder's planes, and what the encoder told of it."""
+    """A coded frame: its plan or grid, the encoder's planes, and what the encoder told of it."""
 
     def __init__(self, folder, number, told):
         self.number, self.folder = number, folder
         self.shown, self.refresh = told["shown"], told["refresh"]
         self.quantizer = told["quantizer"]
-        self.trace = read(folder, f"{number:04}.trace")
-        length, = struct.unpack_from("<I", self.trace, 4)
-        self.plan = Plan(self.trace[8:8 + length])
-        self.planes = self.trace[8 + length:]
+        if os.path.exists(os.path.join(folder, f"{number:04}.grid")):
+            self.plan = Plan(read(folder, f"{number:04}.grid"))
+            self.planes = read(folder, f"{number:04}.planes")
+        else:
+            trace = read(folder, f"{number:04}.trace")
+            length, = struct.unpack_from("<I", trace, 4)
+            self.plan = Plan(trace[8:8 + length])
+            self.planes = trace[8 + length:]
         self.true = Frame(told["width"], told["height"], self.plan.depth, self.plan.sampling)
+        self.monochrome = told["monochrome"]
         self.filtered = None
         if os.path.exists(os.path.join(folder, f"{number:04}.filtered")):
             self.filtered = read(folder, f"{number:04}.filtered")
@@ -25,6 +29,14 @@ class Coded:
     def whole(self):
         """Whether the frame's true sides are those of its plan."""
         return (self.true.width, self.true.height) == (self.plan.width, self.plan.height)
+
+    def with_chroma(self, frames):
+        """The frames as decoders write them; if the encoder has no chroma, with the grey chroma of its plans behind each."""
+        if not self.monochrome:
+            return frames
+        luma = self.true.width * self.true.height * self.true.each
+        grey = (1 << self.true.depth - 1).to_bytes(self.true.each, "little") * ((self.true.size() - luma) // self.true.each)
+        return b"".join(frames[at:at + luma] + grey for at in range(0, len(frames), luma))
 
 
 class Again:
@@ -55,9 +67,11 @@ HIDDEN, SHOWN, AGAIN = range(3)
 
 def write_sequence(folder):
     """Writes the clip as one sequence, which carries no planes: with plans of version 3 all that the encoder did, with plans
-    before it the coded frames, of which each is shown."""
+    before it the coded frames, of which each is shown.  Frames of several tiles stand in no sequence."""
     done = list(events(folder))
     coded = [event for event in done if isinstance(event, Coded)]
+    if any(frame.plan.tiles for frame in coded):
+        return
     plan = coded[0].plan
     entries = done if plan.version == 3 else coded
     text = [b"RSQ2" if plan.version == 3 else b"RSQ1"]
@@ -78,21 +92,3 @@ def frame_text(frame):
     part = frame.plan.data[frame.plan.head:]
     head = bytes([frame.plan.filter, frame.plan.edge_filter]) + frame.plan.slots + bytes([frame.refresh])
     return head, struct.pack("<I", len(part)), part
-
-
-def decode(folder):
-    """What dav1d's plain code and what libaom make of the bits: dav1d once with frames that aren't shown, once without.  Says
-    whether dav1d's assembly makes the same of them."""
-    bits = os.path.join(folder, "clip.ivf")
-
-    def dav1d(name, mask, invisible="1"):
-        subprocess.run(["dav1d", "--quiet", "-i", bits, "-o", os.path.join(folder, name), "--muxer", "yuv", "--threads", "1",
-                        "--outputinvisible", invisible, "--cpumask", mask], check=True, capture_output=True)
-        return read(folder, name)
-
-    subprocess.run(["aomdec", "--rawvideo", "--threads=1", "-o", os.path.join(folder, "aomdec.yuv"), bits],
-                   check=True, capture_output=True)
-    dav1d("shown.yuv", "0", "0")
-    same = dav1d("assembly.yuv", "-1") == dav1d("dav1d.yuv", "0")
-    os.remove(os.path.join(folder, "assembly.yuv"))
-    return same

@@ -1,7 +1,7 @@
 //! Predicts the chroma that leaves with a side of 4 share, as AV1 has it: where all of them are from references each predicts
 //! the part over its own luma.
 //!
-//! `edits.py` puts this file into a copy of rav1e 0.5.1, whose own code does so for 4x4, 4x8 and 8x4 in 4:2:0 alone.
+//! `edits.py` puts this file into a copy of rav1e, whose own code does so for 4x4, 4x8 and 8x4 in 4:2:0 alone.
 
 use crate::context::{BlockContext, TileBlockOffset};
 use crate::encoder::FrameInvariants;

@@ -25,7 +25,8 @@ copy_apart-requires-clause-apart g c =
 
 pub loop-y-preserved : goal.loop-y-preserved
 loop-y-preserved g c =
-    copied_more c.args.self.now c.loop-y.self _ c.self.inside.plane_cfg.stride c.loop-y.y (subst IsWhole c.self.view_is c.self.invariant) (ap (λ p. p.plane_cfg.stride) c.self.view_is)
+    copied_more c.args.self.now c.loop-y.self _ c.self.inside.plane_cfg.stride c.loop-y.y (subst IsWhole c.self.view_is c.self.invariant)
+    (ap (λ p. p.plane_cfg.stride) c.self.view_is)
     (omega arith) c.args.from c.args.first c.args.end c.requires.from (omega arith) c.loop-y-test.true c.requires.apart c.loop-y.invariant c.copy_apart.ensures
 
 pub returns : goal.returns

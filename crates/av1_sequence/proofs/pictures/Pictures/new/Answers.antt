@@ -7,6 +7,6 @@ pub invariant_of-result : goal.invariant_of-result
 invariant_of-result g c =
     let made = c.in_ok-fi.ensures in
     record {
-      keeps = keeps_none g.T.Pixel.num c.args.header c.in_ok-fi.fi _ c.requires (ap (λ (f : FrameInvariants _). f.bit_depth) made ∙ c.from-3.ensures)
+      keeps = keeps_none g.T.Pixel.num c.args.header c.in_ok-fi.fi _ c.requires (ap (λ (f : FrameInvariants _). f.bit_depth) made ∙ c.from.ensures)
           (ap (λ (f : FrameInvariants _). f.slots) made) refl;
     }

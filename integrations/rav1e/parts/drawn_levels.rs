@@ -1,6 +1,6 @@
 //! Draws the levels of transform blocks, where an encoder's decisions are drawn (`drawing.rs`).
 //!
-//! `edits.py` puts this file into a copy of rav1e 0.5.1.
+//! `edits.py` puts this file into a copy of rav1e.
 
 use crate::drawing::{below, on, one_in, one_of};
 use crate::quantize::{ac_q, dc_q, get_log_tx_scale};

@@ -1,0 +1,245 @@
+#!/usr/bin/env python3
+"""Draws other runs of the programs than those that are stored, with the answers of rav1e's own functions.
+
+    integrations/rav1e/source
+    tools/record_rows/draw_runs.py FILE SEED..
+
+FILE gets rows as docs/ROWS.md says, some 120 for each seed: plans of each version, grids, traces, sequences and plans without their coefficients,
+and each of them broken in one way. `av1_rows < FILE` replays them. Where rav1e departs from AV1 in version 3 (`integrations/rav1e/answer`) there is no row.
+It needs `cargo` and Python 3.
+"""
+import pathlib
+import sys
+
+sys.dont_write_bytecode = True
+import plans
+import record_rows
+import runs
+
+SIZES = ((4, 4), (8, 8), (16, 16), (32, 32), (64, 64), (4, 8), (8, 4), (8, 16), (16, 8), (16, 32), (32, 16), (32, 64), (64, 32), (4, 16), (16, 4), (8, 32),
+         (32, 8), (16, 64), (64, 16))
+SAMPLINGS = ((1, 1), (1, 0), (0, 0))
+FROM_LUMA = 13
+
+
+class Numbers:
+    """Numbers from a seed, by splitmix64."""
+
+    def __init__(self, seed):
+        self.state = seed
+
+    def below(self, n):
+        mask = 2**64 - 1
+        self.state = self.state + 0x9e3779b97f4a7c15 & mask
+        mixed = (self.state ^ self.state >> 30) * 0xbf58476d1ce4e5b9 & mask
+        mixed = (mixed ^ mixed >> 27) * 0x94d049bb133111eb & mask
+        return (mixed ^ mixed >> 31) % n
+
+    def within(self, most):
+        """A number of at most this magnitude."""
+        return self.below(2 * most + 1) - most
+
+    def one_in(self, n):
+        return self.below(n) == 0
+
+    def one_of(self, them):
+        return them[self.below(len(them))]
+
+
+class Frame:
+    """What is drawn of a frame before its leaves; `empty` says that no slot carries planes."""
+
+    def __init__(self, numbers, version, empty=False, most=40):
+        step = 1 if version == 3 else 8
+        self.numbers, self.version = numbers, version
+        self.width, self.height = (step * (1 + numbers.below(most // step)) for _ in range(2))
+        self.depth, self.sampling = numbers.one_of((8, 10, 12)), numbers.below(3)
+        self.filter, self.edge_filter = numbers.below(4), numbers.below(2)
+        self.slots = tuple(numbers.below(3) for _ in range(7))
+        self.mask = 0 if empty else sum(1 << slot for slot in set(self.slots) if numbers.one_in(2))
+        self.halved = SAMPLINGS[self.sampling]
+
+    def head(self, magic):
+        return plans.header(self.width, self.height, self.depth, self.sampling, self.filter, self.edge_filter, self.slots, self.mask, magic)
+
+    def sides(self):
+        """The sides of the planes."""
+        small = tuple(side + dec >> dec for side, dec in zip((self.width, self.height), self.halved))
+        return (self.width, self.height), small, small
+
+    def planes(self):
+        """Planes of slopes and noise."""
+        out = bytearray()
+        for width, height in self.sides():
+            across, down, grain = self.numbers.below(40), self.numbers.below(40), self.numbers.one_of((1, 8, 1 << self.depth))
+            for y in range(height):
+                for x in range(width):
+                    value = (across * x + down * y + self.numbers.below(grain)) % (1 << self.depth)
+                    out += value.to_bytes(1 if self.depth == 8 else 2, "little")
+        return bytes(out)
+
+    def references(self):
+        return b"".join(self.planes() for slot in range(8) if self.mask >> slot & 1)
+
+    def leaves(self, width=None, height=None):
+        """The leaves of the frame, or of a tile of these sides."""
+        return Leaves(self, width or self.width, height or self.height).all()
+
+    def plan(self):
+        magic = b"RPL%d" % self.version
+        return self.head(magic) + self.references() + self.leaves()
+
+    def grid(self):
+        """A grid of tiles over a frame that is made wider or higher, or of one tile."""
+        columns, rows = ((64,) * self.numbers.below(2) for _ in range(2))
+        self.width, self.height = self.width + sum(columns), self.height + sum(rows)
+        ends = (*columns, self.width), (*rows, self.height)
+        spans = [[last - first for first, last in zip((0, *it), it)] for it in ends]
+        parts = [self.leaves(width, height) for height in spans[1] for width in spans[0]]
+        return plans.tiles(parts, self.width, self.height, columns, rows, self.references(), b"RTL%d" % (self.version - 1), depth=self.depth,
+                           sampling=self.sampling, filter=self.filter, edge_filter=self.edge_filter, slots=self.slots, mask=self.mask)
+
+
+class Leaves:
+    """Draws the leaves of a rectangle."""
+
+    def __init__(self, frame, width, height):
+        self.frame, self.numbers = frame, frame.numbers
+        self.width, self.height = ((side + 7) // 8 * 8 for side in (width, height))
+        self.references = [number for number, slot in enumerate(frame.slots, 1) if frame.mask >> slot & 1]
+
+    def all(self):
+        return b"".join(self.node(x, y, 64) for y in range(0, self.height, 64) for x in range(0, self.width, 64))
+
+    def node(self, x, y, side):
+        tall = self.frame.sampling != 1
+        whole = x + side <= self.width and y + side <= self.height
+        quarters = [8, 9][:1 + tall] if self.frame.version > 1 and side > 8 and whole else []
+        mark = self.numbers.one_of([0, 1, 3, 3, *[2] * tall, *quarters])
+        width, height = {0: (side, side), 1: (side, side // 2), 2: (side // 2, side), 3: (side // 2,) * 2, 8: (side, side // 4), 9: (side // 4, side)}[mark]
+        text = bytes([mark])
+        for top in range(y, y + side, height):
+            for left in range(x, x + side, width):
+                if left < self.width and top < self.height:
+                    text += self.node(left, top, width) if mark == 3 and side > 8 else self.leaf(left, top, width, height)
+        return text
+
+    def leaf(self, x, y, width, height):
+        hidden = [dec and side == 4 and first % 8 == 0 for dec, side, first in zip(self.frame.halved, (width, height), (x, y))]
+        carried = not any(hidden)
+        size = self.numbers.one_of([n for n, (w, h) in enumerate(SIZES) if w <= width and h <= height])
+        chroma = tuple(min(max(side >> dec, 4), 32) for side, dec in zip((width, height), self.frame.halved))
+        area = tuple(max(side >> dec, 4) for side, dec in zip((width, height), self.frame.halved))
+        first = tuple((place // 4 >> dec) * 4 for place, dec in zip((x, y), self.frame.halved))
+        coded = tuple(side >> dec for side, dec in zip((self.width, self.height), self.frame.halved))
+        y_triples = self.triples((x, y), (width, height), SIZES[size], (self.width, self.height))
+        u, v = (self.triples(first, area, chroma, coded) if carried else () for _ in range(2))
+        return plans.leaf(tx_size=size, tx_type=self.kind(SIZES[size]), uv_type=self.kind(chroma), y=y_triples, u=u, v=v, carried=carried,
+                          **self.prediction(width, height))
+
+    def prediction(self, width, height):
+        """Modes, steps and weights, or references and vectors."""
+        numbers = self.numbers
+        if self.references and (self.frame.version == 3 or min(width, height) > 4) and not numbers.one_in(3):
+            mode = 14 + numbers.below(20)
+            reach = numbers.one_of((8, 64, 300, 16383))
+            vectors = [(numbers.one_of(self.references), numbers.within(reach), numbers.within(reach)) for _ in range(1 if mode < 20 else 2)]
+            return {"mode": mode, "vectors": vectors}
+        mode, chroma = numbers.below(FROM_LUMA), numbers.below(FROM_LUMA)
+        weights = (numbers.within(16), numbers.within(16)) if max(width, height) <= 32 and numbers.one_in(4) else None
+        return {"mode": mode, "step": self.step(mode), "chroma": (chroma, self.step(chroma)), "weights": weights}
+
+    def step(self, mode):
+        return self.numbers.within(3) if 1 <= mode <= 8 else 0
+
+    def kind(self, size):
+        """A type that this size has."""
+        if max(size) == 64:
+            return 0
+        return self.numbers.one_of((0, 9)) if max(size) == 32 else self.numbers.below(16 + (size == (4, 4)))
+
+    def triples(self, first, area, size, coded):
+        """Coefficients of blocks that begin in what is coded."""
+        across, down = (side // each for side, each in zip(area, size))
+        blocks = [row * across + column for row in range(down) for column in range(across)
+                  if first[0] + column * size[0] < coded[0] and first[1] + row * size[1] < coded[1]]
+        places = min(size[0], 32) * min(size[1], 32)
+        count = self.numbers.one_of((0, 0, 1, 2, 5))
+        at = {(self.numbers.one_of(blocks), self.numbers.below(self.numbers.one_of((1, places)))) for _ in range(count)} if blocks else ()
+        most = self.numbers.one_of((200, (1 << self.frame.depth + 7) - 1))
+        return [(*it, self.numbers.within(most)) for it in sorted(at)]
+
+
+def sequence(numbers, version):
+    """A sequence of up to four frames, of which the first has no references."""
+    first = Frame(numbers, version, empty=True, most=24)
+    filled, entries = 0, []
+    for _ in range(1 + numbers.below(4)):
+        frame = Frame(numbers, version)
+        frame.width, frame.height, frame.depth, frame.sampling, frame.halved = (
+            first.width, first.height, first.depth, first.sampling, first.halved)
+        frame.mask = sum(1 << slot for slot in set(frame.slots)) & filled
+        refresh = numbers.below(256)
+        filled |= refresh
+        entries.append((numbers.below(2), frame, refresh))
+        if version == 3 and numbers.one_in(3):
+            slot = numbers.one_of([slot for slot in range(8) if filled >> slot & 1] or [0])
+            entries.append((plans.AGAIN, slot, 0))
+    text = (b"RSQ2" if version == 3 else b"RSQ1") + first.head(b"RPL1")[4:10] + len(entries).to_bytes(2, "little")
+    for kind, *fields in entries:
+        text += bytes([kind]) if version == 3 else b""
+        if kind == plans.AGAIN and version == 3:
+            text += bytes(fields)
+            continue
+        frame, refresh = fields
+        text += bytes([frame.filter, frame.edge_filter, *frame.slots, refresh]) + plans.part(frame.leaves())
+    return text
+
+
+def trace(numbers, version):
+    """A plan with planes of noise."""
+    frame = Frame(numbers, version)
+    return plans.trace(frame.plan(), frame.planes())
+
+
+def broken(numbers, file):
+    """A file that is cut, longer, or has another byte."""
+    way = numbers.below(6)
+    if way < 2:
+        return file[:numbers.below(len(file))] if way else file + b"\0"
+    return plans.changed(file, (numbers.below(len(file)), numbers.below(256)))
+
+
+def files(numbers):
+    """Kind, words and file of runs."""
+    for version in (1, 2, 3, 3):
+        for _ in range(7):
+            yield runs.PROGRAM, (), Frame(numbers, version).plan()
+        for _ in range(2):
+            yield runs.TOOLS, ("trace",), trace(numbers, version)
+            yield runs.TOOLS, ("bare",), Frame(numbers, version).plan()
+            yield runs.TOOLS, ("sequence",), sequence(numbers, version)
+            if version > 1:
+                yield runs.TOOLS, ("tiles",), Frame(numbers, version, most=32).grid()
+
+
+def main():
+    if len(sys.argv) < 3:
+        sys.exit(__doc__)
+    file, *seeds = sys.argv[1:]
+    rows, missing = runs.Runs(record_rows.wrapper()), 0
+    for seed in map(int, seeds):
+        numbers = Numbers(seed)
+        for kind, words, data in files(numbers):
+            for it in (data, broken(numbers, data)):
+                known = rows.wrapper.run((*(["tools"] if kind == runs.TOOLS else []), *words), it)[0]
+                if known in runs.ANSWERS:
+                    rows.add("drawn", it, words, kind, piece=4096, out=(2**20, 65536, runs.NEVER))
+                else:
+                    missing += 1
+    pathlib.Path(file).write_bytes(record_rows.MAGIC + b"".join(rows.rows))
+    print(f"{len(rows.rows)} rows, and {missing} runs to which rav1e's code has no answer")
+
+
+if __name__ == "__main__":
+    main()
