@@ -1,7 +1,9 @@
 #!/bin/sh
-# Builds libav1_c.a into a folder: the library as `rt lib` proves and builds it, with what it takes memory by, in one archive.
+# Builds libav1_c.a into FOLDER: the library as `rt lib` proves and builds it, together with its allocator.
 #   bindings/archive.sh FOLDER [FLAGS OF RT LIB]
 set -eu
+[ $# -gt 0 ] || { echo "usage: bindings/archive.sh FOLDER [FLAGS OF RT LIB]" >&2; exit 2; }
+command -v rt >/dev/null || { echo "bindings/archive.sh: rt not found; install the Rattle toolchain (README) or use a release" >&2; exit 1; }
 mkdir -p "$1"
 folder=$(cd "$1" && pwd)
 shift

@@ -1,6 +1,6 @@
 #!/bin/sh
-# Builds the library for C and Rust into bindings/out, and tries it from both. It prints what ran, and ends in 'N passed, M failed'.
-# It needs rt, gcc, clang, valgrind, cargo, Python. `rt lib` proves the library first, so a first run takes as long as that.
+# Builds the library for C and Rust into bindings/out, and tests it from both languages. It prints each test, and ends in 'N passed, M failed'.
+# It needs rt, gcc with g++, clang, valgrind, cargo and Python. `rt lib` first proves the library, which takes half an hour or more, once.
 cd "$(dirname "$0")" || exit 1
 here=$PWD
 work=$(mktemp -d)
@@ -10,7 +10,7 @@ planes=$here/../crates/av1_vectors/stdout
 passed=0
 failed=0
 
-# try NAME COMMAND..: one try, whose output is shown where it fails
+# try NAME COMMAND..: runs one test, and shows its output if it fails
 try() {
     name=$1
     shift
@@ -25,14 +25,14 @@ try() {
     fi
 }
 
-# numbers PATTERN FILE..: the names of statuses and kinds, each with its number
+# numbers PATTERN FILE..: the names of statuses and kinds, each with its number, sorted
 numbers() {
     pattern=$1
     shift
     sed -n "s/$pattern/\1 \2/p" "$@" | sort
 }
 
-# same_numbers: Rattle, C and Rust give each status the same number
+# same_numbers: each status has the same number in Rattle, C and Rust
 same_numbers() {
     constant='^pub const \([A-Z_]*\): u32 = \([0-9]*\);.*'
     numbers "$constant" ../crates/av1_calls/src/status.rt ../crates/av1_c/src/status.rt >"$work/rattle"
@@ -41,7 +41,7 @@ same_numbers() {
     test -s "$work/rattle" && cmp "$work/rattle" "$work/c" && cmp "$work/rattle" "$work/rust"
 }
 
-# reconstructs WRAPPER FOLDER COMPILER..: the example writes the worked plan's planes
+# reconstructs WRAPPER FOLDER COMPILER..: the example writes the planes of the example plan
 reconstructs() {
     wrapper=$1
     folder=$2
@@ -50,7 +50,7 @@ reconstructs() {
         $wrapper "$work/example" "$plan" >"$work/planes" && cmp "$work/planes" "$planes"
 }
 
-# runs WRAPPER FILE FOLDER COMPILER..: a program of calls ends well
+# runs WRAPPER FILE FOLDER COMPILER..: a test program succeeds
 runs() {
     wrapper=$1
     file=$2
@@ -59,17 +59,17 @@ runs() {
     "$@" -Wall -Wextra -Werror -Ic "c/$file" "$folder/libav1_c.a" -o "$work/program" && $wrapper "$work/program" "$plan" "$planes"
 }
 
-# asserted COMPILER..: the header declares what the archive has
+# asserted COMPILER..: the header declares what the archive contains
 asserted() {
     "$@" -pedantic -Wall -Wextra -Werror -fsyntax-only -Ic c/declared.c
 }
 
-# refused_elsewhere TARGET: the header says on another target that there is no archive for it
+# refused_elsewhere TARGET: on another target the header stops with its error message
 refused_elsewhere() {
     ! clang --target="$1" -fsyntax-only -x c c/av1_c.h 2>"$work/said" && grep 'error: "the archive behind this header' "$work/said"
 }
 
-# shared FOLDER: the archive as a shared library, which shows the calls alone
+# shared FOLDER: the archive as a shared library, which exports only the calls
 shared() {
     ./shared.sh "$1/libav1_c.a" "$work" &&
         gcc -Wall -Wextra -Werror -Ic c/calls.c -L"$work" -lav1_c -Wl,-rpath,"$work" -o "$work/program" && "$work/program" "$plan" "$planes" &&
@@ -77,7 +77,7 @@ shared() {
         nm -D --defined-only "$work/libav1_c.so" | sed 's/.* //' | sort >"$work/shown" && cmp "$work/calls" "$work/shown"
 }
 
-# as_the_program NUMBER: of the plan of a number the example writes what the program of the repository writes
+# as_the_program NUMBER: for the plan made from NUMBER, the example and av1_vectors write the same
 as_the_program() {
     (cd ../crates/av1_vectors && rt run -- make "$1" >"$work/made" && rt run <"$work/made" >"$work/expected") &&
         gcc -O2 -Ic c/reconstruct_plan.c out/libav1_c.a -o "$work/example" &&
@@ -90,7 +90,7 @@ memcheck="valgrind -q --error-exitcode=1 --leak-check=full --show-leak-kinds=all
 try "the library, by LLVM" ./archive.sh out
 try "the library, by Rattle's own compiler" ./archive.sh out/rattle --backend rattle
 try "the same numbers in Rattle, C and Rust" same_numbers
-try "the assertions on header and crate are those of the archive" ./declared.py --check
+try "header and crate are asserted to declare what the archive contains" ./declared.py --check
 try "the header, as C99" gcc -std=c99 -pedantic -Wall -Wextra -Werror -fsyntax-only c/av1_c.h
 try "the header, as C++" g++ -x c++ -pedantic -Wall -Wextra -Werror -fsyntax-only c/av1_c.h
 try "the header, asserted in C by gcc" asserted gcc -std=c11
@@ -99,7 +99,7 @@ try "the header, asserted in C++" asserted g++ -std=c++11 -x c++
 try "the header, for ARM" refused_elsewhere aarch64-linux-gnu
 try "the header, for 32 bits" refused_elsewhere i686-linux-gnu
 try "the header, for Windows" refused_elsewhere x86_64-windows-gnu
-try "the stack that calls take" ./stack.py --check out/libav1_c.a
+try "the stack bounds in the header" ./stack.py --check out/libav1_c.a
 for folder in out out/rattle; do
     for compiler in "gcc -O2" "gcc -O2 -fPIE -pie" "gcc -O2 -static" "gcc -O2 -flto" "clang -O2" "clang -g -fsanitize=address,undefined" "gcc -g -fsanitize=address,undefined"; do
         try "$folder: $compiler reconstruct_plan.c" reconstructs "" $folder $compiler

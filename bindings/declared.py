@@ -1,13 +1,13 @@
 #!/usr/bin/env python3
-"""Asserts that the header and the Rust crate declare what the archive has.
+"""Asserts that the header and the Rust crate declare what the archive contains.
 
     bindings/declared.py [--check]
 
-What the archive has is read from the crates `av1_c` and `av1_calls`: the size of each struct that crosses to C, the type
-and the place of each of its fields, the number of each constant, the parameters of each call and its answer. It is put
-down as assertions about `c/av1_c.h` in `c/declared.c`, and about the Rust crate in `rust/src/declared.rs`, which compile
-only where they hold. `c/av1_c.map` names the calls for the linker. With --check nothing is written, and the status is 1
-where a file isn't what would be written.
+It reads the crates `av1_c` and `av1_calls`: the size of each struct that crosses to C, the type and the offset of each
+field, the number of each constant, and the parameters and the result of each call. From these it writes assertions about
+`c/av1_c.h` into `c/declared.c`, and about the Rust crate into `rust/src/declared.rs`, which compile only if they hold.
+`c/av1_c.map` lists the calls for the linker. With --check it writes nothing, and the status is 1 if a file differs from
+what it would write.
 """
 import pathlib
 import re
@@ -230,7 +230,7 @@ def main():
         if "--check" not in sys.argv[1:]:
             path.write_text(text, "utf8")
         elif path.read_text("utf8") != text:
-            print("%s isn't what bindings/declared.py writes" % path.relative_to(HERE.parent))
+            print("%s is out of date: run bindings/declared.py" % path.relative_to(HERE.parent))
             faults += 1
     print("%d structs, %d constants, %d calls" % (len(declared.structs), len(declared.constants), len(declared.calls)))
     return 1 if faults else 0

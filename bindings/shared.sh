@@ -1,9 +1,11 @@
 #!/bin/sh
-# Makes the shared library of an archive in a folder, with the links that programs and linkers look for. It shows the calls and no other name.
+# Makes the shared library of ARCHIVE in FOLDER, with the links that programs and linkers look for. It exports only the calls.
 #   bindings/shared.sh ARCHIVE FOLDER
 set -eu
+[ $# -eq 2 ] || { echo "usage: bindings/shared.sh ARCHIVE FOLDER" >&2; exit 2; }
+[ -f "$1" ] || { echo "bindings/shared.sh: $1 not found; bindings/build.sh builds the archive" >&2; exit 1; }
 c=$(cd "$(dirname "$0")/c" && pwd)
-# number PART: of the version
+# number PART: that part of the version
 number() {
     sed -n "s/^#define AV1_C_VERSION_$1 //p" "$c/av1_c.h"
 }

@@ -1,17 +1,17 @@
 #!/usr/bin/env python3
-"""Works out how much of the stack each call of an archive takes at most, from its code.
+"""Computes a bound on the stack that each call of an archive takes, from the archive's code.
 
     bindings/stack.py [--check] ARCHIVE
 
-The archive is linked into a shared library and read as `objdump` tells it. Of each function the depth of the stack is
-followed over all its ways, from its entry on; a call adds its return address and all that the called function takes. So
-the sum is a bound, whatever the arguments are. It has the 128 bytes below the stack's end that a function may use, and
-has not what functions of the C library take (they are named). It stops at what it can't follow: a call of itself, but for
-those in NESTED, a call by a pointer, a frame of no fixed length.
+The archive is linked into a shared library and disassembled by `objdump`. In each function, the depth of the stack is
+followed along all paths from its entry. A call adds its return address and all that the called function takes. So the
+sum is a bound for all arguments. It includes the 128 bytes below the stack pointer that a function may use, and excludes
+what functions of the C library take (the output lists them). It fails if it cannot follow the code: at recursion (except
+the functions in NESTED), at a call by a pointer, and at a frame without a fixed length.
 
-`c/stack.c` makes each call with many arguments and sees how deep it goes, which must be no deeper than that. Prints for each
-call the bytes that were worked out, and those that were seen. With --check what was worked out must be at most what the
-comment on the stack in `c/av1_c.h` says. The status is 1 where either isn't so. It needs gcc and binutils.
+`c/stack.c` makes each call with many arguments and measures how deep it goes, which must not exceed the bound. The output
+has for each call the bound and the measured depth, in bytes. With --check the bound must not exceed what the comment on
+the stack in `c/av1_c.h` says. The status is 1 if a check fails. It needs gcc and binutils.
 """
 import pathlib
 import re
@@ -230,12 +230,12 @@ def main():
     stack = Stack(functions_of(words[0]))
     taken = {name: passed[name] + WORD + stack.of(name) + RED_ZONE for name in passed}
     said = stated() if "--check" in sys.argv[1:] else taken
-    faults = {name: "more than the header says" for name in taken if taken[name] > said.get(name, 0)}
-    faults.update({name: "deeper than was worked out" for name in taken if went[name] > taken[name]})
-    print("worked out, seen, in bytes")
+    faults = {name: "more than the header says: correct the table in bindings/c/av1_c.h" for name in taken if taken[name] > said.get(name, 0)}
+    faults.update({name: "measured deeper than the bound" for name in taken if went[name] > taken[name]})
+    print("bound and measured depth, in bytes")
     for name in sorted(taken):
         print("%8d %8d  %s%s" % (taken[name], went[name], name, "  " + faults[name] if name in faults else ""))
-    print("beside them what these take: %s" % ", ".join(sorted(stack.outside)))
+    print("not included, functions of the C library: %s" % ", ".join(sorted(stack.outside)))
     return 1 if faults or set(said) != set(taken) else 0
 
 

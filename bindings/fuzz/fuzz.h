@@ -111,7 +111,7 @@ static uint8_t *slot(size_t index) {
     return slots[index];
 }
 
-/* A buffer of at most half a slot, of which nothing is told yet. */
+/* A buffer of at most half a slot, which no call has been given yet. */
 static numbers lay(size_t count, size_t width) {
     static uint8_t copies[SLOTS][SLOT];
     if (count > SLOT / 2 / width) count = SLOT / 2 / width;
@@ -213,7 +213,7 @@ static void UNUSED only_inside(numbers made, area a, uint32_t most) {
     }
 }
 
-/* The rectangle of one buffer is that of another. */
+/* The rectangle of one buffer equals the rectangle of another. */
 static void UNUSED same_inside(numbers one, area a, numbers other, area b) {
     for (size_t y = 0; y < a.height; y++)
         for (size_t x = 0; x < a.width; x++)

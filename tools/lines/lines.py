@@ -1,7 +1,7 @@
 #!/usr/bin/env python3
 """lines.py [--check] [FOLDER..]: breaks long lines of .antt files, of clauses, imports and comments where their outermost
 parts end: none over 120 characters in specs/ and in comments of .rt files, none over 160 elsewhere. With --check it only
-names the lines that are too long, and fails where there are any. Without a folder it takes crates/."""
+names the lines that are too long, and fails if there are any. The default folder is crates/."""
 import os
 import re
 import sys

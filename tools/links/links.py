@@ -1,11 +1,11 @@
 #!/usr/bin/env python3
-"""Checks that every link of every page leads somewhere: to a file, a heading, or a line.
+"""Checks that every link on every page leads to a file, a heading or a line that exists.
 
     links.py [--number]
 
-Where a link's text is a name in backticks and it leads into code, its line must define that name; with --number such
-lines are found and written anew. docs/TRUSTED.md is written by tools/trusted and only looked at. Links to other hosts
-aren't followed, and what stands in a fenced block is no link."""
+If the text of a link is a name in backticks and the link leads into code, its line must define that name. With --number
+the script finds these lines and corrects the numbers. It checks docs/TRUSTED.md, which tools/trusted writes, but never
+changes it. It doesn't follow links to other hosts, and ignores fenced blocks."""
 import os
 import re
 import subprocess

@@ -155,12 +155,12 @@ def arguments():
     given = parser.parse_args()
     packages = {"dav1d": "dav1d", "aomdec": "aom-tools"}
     if not shutil.which(given.program):
-        sys.exit(f"{given.program} is not a program: `rt run` in crates/av1_vectors builds out/av1_vectors")
+        sys.exit(f"lossless.py: {given.program} is not a program; `rt run` in crates/av1_vectors builds out/av1_vectors")
     lacking = [package for name, package in packages.items() if not shutil.which(name)]
     if not (given.rav1e / "src/token_cdfs.rs").is_file():
         lacking.append("librust-rav1e-dev")
     if lacking:
-        sys.exit(f"missing: apt-get install --no-install-recommends {' '.join(lacking)}")
+        sys.exit(f"lossless.py: decoders are missing; run: apt-get install --no-install-recommends {' '.join(lacking)}")
     return given
 
 

@@ -1,17 +1,16 @@
 #!/usr/bin/env python3
-"""Counts what recorded clips take here and in dav1d.
+"""Counts the instructions that recorded clips take here and in dav1d.
 
 usage: measure.py [--tools PATH] [--tools-v3 PATH] [--time ROUNDS] FOLDER..
 
-FOLDER is a folder of `integrations/rav1e/record`: its sequence goes through `av1_tools sequence`, its bits through dav1d in
-one thread: in plain C, by its assembler for processors up to SSE4.1, which is what this project is built for, and by that with
-AVX2. TOOLS is the built av1_tools: by default $AV1_TOOLS, else what `rt run` leaves in crates/av1_tools/out. With --tools-v3 a
-second one stands beside it, built by `rt run --cpu x86-64-v3`, whose registers are those of AVX2: it is what is compared with
-AVX2 then. Instructions of whole runs are counted by callgrind; with --time stand medians of so many rounds beside them, in
-milliseconds, the programs in turn.
+FOLDER comes from `integrations/rav1e/record`. Its sequence goes through `av1_tools sequence`, its bitstream through dav1d in one
+thread: as plain C, with assembly up to SSE4.1 (this project is also built for that), and with AVX2. --tools is the built
+av1_tools (default: $AV1_TOOLS, else crates/av1_tools/out/av1_tools). --tools-v3 is a second one, built by
+`rt run --cpu x86-64-v3`; then it is compared with AVX2. callgrind counts the instructions of whole runs. With --time each line
+also has milliseconds: the median of ROUNDS rounds, in which the programs run in turn.
 
-dav1d reads bits that are entropy coded, which this project does not, and this project reads coefficients that are written in
-plain bytes. Needs dav1d and valgrind: apt-get install dav1d valgrind.
+The work is not the same: dav1d reads entropy coded bits, and this project reads coefficients in plain bytes. It needs dav1d
+and valgrind: apt-get install dav1d valgrind.
 """
 import argparse
 import os
@@ -82,11 +81,11 @@ def main():
     options = parser.parse_args()
     missing = [name for name in ("dav1d", "valgrind") if not shutil.which(name)]
     if missing:
-        sys.exit(f"missing: {' '.join(missing)} (apt-get install {' '.join(missing)})")
+        sys.exit(f"measure.py: {' and '.join(missing)} not found; run: apt-get install {' '.join(missing)}")
     built = {"here": options.tools} | ({"here, v3": options.tools_v3} if options.tools_v3 else {})
     for path in built.values():
         if not os.access(path, os.X_OK):
-            sys.exit(f"missing: {path}, which `rt run` in crates/av1_tools builds")
+            sys.exit(f"measure.py: {path} not found; `rt run` in crates/av1_tools builds it")
     compared = pairs(built)
     titles = ["clip", *built, *MASKS, *(f"{here} / {there}" for here, there in compared)]
     print(f"| {' | '.join(titles)} |\n|{'---|' * len(titles)}")

@@ -1,5 +1,5 @@
 #!/usr/bin/env python3
-"""Counts the instructions of this project's transforms and motion beside those of rav1e's own plain Rust.
+"""Compares the instructions of this project's transforms and motion with those of rav1e's own plain Rust.
 
     tools/measure_beside_rav1e/measure.py RAV1E WORK transforms [--depth D] [--sparse] [--time] [SIZE..]
     tools/measure_beside_rav1e/measure.py RAV1E WORK networks [--time] [LENGTH..]
@@ -8,21 +8,20 @@
     tools/measure_beside_rav1e/measure.py RAV1E WORK average [--depth D] [SIDE..]
     tools/measure_beside_rav1e/measure.py RAV1E WORK archive [--depth D] [--folder FOLDER] [SIDE..]
 
-RAV1E is the source of rav1e 0.8.1 (the folder that has src/), WORK a folder for what is built: delete it to build anew. It needs `rt`,
-`rustc`, `valgrind` and this repository with its proofs kept (`rt all check`). A size is written as 8x16, a side as 64; without any, all
-are measured. Filters: 0 regular, 1 smooth, 2 sharp. Each line has the call, the instructions of one call here and in rav1e, and the
-ratio of both. A call is counted as the difference of five runs and one. Both programs are built for the level x86-64-v2, and what they
-write is compared: a line that differs stops the run.
+RAV1E is the source of rav1e 0.8.1 (the folder that has src/). WORK is a folder for build products: delete it to build again. It needs
+`rt`, `rustc`, `valgrind` and the proofs that `rt all check` leaves. Write SIZE as 8x16 and SIDE (a width or height) as 64; the default is
+all. Filters: 0 regular, 1 smooth, 2 sharp. Each line has the call, the instructions of one call here and in rav1e, and the ratio of the
+two. A call is counted as a quarter of the difference between five calls and one. Both programs are built for x86-64-v2. If their output
+differs, the script stops.
 
-`networks` are the cosine transforms by themselves: a call is two of one column at a range of 16 bits, or two of eight columns at a range of 18,
-which go in lanes of 32 bits, or of 16, which go in lanes of 16 from 8 rows on, beside rav1e's two of each column.
+`networks` measures the cosine transforms only. A call is two of one column at a range of 16 bits, or two of eight columns: at a range of
+18 in lanes of 32 bits, or at a range of 16 in lanes of 16 bits from 8 rows on. In rav1e it is two of each column.
 
-With `--time` each line has the nanoseconds of one call in place of the instructions: of five pairs of runs, one after the other, the pair whose
-ratio is in the middle, by the processor time of each process. That wants a machine on which nothing else runs.
+With `--time`, each line has the nanoseconds of one call instead of the instructions: processor time, from the pair with the median ratio
+among five pairs of runs. Run it on an idle machine.
 
-`archive` does the same with each call on a block that the library for C has beside the call of this project that it makes in turn, which is
-made here with the same arguments from a loop, by `bare_calls.txt`. It takes the archive from `bindings/out` or from FOLDER, and reads nothing
-of RAV1E.
+`archive` compares each call on a block of the library for C with the call inside that it makes, made here in a loop with the same
+arguments (`bare_calls.txt`). It takes the archive from `bindings/out` or from FOLDER, and does not read RAV1E.
 """
 import argparse
 import concurrent.futures
@@ -76,7 +75,7 @@ def build_library(work, name, source, uses):
         return
     crate, listed = REPOSITORY / "crates" / name, REPOSITORY / "crates.txt"
     if crate.exists():
-        sys.exit(f"{crate} is there already")
+        sys.exit(f"{crate} exists, left by a run that was cut off: delete it and its line in crates.txt")
     before = listed.read_text()
     try:
         for folder in ("src", "specs", "proofs"):
@@ -132,7 +131,7 @@ def compare(program, sides, words):
         counts.append((often - once) / 4)
         digests.append(digest)
     if digests[0] != digests[1]:
-        sys.exit(f"{words}: the samples differ")
+        sys.exit(f"measure.py: {words}: the samples here and in rav1e differ, so there is nothing to measure")
     return counts
 
 
@@ -141,7 +140,7 @@ def seconds(program, words):
     process = subprocess.Popen([str(program), *map(str, words)], stdout=subprocess.DEVNULL)
     _, status, usage = os.wait4(process.pid, 0)
     if status != 0:
-        sys.exit(f"{words}: status {status}")
+        sys.exit(f"measure.py: {words}: the run ended with status {status}")
     return usage.ru_utime
 
 

@@ -1,12 +1,12 @@
 #!/usr/bin/env python3
-"""Counts the instructions of whole runs, from the bytes of a plan to its planes, beside rav1e's own functions.
+"""Counts the instructions of whole runs, from a plan to its planes, here and with rav1e's own functions.
 
     integrations/rav1e/source
     tools/measure_beside_rav1e/plans.py PROGRAM PLAN..
 
-PROGRAM is the built av1_vectors; beside it runs `integrations/rav1e/answer`, which reads the same plan and calls rav1e 0.8.1's functions. It is
-built for the level x86-64-v2. Each line has the plan, the instructions of a run here and there, and the ratio of both; what they write is
-compared, and a plan whose planes differ stops the run. It needs `valgrind`, and `cargo` for the first run.
+PROGRAM is the built av1_vectors. It is compared with `integrations/rav1e/answer`, which reads the same plan and calls rav1e 0.8.1's
+functions, built for x86-64-v2. Each line has the plan, the instructions of a run here, those in rav1e, and the ratio of the two. If the
+planes differ, the script stops. It needs `valgrind`, and `cargo` for the first run.
 """
 import pathlib
 import re
@@ -21,7 +21,7 @@ def count(program, plan):
     with open(plan, "rb") as file:
         run = subprocess.run(["valgrind", "--tool=callgrind", "--callgrind-out-file=/dev/null", program], stdin=file, capture_output=True)
     if run.returncode:
-        sys.exit(f"{program} < {plan}: status {run.returncode}")
+        sys.exit(f"plans.py: `{program} < {plan}` ended with status {run.returncode}: run it alone to see why")
     return int(re.search(rb"refs: *([0-9,]+)", run.stderr).group(1).replace(b",", b"")), run.stdout
 
 
@@ -34,7 +34,7 @@ def main():
     for plan in plans:
         (here, planes), (there, others) = count(program, plan), count(wrapper, plan)
         if planes != others:
-            sys.exit(f"{plan}: the planes differ")
+            sys.exit(f"plans.py: {plan}: the planes of PROGRAM and of rav1e differ, so there is nothing to measure")
         print(f"{plan} {here:,} {there:,} {here / there:.2f}", flush=True)
 
 

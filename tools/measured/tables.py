@@ -3,8 +3,8 @@
 
     tables.py [--check]
 
-Between the lines `<!-- NAME.tsv -->` and `<!-- end -->` of the page is the table of NAME.tsv, whose first line has the heads of
-its columns. After measuring, put the new figures there and run this. --check fails if the page has other tables.
+On the page, the table of NAME.tsv is between the lines `<!-- NAME.tsv -->` and `<!-- end -->`. The first line of NAME.tsv has the
+headings of its columns. After measuring, put the new figures there and run this. --check fails if the page is out of date.
 """
 import os
 import re

@@ -3,11 +3,11 @@
 
     tools/record_calls/record.py RAV1E WORK
 
-RAV1E is the source of rav1e 0.8.1 (the folder that has src/), WORK a folder for what is built. It needs `rustc`. It writes
-`bindings/rust/tests/recorded_calls/answers.txt`: a digest of 32 bits for each call, in hexadecimal, 12 a line, in the order of their
-numbers. What the calls are `calls.rs` and `calls/` beside it say, which the tests and this recorder share; so the file is to be recorded
-anew where those change. rav1e's files are taken as they are, but for what only builds with the rest of its crate; overflow wraps, as in its
-release. `WORK/recorder NUMBER` prints one call and its whole answer.
+RAV1E is the source of rav1e 0.8.1 (the folder that has src/), WORK a folder for build products. It needs `rustc`. It writes
+`bindings/rust/tests/recorded_calls/answers.txt`: a digest of 32 bits for each call, in hexadecimal, 12 on a line, ordered by call number.
+`calls.rs` and `calls/` next to that file define the calls, for the tests and for this recorder: record again after changing them. rav1e's
+files are used as they are, except for what needs the rest of its crate to build; overflow wraps, as in its release build.
+`WORK/recorder NUMBER` prints one call and its whole result.
 """
 import pathlib
 import re
@@ -49,7 +49,7 @@ def changed(file, text):
     for pattern, new in CHANGES.get(file, []):
         text, count = re.subn(pattern, new, text, flags=re.M | re.S)
         if count != 1:
-            sys.exit(f"{file}: {pattern!r} is there {count} times")
+            sys.exit(f"record.py: {file} has {pattern!r} {count} times, not once: RAV1E must be the source of rav1e 0.8.1")
     return text
 
 
@@ -68,7 +68,7 @@ def build(rav1e, work, recorder=HERE / "recorder.rs", more=()):
 
 def main():
     if len(sys.argv) != 3:
-        sys.exit("usage: record.py RAV1E WORK")
+        sys.exit(__doc__)
     rav1e, work = map(pathlib.Path, sys.argv[1:])
     build(rav1e, work)
     answers = subprocess.run([str(work / "recorder")], capture_output=True, text=True, check=True).stdout

@@ -1,16 +1,18 @@
 #!/usr/bin/env python3
-"""Records rows: calls on blocks and runs of the programs, each with what rav1e's own code answers.
+"""Records rows: calls on blocks and runs of the programs, each with what rav1e's own code returns.
 
     integrations/rav1e/source
     tools/record_rows/record_rows.py WORK FILE [FRAMES..]
 
-WORK is a folder for what is built. FILE is `crates/av1_rows/stdin`, or another file of rows (README.md here): it is written anew, the same bytes each
-time, and what `av1_rows` prints of it goes to `stdout` beside it. Inputs of runs that were drawn at random, and rows of coded clips, are those that FILE
-has. FRAMES are files that `integrations/rav1e/corpus` and `tools/lossless_beside_decoders` wrote: with them the rows of coded frames are theirs.
+WORK is a folder for build products. FILE is `crates/av1_rows/stdin`, or another file of rows (README.md here). The script writes FILE again, with
+the same bytes each time, and what `av1_rows` prints for it to `stdout` in the same folder. It keeps the random inputs of runs and the rows of coded
+clips that FILE has. FRAMES are files from `integrations/rav1e/corpus` and `tools/lossless_beside_decoders`: the rows of coded frames are then theirs.
 
-It needs `cargo`, `rustc` and Python 3, and takes a few minutes. No answer comes from this project: of calls on blocks they are those of rav1e's functions
-(`recorder.rs`), of refused ones the status that docs/LIBRARY.md gives the argument that is tested first; of runs they are those of
-`integrations/rav1e/answer`, cut by the rules of sources and sinks (`runs.py`) if a read or a write fails; of coded frames they are a decoder's.
+It needs `cargo`, `rustc` and Python 3, and takes a few minutes. No result comes from this project:
+
+- of calls on blocks, results are those of rav1e's functions (`recorder.rs`), and of rejected calls the status that docs/LIBRARY.md gives;
+- of runs, they are those of `integrations/rav1e/answer`, cut by the rules of sources and sinks (`runs.py`) if a read or a write fails;
+- of coded frames, they are a decoder's.
 """
 import collections
 import pathlib
@@ -83,7 +85,7 @@ def rows_in(file):
     """The rows of a file."""
     data = file.read_bytes()
     if not data.startswith(MAGIC):
-        sys.exit(f"{file} has no rows")
+        sys.exit(f"record_rows.py: {file} is not a file of rows: it must begin with {MAGIC!r}")
     return data[len(MAGIC):]
 
 
@@ -91,7 +93,7 @@ def main():
     if len(sys.argv) < 3:
         sys.exit(__doc__)
     if not RAV1E.is_dir():
-        sys.exit(f"missing: {RAV1E}, which {INTEGRATION / 'source'} unpacks")
+        sys.exit(f"record_rows.py: {RAV1E} not found; run {INTEGRATION / 'source'} first")
     work, file, *frames = map(pathlib.Path, sys.argv[1:])
     work.mkdir(parents=True, exist_ok=True)
     stored = list(each(rows_in(file)))

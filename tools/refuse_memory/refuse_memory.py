@@ -1,17 +1,17 @@
 #!/usr/bin/env python3
-"""Refuses each allocation of a program in turn, and looks whether it then ends as it should.
+"""Makes each allocation of a program fail in turn, and checks that the program then ends as it should.
 
     tools/refuse_memory/refuse_memory.py [--calls] PROGRAM
 
-PROGRAM is the program as it is built, `crates/av1_vectors/out/av1_vectors`. It is run on the worked plan, on a plan with references, and
-with the words `sum 5` and `make 5`. Each of its allocations is refused once by itself, and once together with all that follow, by a small
-library that is loaded before the C library's (`refuse.c`, which needs `cc` and glibc). An answer passes where it is the whole right one,
-or status 3 with `out of memory` and no output. Where memory is refused before the words of the command line are taken it is status 6 and
-nothing is written. With `--calls` each public call that takes memory is made by itself, too, on both plans where it takes one (`calls.txt`,
-a library that stands in the repository only while it is built; it needs `rt` and kept proofs, as `rt all check` leaves them).
+PROGRAM is the built program, `crates/av1_vectors/out/av1_vectors`. It runs on the example plan, on a plan with references, and with the
+arguments `sum 5` and `make 5`. Each of its allocations fails once on its own, and once together with all that follow, by a small library
+that is loaded before the C library's (`refuse.c`, which needs `cc` and glibc). A run passes if its output is complete and right, or if it
+ends with status 3, `out of memory` and no output. If the allocation fails before the arguments are read, it must end with status 6 and no
+output. With `--calls`, each public call that allocates is also tested, on both plans if it takes a plan. This builds `calls.txt` as a
+library that is in the repository only for that time; it needs `rt` and the proofs that `rt all check` leaves.
 
-Tells for each case how many allocations there are and what came of them, and ends with 'N passed, M failed'; the status is 1 where M
-is not 0.
+It prints for each case how many allocations there are and how the runs ended, and ends with 'N passed, M failed'. The status is 1 if M is
+not 0.
 """
 import collections
 import itertools
@@ -58,7 +58,7 @@ def build_calls(folder):
     """A program that makes the calls one by one."""
     crate, listed = REPOSITORY / "crates" / LIBRARY, REPOSITORY / "crates.txt"
     if crate.exists():
-        sys.exit(f"{crate} is there already")
+        sys.exit(f"{crate} exists, left by a run that was cut off: delete it and its line in crates.txt")
     before = listed.read_text()
     try:
         for part in ("src", "specs", "proofs"):
@@ -118,7 +118,7 @@ def sweep(program, library, case, behind):
 
 def main():
     if len(sys.argv) < 2 or sys.argv[1:-1] not in ([], ["--calls"]):
-        sys.exit("usage: refuse_memory.py [--calls] PROGRAM")
+        sys.exit(__doc__)
     program = os.path.abspath(sys.argv[-1])
     with tempfile.TemporaryDirectory() as folder:
         library = f"{folder}/refuse.so"

@@ -1,12 +1,12 @@
 #!/usr/bin/env python3
-"""Prints what a theorem is made of: the definitions that it cites, and those that these cite, each once, the lowest first.
+"""Prints the definitions that a theorem uses, directly or through others, each once, lowest first.
 
     trusted.py [--root ROOT].. [--check | --count]
 
-ROOT is CRATE.NAME, CRATE.FILE.NAME, or CRATE for all that the contracts of a crate cite; without one it is `Reconstructs` of `av1_recon`,
-and what is printed is docs/TRUSTED.md. --check fails where the two differ, where the page's last definition doesn't reach another one
-there, where a word has no definition and isn't told of at the head of the page, and where a definition is cited before it stands. --count tells how many definitions, lines and
-files there are by crate.
+ROOT is CRATE.NAME, CRATE.FILE.NAME, or CRATE for everything that the contracts of a crate cite. The default is `Reconstructs` of
+`av1_recon`: the output is then docs/TRUSTED.md. --check fails if that page is out of date, if its last definition does not reach one
+of the others, if a word has no definition and the head of the page does not explain it, or if a definition is used before it is
+printed. --count prints how many definitions, lines and files there are by crate.
 
 `definitions.py` reads the definitions, `chapters.py` has the chapters and what each begins with, `reached.py` looks at the page alone."""
 import argparse

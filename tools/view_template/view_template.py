@@ -2,11 +2,11 @@
 """Writes the constant parts of the page of `av1_view` as Rattle constants, from the page's own files.
 
     tools/view_template/view_template.py            writes crates/av1_view/src/template.rt, and the stored run of the program
-    tools/view_template/view_template.py --check    says whether these are what the files come to
+    tools/view_template/view_template.py --check    fails if these are out of date
 
-The files are view.html, view.css and those of the script, by subject, in crates/av1_view/data. In view.html @STYLE@ stands for view.css,
-@SCRIPT@ for the files of the script, one behind the other, and @PLAN@, @PLANES@, @PREDICTIONS@ and @GIVEN@ for bytes in base64. The parts are all
-that stands between those four, and the script by itself.
+The files are view.html, view.css and the .js files in crates/av1_view/data. In view.html, @STYLE@ stands for view.css, @SCRIPT@ for the .js
+files one after the other, and @PLAN@, @PLANES@, @PREDICTIONS@ and @GIVEN@ for bytes in base64. The constants are the text between these four,
+and the script.
 """
 import base64
 import os
@@ -40,10 +40,10 @@ def parts():
     """The texts of the parts, in their order."""
     style, script = read("view.css"), "\n".join(read(name + ".js") for name in SCRIPT)
     if "</" in script or "<!--" in script:
-        sys.exit("the script has a text that ends or hides a script element")
+        sys.exit("view_template.py: a .js file contains `</` or `<!--`, which would end the script element: write it differently")
     pieces = re.split("@PLAN@|@PLANES@|@PREDICTIONS@|@GIVEN@|@SCRIPT@", read("view.html").replace("@STYLE@", style))
     if len(pieces) != 6:
-        sys.exit("view.html lacks one of its places")
+        sys.exit("view_template.py: view.html must have each of @STYLE@, @SCRIPT@, @PLAN@, @PLANES@, @PREDICTIONS@ and @GIVEN@ once")
     return pieces[:5] + [script, pieces[5]]
 
 
@@ -97,7 +97,7 @@ def main():
         for name, data in written.items():
             with open(os.path.join(CRATE, name), "rb") as file:
                 other += [] if file.read() == data else [name]
-        print("the same" if not other else "not what data/ comes to: " + ", ".join(other))
+        print("up to date" if not other else "out of date, run tools/view_template/view_template.py: " + ", ".join(other))
         sys.exit(1 if other else 0)
     for name, data in written.items():
         with open(os.path.join(CRATE, name), "wb") as file:

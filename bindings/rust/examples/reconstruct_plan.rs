@@ -1,4 +1,4 @@
-//! Reads a plan from the file that is named, and writes its planes to standard output.
+//! Reads the plan in FILE, and writes its planes to standard output.
 
 use std::error::Error;
 use std::io::Write;

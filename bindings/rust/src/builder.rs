@@ -3,16 +3,16 @@
 use crate::sys;
 use std::fmt;
 
-/// The frame that a plan is for, and what holds for all its leaves.
+/// The frame of a plan, and what holds for all its leaves.
 #[repr(C)]
 #[derive(Clone, Copy, Debug, Default, PartialEq, Eq)]
 pub struct Header {
-    /// Columns of luma samples that are shown, from 1 to 2048: up to version 2 a multiple of 8.
+    /// Visible columns of luma: 1 to 2048; up to version 2 a multiple of 8.
     pub width: u16,
-    /// Rows of luma samples that are shown, from 1 to 2048: up to version 2 a multiple of 8.
+    /// Visible rows of luma: 1 to 2048; up to version 2 a multiple of 8.
     pub height: u16,
-    /// 1, or 2, in which a node may be cut into four leaves that are a quarter as wide or as high, or 3, in which the
-    /// frame has any sides besides.
+    /// 1, 2 or 3. Version 2 adds nodes cut into four strips (marks 8 and 9), version 3 any width and
+    /// height (`docs/PLAN_FORMAT.md`).
     pub version: u8,
     /// Bits of a sample: 8, 10 or 12.
     pub depth: u8,
@@ -20,11 +20,11 @@ pub struct Header {
     pub sampling: u8,
     /// The interpolation filter of motion compensation: 0 to 3.
     pub filter: u8,
-    /// Whether intra edges are filtered: not 0.
+    /// 0: intra edges are not filtered.
     pub edge_filter: u8,
-    /// The slots that carry planes: bit s is slot s.
+    /// The slots that carry planes: bit s stands for slot s.
     pub mask: u8,
-    /// For each reference from LAST to ALTREF the slot that it names, from 0 to 7.
+    /// The slot, 0 to 7, of each reference from LAST to ALTREF.
     pub slots: [u8; 7],
 }
 
@@ -34,7 +34,7 @@ pub struct Header {
 pub struct Coefficient {
     /// Its value.
     pub value: i32,
-    /// The place in the block's list of coefficients.
+    /// Its place in the block's list of coefficients.
     pub place: u16,
     /// The transform block, numbered in raster order over the leaf's rectangle in the plane.
     pub block: u8,
@@ -52,23 +52,24 @@ pub struct Motion {
     pub reference: u8,
 }
 
-/// The fields of a leaf but its coefficients, by the numbers that they have in a plan. What a leaf doesn't have is left at 0.
+/// The fields of a leaf except its coefficients, by their numbers in a plan. Leave what a leaf does
+/// not have at 0.
 #[repr(C)]
 #[derive(Clone, Copy, Debug, Default, PartialEq, Eq)]
 pub struct Leaf {
-    /// The reference of a leaf that has one or two.
+    /// The reference, or the first of two.
     pub first: Motion,
-    /// The other one of a leaf that has two.
+    /// The second of two references.
     pub second: Motion,
     /// 0 to 13 without references, 14 to 19 with one, 20 to 33 with two.
     pub mode: u8,
-    /// Without references the steps of 3 degrees on the mode's angle.
+    /// Without references: steps of 3 degrees on the mode's angle.
     pub step: i8,
-    /// Whether the leaf carries chroma: not 0.
+    /// 0: the leaf carries no chroma.
     pub chroma: u8,
-    /// Without references, where chroma is carried: 0 to 12, or 13 for chroma from luma.
+    /// Without references, if chroma is carried: 0 to 12, or 13 for chroma from luma.
     pub chroma_mode: u8,
-    /// The steps of 3 degrees on that mode's angle.
+    /// Steps of 3 degrees on that mode's angle.
     pub chroma_step: i8,
     /// The weight of chroma from luma for U, in eighths.
     pub alpha_u: i8,
@@ -78,38 +79,38 @@ pub struct Leaf {
     pub tx_size: u8,
     /// The type of the luma transforms.
     pub tx_type: u8,
-    /// The type of the chroma transforms, where chroma is carried.
+    /// The type of the chroma transforms, if chroma is carried.
     pub uv_type: u8,
 }
 
-/// Why a call of a builder did nothing. The builder and its buffer are then as they were.
+/// Why a call of a builder failed. The builder and its buffer are then unchanged.
 #[derive(Clone, Copy, Debug, PartialEq, Eq)]
 #[non_exhaustive]
 pub enum BuildError {
-    /// A plan asks for another kind of field next.
+    /// The plan expects another kind of field next.
     NotNow,
-    /// An argument has a value that isn't admitted here.
+    /// An argument has a value that is not valid here.
     NotAdmitted,
-    /// The bytes would be more than 2^26.
+    /// The plan would have more than 2^26 bytes.
     TooLong,
-    /// The bytes would not fit the buffer.
+    /// The plan would not fit in the buffer.
     RoomTooSmall,
 }
 
 impl fmt::Display for BuildError {
     fn fmt(&self, f: &mut fmt::Formatter<'_>) -> fmt::Result {
         f.write_str(match self {
-            BuildError::NotNow => "not now",
-            BuildError::NotAdmitted => "not admitted",
+            BuildError::NotNow => "the plan expects another kind of field next",
+            BuildError::NotAdmitted => "an argument has a value that is not valid here",
             BuildError::TooLong => "too long",
-            BuildError::RoomTooSmall => "room too small",
+            BuildError::RoomTooSmall => "buffer too small",
         })
     }
 }
 
 impl std::error::Error for BuildError {}
 
-// What a status says: the library answers no other.
+// What a status means. The library returns no other statuses.
 fn answer(status: u32) -> Result<(), BuildError> {
     match status {
         sys::DONE => Ok(()),
@@ -122,39 +123,43 @@ fn answer(status: u32) -> Result<(), BuildError> {
     }
 }
 
-/// A plan in the making, whose bytes stand at the front of a buffer.
+/// Writes a plan field by field to the front of a buffer.
 ///
-/// [`PlanBuilder::new`] gives the header. Then come the planes of each slot that the mask names, rising ([`PlanBuilder::reference`]), and then,
-/// superblock by superblock, the mark of each node before its parts ([`PlanBuilder::mark`]) and each leaf ([`PlanBuilder::leaf`]). Parts that
-/// begin outside the frame are left out. [`PlanBuilder::finish`] gives the bytes. No call takes memory.
+/// 1. [`PlanBuilder::new`] gives the header.
+/// 2. [`PlanBuilder::reference`] gives the planes of each slot that the mask names, in rising order.
+/// 3. For each superblock, [`PlanBuilder::mark`] gives the mark of each node before its parts, and
+///    [`PlanBuilder::leaf`] each leaf. Parts that begin outside the frame are left out.
+/// 4. [`PlanBuilder::finish`] returns the bytes.
+///
+/// No call allocates.
 pub struct PlanBuilder<'a> {
     builder: sys::Builder,
     room: &'a mut [u8],
 }
 
 impl<'a> PlanBuilder<'a> {
-    /// A builder of a plan with this header, whose 20 bytes stand first.
+    /// Begins a plan with this header: its first 20 bytes.
     ///
     /// # Errors
     ///
     /// `NotAdmitted`, then `RoomTooSmall`.
     pub fn new(header: &Header, room: &'a mut [u8]) -> Result<Self, BuildError> {
         let mut builder = sys::Builder::default();
-        // SAFETY: pointer and length are those of one slice that is lent to nobody else, and the builder is a local.
+        // SAFETY: pointer and length come from one mutably borrowed slice; the builder is a local.
         let status =
             unsafe { sys::av1_builder_begin(header, &mut builder, room.as_mut_ptr(), room.len()) };
         answer(status)?;
         Ok(PlanBuilder { builder, room })
     }
 
-    /// Gives the planes of the next slot of the mask, each row by row.
+    /// Gives the planes of the next slot in the mask, each row by row.
     ///
     /// # Errors
     ///
-    /// `NotNow` where no planes are asked for. `NotAdmitted` where a plane has another number of samples, or one of them isn't below
-    /// `1 << depth`. Then `TooLong`, then `RoomTooSmall`.
+    /// `NotNow` if the plan does not expect planes. `NotAdmitted` if a plane has the wrong number of
+    /// samples, or a sample is not below `1 << depth`. Then `TooLong`, then `RoomTooSmall`.
     pub fn reference(&mut self, y: &[u16], u: &[u16], v: &[u16]) -> Result<(), BuildError> {
-        // SAFETY: pointers and lengths are those of slices that are lent for the call, of which the buffer is lent to nobody else.
+        // SAFETY: pointers and lengths come from borrowed slices, the buffer borrowed mutably.
         answer(unsafe {
             sys::av1_builder_reference(
                 &mut self.builder,
@@ -174,9 +179,10 @@ impl<'a> PlanBuilder<'a> {
     ///
     /// # Errors
     ///
-    /// `NotNow` where no mark is asked for. `NotAdmitted` where the node can't have this mark. Then `TooLong`, then `RoomTooSmall`.
+    /// `NotNow` if the plan does not expect a mark. `NotAdmitted` if the node cannot have this mark.
+    /// Then `TooLong`, then `RoomTooSmall`.
     pub fn mark(&mut self, mark: u8) -> Result<(), BuildError> {
-        // SAFETY: pointer and length are those of one slice that is lent to nobody else.
+        // SAFETY: pointer and length come from one mutably borrowed slice.
         answer(unsafe {
             sys::av1_builder_mark(
                 &mut self.builder,
@@ -187,13 +193,19 @@ impl<'a> PlanBuilder<'a> {
         })
     }
 
-    /// Gives the next leaf, with its coefficients in Y, U and V. Its size and its place come from the marks.
+    /// Gives the next leaf, with its coefficients in Y, U and V. Its size and its position follow from
+    /// the marks.
     ///
     /// # Errors
     ///
-    /// `NotNow` where no leaf is asked for. `NotAdmitted` where a number names nothing or isn't admitted here, where chroma is given though the leaf
-    /// carries none, or is missing though it does, where there are coefficients of chroma that it doesn't carry, and where there are more than
-    /// 65,535 of a plane. Then `TooLong`, then `RoomTooSmall`.
+    /// `NotNow` if the plan does not expect a leaf. `NotAdmitted` for one of these reasons:
+    ///
+    /// - a number is not valid here;
+    /// - `chroma` is set though the leaf carries none, or is 0 though it carries chroma;
+    /// - there are coefficients of chroma that the leaf does not carry;
+    /// - a plane has more than 65,535 coefficients.
+    ///
+    /// Then `TooLong`, then `RoomTooSmall`.
     pub fn leaf(
         &mut self,
         leaf: &Leaf,
@@ -201,7 +213,7 @@ impl<'a> PlanBuilder<'a> {
         u: &[Coefficient],
         v: &[Coefficient],
     ) -> Result<(), BuildError> {
-        // SAFETY: pointers and lengths are those of slices that are lent for the call, of which the buffer is lent to nobody else.
+        // SAFETY: pointers and lengths come from borrowed slices, the buffer borrowed mutably.
         answer(unsafe {
             sys::av1_builder_leaf(
                 &mut self.builder,
@@ -222,10 +234,10 @@ impl<'a> PlanBuilder<'a> {
     ///
     /// # Errors
     ///
-    /// `NotNow` where a field is still asked for.
+    /// `NotNow` if a field is still missing.
     pub fn finish(&self) -> Result<&[u8], BuildError> {
         let mut len = 0;
-        // SAFETY: pointer and length are those of one slice, and the value that is written is a local.
+        // SAFETY: pointer and length come from one slice; the call writes only a local.
         let status = unsafe {
             sys::av1_builder_finish(&self.builder, self.room.as_ptr(), self.room.len(), &mut len)
         };

@@ -1,4 +1,4 @@
-//! Intra prediction of a block in memory of the caller.
+//! Intra prediction of a block in the caller's memory.
 
 use crate::{Error, Place, sys, told};
 
@@ -6,7 +6,8 @@ use crate::{Error, Place, sys, told};
 #[repr(C)]
 #[derive(Clone, Copy, Debug, PartialEq, Eq)]
 pub struct IntraBlock {
-    /// The number of its mode, from 0 (`DC_PRED`) to 12 (`PAETH_PRED`). Prediction from luma doesn't read it.
+    /// The number of its mode, from 0 (`DC_PRED`) to 12 (`PAETH_PRED`). Prediction from luma does
+    /// not read it.
     pub mode: u8,
     /// The number of its size among those of transforms, from 0 (`TX_4X4`) to 18 (`TX_64X16`).
     pub tx_size: u8,
@@ -14,26 +15,29 @@ pub struct IntraBlock {
     pub angle_step: i8,
     /// The depth of its samples, in bits: 8, 10 or 12.
     pub bit_depth: u8,
-    /// Whether its left side lies in its tile: 0 where it doesn't.
+    /// 0: the left edge lies outside the block's tile.
     pub has_left: u8,
-    /// Whether the side above lies in its tile: 0 where it doesn't.
+    /// 0: the edge above lies outside the block's tile.
     pub has_above: u8,
-    /// Whether the edge filter is on: 0 where it is off.
+    /// 0: the edge filter is off.
     pub edge_filter: u8,
-    /// Whether a neighbour has a smooth mode: 0 where none has. It is not read where the filter is off.
+    /// 0: no neighbour has a smooth mode. It is not read if the filter is off.
     pub smooth_neighbour: u8,
-    /// How many visible columns of the plane there are from its first on. The filter smooths no place beside it past those.
+    /// How many visible columns the plane has from the block's first one on. The filter smooths
+    /// none past them.
     pub visible_columns: usize,
-    /// How many visible rows of the plane there are from its first on.
+    /// How many visible rows the plane has from the block's first one on.
     pub visible_rows: usize,
 }
 
 macro_rules! intra_calls {
     ($sample:ident, $intra:ident, $predict_intra:ident, $cfl:ident, $predict_cfl:ident) => {
-        /// Predicts the samples of a block by its intra mode, from the sides round it. All other samples stay.
+        /// Predicts a block by its intra mode from the edges around it. All other samples are
+        /// unchanged.
         ///
-        /// `left` runs from the bottom up, and its last sample stands beside the first row; `above` runs from the left, and `corner` stands
-        /// between them. Of each side the places nearest to the corner are read. Samples past the depth are taken as they are.
+        /// `left` runs from the bottom up: its last sample is next to the first row. `above` runs
+        /// from left to right, and `corner` is between the two. The call reads the samples of each
+        /// edge that are nearest to the corner. Samples past the depth are used as they are.
         ///
         /// # Errors
         ///
@@ -46,7 +50,7 @@ macro_rules! intra_calls {
             corner: $sample,
             above: &[$sample],
         ) -> Result<(), Error> {
-            // SAFETY: pointers and lengths are those of slices that are lent for the call, of which `samples` is lent to nobody else.
+            // SAFETY: pointers and lengths come from borrowed slices, `samples` borrowed mutably.
             let status = unsafe {
                 sys::$intra(
                     samples.as_mut_ptr(),
@@ -65,8 +69,10 @@ macro_rules! intra_calls {
             told(status)
         }
 
-        /// Predicts the samples of a block of chroma from luma: each becomes the DC prediction by the sides that lie in the tile, and what
-        /// its difference in `ac`, which holds those of luma from its mean row by row, adds to it at the weight `alpha`; both are in eighths.
+        /// Predicts a block of chroma from luma. To the DC prediction from the edges inside the
+        /// tile, it adds for each sample `alpha` times the difference in `ac`, and clips to the
+        /// depth. `ac` has the differences of luma from its mean, row by row; `ac` and `alpha` are
+        /// in eighths.
         ///
         /// # Errors
         ///
@@ -80,7 +86,7 @@ macro_rules! intra_calls {
             ac: &[i16],
             alpha: i16,
         ) -> Result<(), Error> {
-            // SAFETY: pointers and lengths are those of slices that are lent for the call, of which `samples` is lent to nobody else.
+            // SAFETY: pointers and lengths come from borrowed slices, `samples` borrowed mutably.
             let status = unsafe {
                 sys::$cfl(
                     samples.as_mut_ptr(),

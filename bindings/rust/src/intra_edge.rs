@@ -1,4 +1,5 @@
-//! The edge of a transform, from which an intra mode predicts it, prepared in memory of the caller.
+//! The edge of a transform block, from which an intra mode predicts it, prepared in the caller's
+//! memory.
 
 use crate::tile::Window;
 use crate::{
@@ -6,17 +7,17 @@ use crate::{
     predict_intra_8, predict_intra_16, sys, told,
 };
 
-/// How many samples the room of an edge has: 128 to the left, the corner, and 128 above.
+/// How many samples a prepared edge has: 128 to the left, the corner, and 128 above.
 pub const EDGE_SAMPLES: usize = 257;
 
-/// The number that names no mode: all parts of an edge are then prepared.
+/// The number that stands for every mode: the whole edge is prepared.
 pub const ANY_MODE: u8 = 255;
 
-/// A plane in memory of the caller, and a tile of it.
+/// A plane in the caller's memory, and a tile of it.
 #[repr(C)]
 #[derive(Clone, Copy, Debug, PartialEq, Eq)]
 pub struct EdgePlane {
-    /// How far the rows of its samples stand apart.
+    /// How many samples apart its rows are.
     pub stride: usize,
     /// The column of its first visible sample.
     pub x: usize,
@@ -34,13 +35,13 @@ pub struct EdgePlane {
     pub tile_width: usize,
     /// How many rows of the plane the tile has.
     pub tile_height: usize,
-    /// Whether it has half of luma's columns: 0 where it has as many.
+    /// 0: it has as many columns as luma; else half of them.
     pub halved_columns: u8,
-    /// Whether it has half of luma's rows: 0 where it has as many.
+    /// 0: it has as many rows as luma; else half of them.
     pub halved_rows: u8,
 }
 
-/// A transform whose edge is prepared.
+/// A transform block whose edge is to be prepared.
 #[repr(C)]
 #[derive(Clone, Copy, Debug, PartialEq, Eq)]
 pub struct EdgeBlock {
@@ -60,33 +61,36 @@ pub struct EdgeBlock {
     pub block_size: u8,
     /// The number of its own size among those of transforms, from 0 (`TX_4X4`) to 18 (`TX_64X16`).
     pub tx_size: u8,
-    /// The number of the mode that is to predict it, from 0 (`DC_PRED`) to 13 (`UV_CFL_PRED`), or [`ANY_MODE`].
+    /// The number of the mode that will predict it, from 0 (`DC_PRED`) to 13 (`UV_CFL_PRED`), or
+    /// [`ANY_MODE`].
     pub mode: u8,
     /// How many steps of 3 degrees a directional mode turns, from -3 to 3; 0 in other modes. It is not read with [`ANY_MODE`].
     pub angle_step: i8,
     /// The depth of its samples, in bits: 8, 10 or 12.
     pub bit_depth: u8,
-    /// Whether the edge filter is on: 0 where it is off.
+    /// 0: the edge filter is off.
     pub edge_filter: u8,
 }
 
 macro_rules! edge_calls {
     ($sample:ident, $call:ident, $intra_edge:ident) => {
-        /// Prepares the edge of a transform for the mode that is to predict it. `samples` are those of the plane.
+        /// Prepares the edge of a transform block for the mode that will predict it. `samples` are
+        /// those of the plane.
         ///
-        /// The left side stands in the first 128 samples of `edge`, from the bottom up, and ends there; sample 128 is the corner, and the side
-        /// above begins behind it. What stands behind the first 257 samples stays.
+        /// The first 128 samples of `edge` become the left edge, from the bottom up; sample 128 is
+        /// the corner; the edge above follows it. What follows the first 257 samples is unchanged.
         ///
         /// # Errors
         ///
-        /// `RoomTooSmall`, then `BadMode`, then `BadSize`, then `BadAngle`, then `BadDepth`, then `BadArea`. The edge is then as it was.
+        /// `RoomTooSmall`, then `BadMode`, then `BadSize`, then `BadAngle`, then `BadDepth`, then
+        /// `BadArea`. The edge is then unchanged.
         pub fn $intra_edge(
             edge: &mut [$sample],
             samples: &[$sample],
             plane: &EdgePlane,
             block: &EdgeBlock,
         ) -> Result<(), Error> {
-            // SAFETY: pointers and lengths are those of slices that are lent for the call, of which `edge` is lent to nobody else.
+            // SAFETY: pointers and lengths come from borrowed slices, `edge` borrowed mutably.
             let status = unsafe {
                 sys::$call(
                     edge.as_mut_ptr(),
@@ -105,8 +109,8 @@ macro_rules! edge_calls {
 edge_calls!(u8, av1_intra_edge_8, intra_edge_8);
 edge_calls!(u16, av1_intra_edge_16, intra_edge_16);
 
-/// The edge of a transform, from which modes predict it: its samples, which no caller has to fill, and what is known of its sides. It is made once and
-/// used again.
+/// The edge of a transform block, to try several modes from it: its samples, which the caller does
+/// not fill, and what is known about its two sides. Make one once and use it again.
 ///
 /// ```
 /// use av1_c::{ANY_MODE, EdgeBlock, EdgePlane, IntraEdge, Place};
@@ -125,12 +129,12 @@ edge_calls!(u16, av1_intra_edge_16, intra_edge_16);
 #[derive(Clone, Debug)]
 pub struct IntraEdge<T> {
     samples: [T; EDGE_SAMPLES],
-    // The transform as a block that is predicted, by the mode that the edge is prepared for.
+    // The transform block as one that the edge's mode predicts.
     prepared: Option<IntraBlock>,
 }
 
 impl<T: Copy + Default> IntraEdge<T> {
-    /// An edge that isn't prepared yet.
+    /// An edge that is not prepared yet.
     pub fn new() -> IntraEdge<T> {
         IntraEdge {
             samples: [T::default(); EDGE_SAMPLES],
@@ -146,7 +150,8 @@ impl<T: Copy + Default> Default for IntraEdge<T> {
 }
 
 impl<T: Copy> IntraEdge<T> {
-    // What is known of a transform whose edge could be prepared: its tile lies in the plane, and it begins in the tile.
+    // What is known of a transform whose edge was prepared: its tile lies in the plane, and it
+    // begins in the tile.
     fn know(&mut self, plane: &EdgePlane, block: &EdgeBlock) {
         self.prepared = Some(IntraBlock {
             mode: block.mode,
@@ -162,7 +167,7 @@ impl<T: Copy> IntraEdge<T> {
         });
     }
 
-    // The block to be predicted by a mode: one that the edge is prepared for.
+    // The block to predict by a mode, which must be one that the edge is prepared for.
     fn block_of(&self, mode: u8, angle_step: i8) -> Result<IntraBlock, Error> {
         let known = self.prepared.ok_or(Error::TooShort)?;
         if known.mode == ANY_MODE {
@@ -179,17 +184,17 @@ impl<T: Copy> IntraEdge<T> {
         }
     }
 
-    /// The side to the left, from the bottom up: 128 samples, of which the last ones are prepared.
+    /// The left edge, from the bottom up: 128 samples, of which the last ones are prepared.
     pub fn left(&self) -> &[T] {
         &self.samples[..EDGE_SAMPLES / 2]
     }
 
-    /// The sample between both sides.
+    /// The sample between the two edges.
     pub fn corner(&self) -> T {
         self.samples[EDGE_SAMPLES / 2]
     }
 
-    /// The side above: 128 samples, of which the first ones are prepared.
+    /// The edge above: 128 samples, of which the first ones are prepared.
     pub fn above(&self) -> &[T] {
         &self.samples[EDGE_SAMPLES / 2 + 1..]
     }
@@ -198,12 +203,14 @@ impl<T: Copy> IntraEdge<T> {
 macro_rules! edges_of {
     ($sample:ident, $intra_edge:ident, $predict_intra:ident, $predict_cfl:ident) => {
         impl IntraEdge<$sample> {
-            /// Prepares the edge of a transform for the mode of `block`, or for all modes by [`ANY_MODE`], whose corner no filter smooths then.
-            /// `samples` are those of the plane.
+            /// Prepares the edge of a transform block for the mode of `block`. [`ANY_MODE`]
+            /// prepares it for all modes; the corner is then not filtered. `samples` are those of
+            /// the plane.
             ///
             /// # Errors
             ///
-            /// `BadMode`, then `BadSize`, then `BadAngle`, then `BadDepth`, then `BadArea`. The edge is then as it was.
+            /// `BadMode`, then `BadSize`, then `BadAngle`, then `BadDepth`, then `BadArea`. The
+            /// edge is then unchanged.
             pub fn prepare(
                 &mut self,
                 samples: &[$sample],
@@ -215,12 +222,13 @@ macro_rules! edges_of {
                 Ok(())
             }
 
-            /// The same in a tile that is a region: it begins with the first sample of the tile, and has all of the tile and of the transform. Where
-            /// the samples of `plane` stand (`stride`, `x`, `y`) is not read.
+            /// [`prepare`](Self::prepare) in a tile that is a region, whose first sample is the
+            /// tile's. The region must have all columns and rows of the tile and of the transform.
+            /// The `stride`, `x` and `y` of `plane` are not read.
             ///
             /// # Errors
             ///
-            /// `BadArea`, or as [`prepare`](Self::prepare). The edge is then as it was.
+            /// `BadArea`, then those of [`prepare`](Self::prepare). The edge is then unchanged.
             pub fn prepare_in_tile(
                 &mut self,
                 tile: &Region<'_, $sample>,
@@ -235,12 +243,13 @@ macro_rules! edges_of {
                 Ok(())
             }
 
-            /// Predicts the transform from its edge by a mode, at `place` of `samples`. All other samples stay.
+            /// Predicts the transform block from its edge by a mode, at `place` of `samples`. All
+            /// other samples are unchanged.
             ///
             /// # Errors
             ///
-            /// `TooShort`: no edge is prepared. `BadMode`, `BadAngle`: it is prepared for another mode or angle. Else as the call that
-            /// predicts a block.
+            /// `TooShort`: the edge is not prepared. `BadMode`, `BadAngle`: it is prepared for
+            /// another mode or angle. Then the errors of the call that predicts a block.
             pub fn predict(
                 &self,
                 samples: &mut [$sample],
@@ -263,13 +272,14 @@ macro_rules! edges_of {
                 )
             }
 
-            /// Predicts the transform, one of chroma, from its edge and from luma: by the differences `ac` of luma from its mean, row by row, and
-            /// their weight `alpha`, both in eighths. All other samples stay.
+            /// Predicts the transform block, one of chroma, from its edge and from luma, by the
+            /// differences `ac` of luma from its mean, row by row, and their weight `alpha`. Both
+            /// are in eighths. All other samples are unchanged.
             ///
             /// # Errors
             ///
-            /// `TooShort`: no edge is prepared. `BadMode`: it is prepared for a mode, and not for [`FROM_LUMA`]. Else as the call that predicts
-            /// a block of chroma.
+            /// `TooShort`: the edge is not prepared. `BadMode`: it is prepared for a mode other
+            /// than [`FROM_LUMA`]. Then the errors of the call that predicts a block of chroma.
             pub fn predict_cfl(
                 &self,
                 samples: &mut [$sample],

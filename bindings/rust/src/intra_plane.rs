@@ -1,4 +1,4 @@
-//! A transform that is predicted in the samples of its plane, in memory of the caller.
+//! Prediction of a transform block in the samples of its plane, in the caller's memory.
 
 use crate::{EdgeBlock, EdgePlane, Error, sys, told};
 
@@ -7,15 +7,18 @@ pub const FROM_LUMA: u8 = 13;
 
 macro_rules! plane_calls {
     ($sample:ident, $call:ident, $predict_in_plane:ident) => {
-        /// Predicts a transform by its mode in the samples of its plane: prepares its edge, and predicts it from this. All other samples stay.
-        /// That a side lies in the tile, and how much of the plane is visible beside the transform, follows from `plane` and from its place.
+        /// Predicts a transform block in the samples of its plane: prepares its edge, then predicts
+        /// from it. All other samples are unchanged. The position and `plane` say whether an edge
+        /// lies in the tile, and how many samples are visible.
         ///
-        /// By [`FROM_LUMA`] the differences `ac` of luma from its mean, row by row, and their weight `alpha` are read, both in eighths; other
-        /// modes read neither. Samples past the depth are taken as they are.
+        /// [`FROM_LUMA`] reads the differences `ac` of luma from its mean, row by row, and their
+        /// weight `alpha`, both in eighths; other modes read neither. Samples past the depth are
+        /// used as they are.
         ///
         /// # Errors
         ///
-        /// `BadMode`, `BadSize`, `BadAngle`, `BadDepth`, `BadArea` or `TooShort` (`ac`). The samples are then as they were.
+        /// `BadMode`, `BadSize`, `BadAngle`, `BadDepth`, `BadArea` or `TooShort` (`ac`). The
+        /// samples are then unchanged.
         pub fn $predict_in_plane(
             samples: &mut [$sample],
             plane: &EdgePlane,
@@ -24,7 +27,7 @@ macro_rules! plane_calls {
             ac: &[i16],
             alpha: i16,
         ) -> Result<(), Error> {
-            // SAFETY: pointers and lengths are those of slices that are lent for the call, of which `samples` is lent to nobody else.
+            // SAFETY: pointers and lengths come from borrowed slices, `samples` borrowed mutably.
             let status = unsafe {
                 sys::$call(
                     samples.as_mut_ptr(),

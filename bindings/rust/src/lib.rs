@@ -1,25 +1,35 @@
-//! AV1 block reconstruction by the library `libav1_c.a`, whose calls are proved. `docs/LIBRARY.md` of the repository says what is proved of
-//! them, and how the archive is built.
+//! AV1 block reconstruction by the library `libav1_c.a`, whose calls are proved. `docs/LIBRARY.md`
+//! of the repository says how to build the archive, and `docs/PROVED.md` what is proved of its
+//! calls.
 //!
-//! [`inverse_transform_add_8`] and [`inverse_transform_add_16`] add the residue of a block to samples of the caller, and so does
-//! [`inverse_transform_add_clamped_16`], which cuts coefficients that are too large; [`inverse_transform_add_rav1e_16`] does it as rav1e, where
-//! that differs from AV1. [`put_8tap_8`] and
-//! [`put_8tap_16`] predict a block from one reference; [`prep_8tap_8`], [`prep_8tap_16`], [`mc_avg_8`] and [`mc_avg_16`] prepare blocks of two, and
-//! average them. [`motion_place`] tells where a vector leads, and [`put_moved_8`], [`prep_moved_8`] and their like for 16 bits follow it in a plane
-//! without pads. A reference of 16 bits that is [`Tested`] once is not looked at again by [`put_tested_16`] and [`prep_tested_16`].
-//! [`predict_intra_8`], [`predict_cfl_8`] and their like for samples of 16 bits predict a block in samples of the caller, and [`intra_edge_8`] and
-//! [`intra_edge_16`] prepare the sides from which they do; [`predict_in_plane_8`] and [`predict_in_plane_16`] do both. An [`IntraEdge`] keeps the
-//! sides, from which several modes are then tried. [`cfl_ac_8`] and [`cfl_ac_16`]
-//! give the differences of luma from its mean, by which chroma is predicted. [`angle_step`], [`smooth_neighbour`] and [`cfl_block_of`] work out
-//! numbers that these ask for. A [`RegionMut`] is a rectangle of a plane that is split into disjoint ones, so that threads call on tiles of one plane:
-//! any call on a block by way of a [`BlockRoom`], and [`predict_in_tile_8`] and [`predict_in_tile_16`], which read an edge.
-//! A [`PlanBuilder`] writes a plan field by field to a buffer of the caller.
-//! [`reconstruct_tiles`] and [`reconstruct_sequence`] write the planes of a grid of tiles and of a sequence of frames to a buffer of the caller, and
-//! [`trace_differences`] lists where planes of another encoder are not those of their plan.
-//! [`planes_len`] tells how many bytes the planes of a plan have, and [`reconstruct_plan`] writes them likewise:
+//! The calls write to memory of the caller:
+//!
+//! - Whole plans: [`reconstruct_plan`], whose buffer has the length that [`planes_len`] computes;
+//!   [`reconstruct_tiles`] for a grid of tiles; [`reconstruct_sequence`] for a sequence of frames.
+//!   [`trace_differences`] lists where planes of another encoder differ from those that their plan
+//!   defines.
+//! - Plans field by field: a [`PlanBuilder`].
+//! - The residual of a block: [`inverse_transform_add_8`] and [`inverse_transform_add_16`].
+//!   [`inverse_transform_add_clamped_16`] clamps coefficients that are too large.
+//!   [`inverse_transform_add_rav1e_16`] follows rav1e if it differs from AV1.
+//! - Motion: [`put_8tap_8`] predicts a block from one reference. [`prep_8tap_8`] prepares each
+//!   block of two references, and [`mc_avg_8`] averages them. [`motion_place`] computes where a
+//!   vector points. [`put_moved_8`] and [`prep_moved_8`] follow a vector in a plane without
+//!   padding. A reference of 16 bits is checked once by [`Tested`]; [`put_tested_16`] and
+//!   [`prep_tested_16`] then read it without another check.
+//! - Intra modes: [`predict_intra_8`] and [`predict_cfl_8`] predict a block from edges that you
+//!   pass. [`intra_edge_8`] prepares the edges from a plane. [`predict_in_plane_8`] does both. An
+//!   [`IntraEdge`] keeps the edges, to try several modes from them. [`cfl_ac_8`] computes the
+//!   differences of luma from its mean that predict chroma.
+//! - Numbers that these calls take: [`angle_step`], [`smooth_neighbour`] and [`cfl_block_of`].
+//! - Tiles of one plane by threads: a [`RegionMut`] is a rectangle of a plane, which you split into
+//!   disjoint ones. Any call on a block works on it through a [`BlockRoom`]; [`predict_in_tile_8`]
+//!   also reads an edge.
+//!
+//! A call in `_8` is for samples of 8 bits. Each has a form in `_16` for samples of 16 bits.
 //!
 //! ```
-//! // A frame of 8x8 in 4:4:4 at depth 8, of which one block covers all: samples of the middle.
+//! // A frame of 8x8 in 4:4:4 at depth 8: one block, whose samples are the middle of their range.
 //! let mut plan = b"RPL1\x08\0\x08\0\x08\x02".to_vec();
 //! plan.resize(34, 0);
 //! let mut planes = vec![0; av1_c::planes_len(&plan)?];
@@ -87,87 +97,89 @@ pub use transform::{
 };
 pub use version::{VERSION, version};
 
-/// Why a call did nothing. What it was to write is then as it was.
+/// Why a call failed. What it should have written is then unchanged.
 #[derive(Clone, Copy, Debug, PartialEq, Eq)]
 #[non_exhaustive]
 pub enum Error {
-    /// Memory ran out.
+    /// An allocation failed.
     OutOfMemory,
-    /// The buffer that was to be written is too short.
+    /// The buffer to write is too short.
     RoomTooSmall,
-    /// There are more bytes than the longest plan has: 2^26.
+    /// The input is longer than any plan (2^26 bytes) or any trace (2^27).
     TooLong,
-    /// The field that begins at byte `at` is cut, has a value that is not admitted, or is left over after the end.
+    /// The input is not a well-formed plan. Its first bad field is truncated, not valid, or left
+    /// over after the end.
     Malformed {
-        /// The byte at which it begins.
+        /// The offset of the field in bytes.
         at: u32,
     },
-    /// A leaf is refused.
+    /// A leaf is rejected.
     Invalid {
-        /// The first that is, counted from 0 in coding order.
+        /// The first leaf that is rejected, counted from 0 in coding order.
         leaf: u32,
         /// Why.
         kind: InvalidKind,
     },
-    /// Part number `part`, counted from 0, comes to a plan of more than 2^26 bytes.
+    /// The plan of a part would have more than 2^26 bytes.
     TooLongPart {
-        /// The first part that is refused.
+        /// The first part that is rejected, counted from 0.
         part: u32,
     },
-    /// The field of a part that begins at its byte `at` is cut, has a value that is not admitted, or is left over after its end.
+    /// A part is not a well-formed plan, or not a well-formed list of leaves. Its first bad field is
+    /// truncated, not valid, or left over after the end of the part.
     MalformedPart {
-        /// The first part that is refused, counted from 0.
+        /// The first part that is rejected, counted from 0.
         part: u32,
-        /// The byte at which the field begins.
+        /// The offset of the field within the part, in bytes.
         at: u32,
     },
-    /// A leaf of a part is refused.
+    /// A leaf of a part is rejected.
     InvalidPart {
-        /// The first part that is refused, counted from 0.
+        /// The first part that is rejected, counted from 0.
         part: u32,
-        /// Its first leaf that is, counted from 0 in coding order.
+        /// Its first leaf that is rejected, counted from 0 in coding order.
         leaf: u32,
         /// Why.
         kind: InvalidKind,
     },
-    /// A part of a sequence shows the frame of a slot again, and the slot is empty.
+    /// A part of a sequence shows again the frame of a slot that is empty.
     EmptySlot {
-        /// The first part that is refused, counted from 0.
+        /// The first part that is rejected, counted from 0.
         part: u32,
     },
-    /// No size has this number, or no block has such a side.
+    /// A size number that does not exist, or a width or height that no block has.
     BadSize,
-    /// No type has this number, or the size has no such type.
+    /// A type number that does not exist, or that the size does not allow.
     BadType,
-    /// Samples have no such depth.
+    /// The bit depth is not 8, 10 or 12.
     BadDepth,
     /// A rectangle does not lie in its buffer.
     BadArea,
     /// A list has too few elements.
     TooShort,
-    /// A coefficient has more bits than the depth admits.
+    /// A coefficient has more bits than the depth allows.
     BadCoefficient,
     /// A sample has more bits than the depth.
     BadSample,
     /// No mode or filter has this number.
     BadMode,
-    /// An angle that its mode does not have.
+    /// The mode does not have this angle.
     BadAngle,
-    /// No filter has this fraction of a sample.
+    /// The fraction is not below 16 sixteenths of a sample.
     BadFraction,
-    /// No planes have such decimations.
+    /// Chroma cannot be halved like this.
     BadSampling,
-    /// So many columns or rows without luma of their own leave none with it.
+    /// The padding covers the whole block.
     BadPad,
 }
 
-/// Why a leaf is refused.
+/// Why a leaf is rejected.
 #[derive(Clone, Copy, Debug, PartialEq, Eq)]
 #[non_exhaustive]
 pub enum InvalidKind {
-    /// Chroma of its size has no size of its own.
+    /// Its chroma would have a size that does not exist.
     InvalidBlockSize,
-    /// A transform is longer than the leaf, or of a type that its size does not have.
+    /// The transform is longer than the leaf, or its size does not allow its type.
     Transform,
     /// A mode, an angle step or an alpha that the leaf cannot have.
     Mode,
@@ -196,7 +208,7 @@ impl fmt::Display for Error {
     fn fmt(&self, f: &mut fmt::Formatter<'_>) -> fmt::Result {
         match self {
             Error::OutOfMemory => f.write_str("out of memory"),
-            Error::RoomTooSmall => f.write_str("room too small"),
+            Error::RoomTooSmall => f.write_str("buffer too small"),
             Error::TooLong => f.write_str("too long"),
             Error::Malformed { at } => write!(f, "malformed at {at}"),
             Error::Invalid { leaf, kind } => write!(f, "invalid leaf {leaf}: {kind}"),
@@ -206,25 +218,25 @@ impl fmt::Display for Error {
                 write!(f, "part {part}: invalid leaf {leaf}: {kind}")
             }
             Error::EmptySlot { part } => write!(f, "part {part}: empty slot"),
-            Error::BadSize => f.write_str("bad size"),
-            Error::BadType => f.write_str("bad type"),
-            Error::BadDepth => f.write_str("bad depth"),
-            Error::BadArea => f.write_str("bad area"),
-            Error::TooShort => f.write_str("too short"),
-            Error::BadCoefficient => f.write_str("bad coefficient"),
-            Error::BadSample => f.write_str("bad sample"),
-            Error::BadMode => f.write_str("bad mode"),
-            Error::BadAngle => f.write_str("bad angle"),
-            Error::BadFraction => f.write_str("bad fraction"),
-            Error::BadSampling => f.write_str("bad sampling"),
-            Error::BadPad => f.write_str("bad pad"),
+            Error::BadSize => f.write_str("no such size"),
+            Error::BadType => f.write_str("no such transform type for this size"),
+            Error::BadDepth => f.write_str("bit depth is not 8, 10 or 12"),
+            Error::BadArea => f.write_str("rectangle lies outside its buffer"),
+            Error::TooShort => f.write_str("list too short"),
+            Error::BadCoefficient => f.write_str("coefficient has too many bits for the depth"),
+            Error::BadSample => f.write_str("sample has too many bits for the depth"),
+            Error::BadMode => f.write_str("no such mode or filter"),
+            Error::BadAngle => f.write_str("mode does not have this angle"),
+            Error::BadFraction => f.write_str("fraction of a sample is 16 sixteenths or more"),
+            Error::BadSampling => f.write_str("no such chroma sampling"),
+            Error::BadPad => f.write_str("padding covers the whole block"),
         }
     }
 }
 
 impl std::error::Error for Error {}
 
-// The reason of this number: the library gives no other.
+// The reason with this number. The library gives no other numbers.
 fn kind_of(number: u32) -> InvalidKind {
     match number {
         sys::INVALID_BLOCK_SIZE => InvalidKind::InvalidBlockSize,
@@ -237,7 +249,7 @@ fn kind_of(number: u32) -> InvalidKind {
     }
 }
 
-// What a status says: the library answers no other.
+// What a status means. The library returns no other statuses.
 fn answer(status: u32, refusal: &sys::Refusal) -> Result<(), Error> {
     match status {
         sys::DONE => Ok(()),
@@ -265,13 +277,13 @@ fn answer(status: u32, refusal: &sys::Refusal) -> Result<(), Error> {
     }
 }
 
-// What a call that tells nothing but its status says.
+// What the status of a call without a refusal means.
 fn told(status: u32) -> Result<(), Error> {
     answer(status, &sys::Refusal::default())
 }
 
-/// How many bytes the planes of a plan have: those that [`reconstruct_plan`] writes. It reads the 20 bytes of the header at the front of
-/// `bytes` alone.
+/// Computes how many bytes the planes of a plan have, which is how many [`reconstruct_plan`] writes.
+/// It reads only the 20 bytes of the header at the front of `bytes`.
 ///
 /// # Errors
 ///
@@ -279,24 +291,26 @@ fn told(status: u32) -> Result<(), Error> {
 pub fn planes_len(bytes: &[u8]) -> Result<usize, Error> {
     let mut len = 0;
     let mut refusal = sys::Refusal::default();
-    // SAFETY: pointer and length are those of one slice that is lent for the call, and the two values that are written are locals.
+    // SAFETY: pointer and length come from one borrowed slice; the call writes only two locals.
     let status =
         unsafe { sys::av1_planes_len(bytes.as_ptr(), bytes.len(), &mut len, &mut refusal) };
     answer(status, &refusal)?;
     Ok(len)
 }
 
-/// Reconstructs a plan, writes its visible planes to the front of `room`, and says how many bytes they have: Y, then U, then V, each row by
-/// row without padding, one byte a sample at depth 8, else two, the low one first. The rest of `room` stays as it was.
+/// Reconstructs a plan, writes its visible planes to the front of `room`, and returns how many bytes
+/// they have: Y, then U, then V, each row by row without padding. A sample takes one byte at depth 8,
+/// else two, the low byte first. The rest of `room` is unchanged.
 ///
 /// # Errors
 ///
-/// `TooLong`, then `Malformed`, then `Invalid`, then `RoomTooSmall`. `OutOfMemory` may stand in place of any but the first.
+/// `TooLong`, then `Malformed`, then `Invalid`, then `RoomTooSmall`. `OutOfMemory` can come instead of
+/// any except the first.
 pub fn reconstruct_plan(bytes: &[u8], room: &mut [u8]) -> Result<usize, Error> {
     let mut written = 0;
     let mut refusal = sys::Refusal::default();
-    // SAFETY: pointers and lengths are those of slices that are lent for the call, of which `room` is lent to nobody else, and the two values
-    // that are written are locals.
+    // SAFETY: pointers and lengths come from borrowed slices, `room` borrowed mutably; the call writes
+    // only `room` and two locals.
     let status = unsafe {
         sys::av1_reconstruct_plan(
             bytes.as_ptr(),

@@ -1,4 +1,4 @@
-//! The differences of luma from its mean, by which chroma is predicted.
+//! The differences of luma from its mean that predict chroma.
 
 use crate::{Error, Place, sys, told};
 
@@ -6,15 +6,18 @@ use crate::{Error, Place, sys, told};
 #[repr(C)]
 #[derive(Clone, Copy, Debug, PartialEq, Eq)]
 pub struct CflBlock {
-    /// The number of its size in samples of chroma among those of blocks, from 0 (`BLOCK_4X4`) on: none with a side past 32.
+    /// The number of its size in chroma samples, from 0 (`BLOCK_4X4`) on, among those of blocks.
+    /// Neither width nor height exceeds 32.
     pub block_size: u8,
-    /// 1 where chroma has half of luma's columns, else 0.
+    /// 1 if chroma has half of luma's columns, else 0.
     pub xdec: u8,
-    /// 1 where chroma has half of luma's rows, too, else 0.
+    /// 1 if chroma also has half of luma's rows, else 0.
     pub ydec: u8,
-    /// How many units of 4 columns, its last ones, have no luma of their own.
+    /// How many units of 4 columns of chroma, at the right end of the block, have no luma of their
+    /// own.
     pub w_pad: usize,
-    /// How many units of 4 rows, its last ones, have no luma of their own.
+    /// How many units of 4 rows of chroma, at the bottom end of the block, have no luma of their
+    /// own.
     pub h_pad: usize,
 }
 
@@ -26,9 +29,9 @@ pub struct LumaBlock {
     pub block_size: u8,
     /// The number of the size of its luma transforms, from `TX_4X4`, 0, to `TX_64X16`, 18.
     pub tx_size: u8,
-    /// 1 where chroma has half of luma's columns, else 0.
+    /// 1 if chroma has half of luma's columns, else 0.
     pub xdec: u8,
-    /// 1 where chroma has half of luma's rows, too, else 0.
+    /// 1 if chroma also has half of luma's rows, else 0.
     pub ydec: u8,
     /// How many visible columns of luma there are from its first on.
     pub visible_columns: usize,
@@ -36,14 +39,17 @@ pub struct LumaBlock {
     pub visible_rows: usize,
 }
 
-/// Finds the block of chroma that is predicted from a block's luma: its size, and how many units of 4 columns and rows have no luma of their own,
-/// since no transform that begins in the visible plane codes it.
+/// Finds the chroma block that is predicted from the luma of a block: its size, and how many units
+/// of 4 columns and rows have no luma of their own, since no transform that begins in the visible
+/// plane codes it.
 ///
-/// A block with a side of 4 that is halved shares its chroma with the one before it, and all 8 samples of luma of both are read.
+/// A block with a dimension of 4 that is halved shares its chroma with the block before it. The
+/// calls then read all 8 luma samples of both blocks.
 ///
 /// # Errors
 ///
-/// `BadSampling`, then `BadSize`: a number names no size, or the block's chroma has none up to 32; then `BadPad`: nothing of its luma is visible.
+/// `BadSampling`, then `BadSize`: a number does not exist, or the chroma has no size of at most 32.
+/// Then `BadPad`: none of its luma is visible.
 pub fn cfl_block_of(luma: &LumaBlock) -> Result<CflBlock, Error> {
     let mut block = CflBlock {
         block_size: 0,
@@ -52,22 +58,24 @@ pub fn cfl_block_of(luma: &LumaBlock) -> Result<CflBlock, Error> {
         w_pad: 0,
         h_pad: 0,
     };
-    // SAFETY: each reference leads to one value, of which `block` is lent to nobody else.
+    // SAFETY: each reference leads to one value, `block` borrowed mutably.
     told(unsafe { sys::av1_cfl_block_of(&mut block, luma) })?;
     Ok(block)
 }
 
-/// Puts into `ac`, row by row, how far the luma over each sample of a block of chroma is from its mean, in eighths, at a depth of 8. The
-/// other entries of `ac` stay.
+/// Computes how far the luma over each sample of a chroma block is from the mean, in eighths, at a
+/// depth of 8. It writes the differences to `ac`, row by row; the rest of `ac` is unchanged.
 ///
-/// The block's luma begins at `place`. Read are the columns and rows over those of chroma that have luma of their own, and at least 8, but
-/// none past the block; the others repeat the last of these.
+/// The block's luma begins at `place`. The call reads the luma columns over the chroma columns that
+/// have luma of their own. It reads at least 8 luma columns, but none past the block. The other
+/// chroma columns repeat the last luma that is read. The same holds for rows.
 ///
 /// # Errors
 ///
-/// `BadSize`, then `BadSampling`, then `BadPad`, then `BadArea`, then `TooShort`. The differences are then as they were.
+/// `BadSize`, then `BadSampling`, then `BadPad`, then `BadArea`, then `TooShort`. The differences
+/// are then unchanged.
 pub fn cfl_ac_8(ac: &mut [i16], luma: &[u8], place: Place, block: &CflBlock) -> Result<(), Error> {
-    // SAFETY: pointers and lengths are those of slices that are lent for the call, of which `ac` is lent to nobody else.
+    // SAFETY: pointers and lengths come from borrowed slices, `ac` borrowed mutably.
     let status = unsafe {
         sys::av1_cfl_ac_8(
             ac.as_mut_ptr(),
@@ -83,12 +91,13 @@ pub fn cfl_ac_8(ac: &mut [i16], luma: &[u8], place: Place, block: &CflBlock) -> 
     told(status)
 }
 
-/// The same for samples of 16 bits at a depth of 8, 10 or 12.
+/// [`cfl_ac_8`] for samples of 16 bits at a depth of 8, 10 or 12.
 ///
 /// # Errors
 ///
-/// `BadSize`, then `BadSampling`, then `BadPad`, then `BadArea`, then `TooShort`, then `BadDepth`, then `BadSample`: one of the samples that
-/// are read is past the depth. The differences are then as they were.
+/// `BadSize`, then `BadSampling`, then `BadPad`, then `BadArea`, then `TooShort`, then `BadDepth`,
+/// then `BadSample`: a sample that the call reads is past the depth. The differences are then
+/// unchanged.
 pub fn cfl_ac_16(
     ac: &mut [i16],
     luma: &[u16],

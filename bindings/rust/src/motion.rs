@@ -1,14 +1,16 @@
-//! Blocks of references: predicted from one, prepared for the average with another, and averaged.
+//! Blocks of references: predicted from one, or prepared and averaged from two.
 
 use crate::{Error, Place, sys, told};
 
-/// The number of the sharp filter. Along sides up to 4 it is the regular one for such sides, as in AV1.
+/// The number of the sharp filter. Along a dimension of at most 4 it is the regular filter for such
+/// dimensions, as in AV1.
 pub const SHARP: u8 = 2;
 
-/// The number of the sharp filter of rav1e, and of plans: along sides up to 4 it is the smooth one for such sides.
+/// The number of the sharp filter of rav1e, and of plans up to version 2. Along a dimension of at
+/// most 4 it is the smooth filter for such dimensions.
 pub const RAV1E_SHARP: u8 = 5;
 
-/// A block that is moved between the samples of its reference.
+/// A block, and how far it is moved between the samples of its reference.
 #[repr(C)]
 #[derive(Clone, Copy, Debug, PartialEq, Eq)]
 pub struct MotionBlock {
@@ -20,19 +22,20 @@ pub struct MotionBlock {
     pub col_frac: u8,
     /// How far it is moved down, in sixteenths of a sample: below 16.
     pub row_frac: u8,
-    /// The number of the filter along its rows: 0 regular, 1 smooth, [`SHARP`], 3 bilinear or [`RAV1E_SHARP`].
+    /// The number of the filter along rows: 0 regular, 1 smooth, [`SHARP`], 3 bilinear or
+    /// [`RAV1E_SHARP`].
     pub filter_x: u8,
-    /// The number of the filter down its columns.
+    /// The number of the filter down columns.
     pub filter_y: u8,
 }
 
-/// Predicts the samples of a block's rectangle, whose first is at `to` of `dst`, from those of a reference of 8 bits: each becomes the one at
-/// its place from `from` of `src` on, moved by the block's fractions. 3 columns and rows before the block and 4 after it are read, at every
-/// fraction.
+/// Predicts a block of samples of 8 bits from one reference. `to` is the place of its first sample
+/// in `dst`, and `from` that in the reference `src`, before the fractions. At every fraction, the
+/// call reads 3 columns and rows before the block and 4 after it.
 ///
 /// # Errors
 ///
-/// `BadSize`, then `BadMode`, then `BadFraction`, then `BadArea`. The samples are then as they were.
+/// `BadSize`, then `BadMode`, then `BadFraction`, then `BadArea`. The samples are then unchanged.
 pub fn put_8tap_8(
     dst: &mut [u8],
     to: Place,
@@ -40,7 +43,7 @@ pub fn put_8tap_8(
     from: Place,
     block: &MotionBlock,
 ) -> Result<(), Error> {
-    // SAFETY: pointers and lengths are those of slices that are lent for the call, of which `dst` is lent to nobody else.
+    // SAFETY: pointers and lengths come from borrowed slices, `dst` borrowed mutably.
     told(unsafe {
         sys::av1_put_8tap_8(
             dst.as_mut_ptr(),
@@ -58,12 +61,12 @@ pub fn put_8tap_8(
     })
 }
 
-/// The same for samples of 16 bits at a depth of 8, 10 or 12.
+/// [`put_8tap_8`] for samples of 16 bits at a depth of 8, 10 or 12.
 ///
 /// # Errors
 ///
-/// `BadSize`, then `BadMode`, then `BadFraction`, then `BadArea`, then `BadDepth`, then `BadSample`: one of the samples that are read is past
-/// the depth. The samples are then as they were.
+/// `BadSize`, then `BadMode`, then `BadFraction`, then `BadArea`, then `BadDepth`, then
+/// `BadSample`: a sample that the call reads is past the depth. The samples are then unchanged.
 pub fn put_8tap_16(
     dst: &mut [u16],
     to: Place,
@@ -91,19 +94,21 @@ pub fn put_8tap_16(
     })
 }
 
-/// Prepares a block of a reference of 8 bits for the average with another: the first `height * width` of `values` become those of the block,
-/// row by row. A value is 16 times a sample. All else is as in [`put_8tap_8`].
+/// Prepares a block of a reference of 8 bits for the average with another block. The call writes
+/// the first `height * width` of `values`, row by row. A value is 16 times a sample. Everything
+/// else is as in [`put_8tap_8`].
 ///
 /// # Errors
 ///
-/// `BadSize`, then `BadMode`, then `BadFraction`, then `BadArea`, then `TooShort`. The values are then as they were.
+/// `BadSize`, then `BadMode`, then `BadFraction`, then `BadArea`, then `TooShort`. The values are
+/// then unchanged.
 pub fn prep_8tap_8(
     values: &mut [i16],
     src: &[u8],
     from: Place,
     block: &MotionBlock,
 ) -> Result<(), Error> {
-    // SAFETY: pointers and lengths are those of slices that are lent for the call, of which `values` is lent to nobody else.
+    // SAFETY: pointers and lengths come from borrowed slices, `values` borrowed mutably.
     told(unsafe {
         sys::av1_prep_8tap_8(
             values.as_mut_ptr(),
@@ -118,12 +123,13 @@ pub fn prep_8tap_8(
     })
 }
 
-/// The same for samples of 16 bits at a depth of 8, 10 or 12. Above depth 8 values are less by 8192; at 12 they are 4 times a sample.
+/// [`prep_8tap_8`] for samples of 16 bits at a depth of 8, 10 or 12. A value is 16 times a sample,
+/// 4 times at depth 12, and from depth 10 on less by 8192.
 ///
 /// # Errors
 ///
-/// `BadSize`, then `BadMode`, then `BadFraction`, then `BadArea`, then `TooShort`, then `BadDepth`, then `BadSample`. The values are then as
-/// they were.
+/// `BadSize`, then `BadMode`, then `BadFraction`, then `BadArea`, then `TooShort`, then `BadDepth`,
+/// then `BadSample`. The values are then unchanged.
 pub fn prep_8tap_16(
     values: &mut [i16],
     src: &[u16],
@@ -147,12 +153,13 @@ pub fn prep_8tap_16(
     })
 }
 
-/// Each sample of a rectangle, whose first is at `to`, becomes the average of two prepared values, at a depth of 8. The values stand row by
-/// row at the front of `first` and of `second`, as [`prep_8tap_8`] leaves them.
+/// Averages two prepared blocks at a depth of 8, and writes the samples of the rectangle whose
+/// first is at `to`. The values are row by row at the front of `first` and of `second`, as
+/// [`prep_8tap_8`] leaves them.
 ///
 /// # Errors
 ///
-/// `BadSize`, then `BadArea`, then `TooShort`. The samples are then as they were.
+/// `BadSize`, then `BadArea`, then `TooShort`. The samples are then unchanged.
 pub fn mc_avg_8(
     samples: &mut [u8],
     to: Place,
@@ -161,7 +168,7 @@ pub fn mc_avg_8(
     first: &[i16],
     second: &[i16],
 ) -> Result<(), Error> {
-    // SAFETY: pointers and lengths are those of slices that are lent for the call, of which `samples` is lent to nobody else.
+    // SAFETY: pointers and lengths come from borrowed slices, `samples` borrowed mutably.
     told(unsafe {
         sys::av1_mc_avg_8(
             samples.as_mut_ptr(),
@@ -179,11 +186,11 @@ pub fn mc_avg_8(
     })
 }
 
-/// The same for samples of 16 bits at a depth of 8, 10 or 12.
+/// [`mc_avg_8`] for samples of 16 bits at a depth of 8, 10 or 12.
 ///
 /// # Errors
 ///
-/// `BadSize`, then `BadArea`, then `TooShort`, then `BadDepth`. The samples are then as they were.
+/// `BadSize`, then `BadArea`, then `TooShort`, then `BadDepth`. The samples are then unchanged.
 pub fn mc_avg_16(
     samples: &mut [u16],
     to: Place,

@@ -1,4 +1,5 @@
-//! Where a block that a vector moves is read in its reference, and the block from a plane without pads.
+//! Where a block that a vector moves is read in its reference, and such a block from a plane
+//! without padding.
 
 use crate::{Error, Place, Tested, sys, told};
 
@@ -6,7 +7,7 @@ use crate::{Error, Place, Tested, sys, told};
 #[repr(C)]
 #[derive(Clone, Copy, Debug, PartialEq, Eq)]
 pub struct MotionPlane {
-    /// How far the rows of its samples stand apart.
+    /// How many samples apart its rows are.
     pub stride: usize,
     /// The column of its first visible sample.
     pub x: usize,
@@ -16,9 +17,9 @@ pub struct MotionPlane {
     pub width: usize,
     /// How many visible rows it has: from 1 to 65,536.
     pub height: usize,
-    /// Whether it has half of luma's columns: 0 where it has as many.
+    /// 0: it has as many columns as luma; else half of them.
     pub halved_columns: u8,
-    /// Whether it has half of luma's rows: 0 where it has as many.
+    /// 0: it has as many rows as luma; else half of them.
     pub halved_rows: u8,
 }
 
@@ -34,17 +35,17 @@ pub struct MovedBlock {
     pub width: usize,
     /// How many rows it has: from 1 to 128.
     pub height: usize,
-    /// How far the vector leads down, in eighths of a luma sample.
+    /// How far the vector points down, in eighths of a luma sample.
     pub row: i16,
-    /// How far it leads to the right.
+    /// How far it points to the right, in eighths of a luma sample.
     pub col: i16,
-    /// The number of the filter along its rows, as in a [`MotionBlock`](crate::MotionBlock).
+    /// The number of the filter along rows, as in a [`MotionBlock`](crate::MotionBlock).
     pub filter_x: u8,
-    /// The number of the filter down its columns.
+    /// The number of the filter down columns.
     pub filter_y: u8,
 }
 
-/// Where it is read.
+/// The place in its reference at which such a block is read.
 #[repr(C)]
 #[derive(Clone, Copy, Debug, Default, PartialEq, Eq)]
 pub struct MovedPlace {
@@ -54,29 +55,32 @@ pub struct MovedPlace {
     pub y: isize,
     /// How far it is moved right beyond that, in sixteenths of a sample.
     pub col_frac: u8,
-    /// How far it is moved down beyond that.
+    /// How far it is moved down beyond that, in sixteenths of a sample.
     pub row_frac: u8,
 }
 
-/// Finds where a block that a vector moves is read in its reference. Past a side of the plane each sample is that at the side. So a vector that
-/// leads far out gets a place nearer to the plane, where the same is read: pads of `width + 7` columns and `height + 7` rows on each side hold all
-/// that is read, however far a vector leads. Where the plane stands in its samples, and the filters, are not read.
+/// Computes where a block that a vector moves is read in its reference. Outside the plane, every
+/// sample equals the nearest edge sample. So for a vector that points far outside, the call returns
+/// an equivalent place closer to the plane: padding of `width + 7` columns and `height + 7` rows on
+/// each side is always enough. The plane's `stride`, `x` and `y`, and the block's filters, are not
+/// read.
 ///
 /// # Errors
 ///
-/// `BadSize`, then `BadArea`: the plane has no samples, or it or the block's place is past 65,536.
+/// `BadSize`, then `BadArea`: the plane has no samples, or is wider or higher than 65,536, or the
+/// block's `x` or `y` is past 65,536.
 pub fn motion_place(plane: &MotionPlane, block: &MovedBlock) -> Result<MovedPlace, Error> {
     let mut place = MovedPlace::default();
-    // SAFETY: each reference leads to one value, of which `place` is lent to nobody else.
+    // SAFETY: each reference leads to one value, `place` borrowed mutably.
     told(unsafe { sys::av1_motion_place(&mut place, plane, block) })?;
     Ok(place)
 }
 
-/// Room for all that is read for a block. What it holds before a call doesn't matter.
+/// Scratch memory for what is read for a block. Its contents before a call don't matter.
 pub struct MotionWindow<T>(Box<[T]>);
 
 impl<T: Copy + Default> MotionWindow<T> {
-    /// Room for blocks of up to 128 by 128 samples.
+    /// Scratch memory for blocks of up to 128 by 128 samples.
     pub fn new() -> MotionWindow<T> {
         MotionWindow(vec![T::default(); 135 * 135].into_boxed_slice())
     }
@@ -88,12 +92,13 @@ impl<T: Copy + Default> Default for MotionWindow<T> {
     }
 }
 
-/// Predicts the samples of a block's rectangle, whose first is at `to` of `dst`, from a plane of 8 bits without pads: each becomes that of the
-/// block, moved by its vector. Only visible samples of the plane are read; past a side each is the nearest of these.
+/// Predicts a block from a reference of 8 bits without padding. `to` is the place of its first
+/// sample in `dst`. The call follows the vector and reads only visible samples of the plane.
+/// Outside the plane, every sample equals the nearest edge sample.
 ///
 /// # Errors
 ///
-/// `BadSize`, then `BadMode`, then `BadArea`. The samples are then as they were.
+/// `BadSize`, then `BadMode`, then `BadArea`. The samples are then unchanged.
 pub fn put_moved_8(
     dst: &mut [u8],
     to: Place,
@@ -102,7 +107,7 @@ pub fn put_moved_8(
     block: &MovedBlock,
     window: &mut MotionWindow<u8>,
 ) -> Result<(), Error> {
-    // SAFETY: pointers and lengths are those of slices that are lent for the call, of which `dst` and `window` are lent to nobody else.
+    // SAFETY: pointers and lengths come from borrowed slices, `dst` and `window` borrowed mutably.
     told(unsafe {
         sys::av1_put_moved_8(
             dst.as_mut_ptr(),
@@ -120,11 +125,11 @@ pub fn put_moved_8(
     })
 }
 
-/// The same for samples of 16 bits at the depth of the reference.
+/// [`put_moved_8`] for samples of 16 bits at the depth of the reference.
 ///
 /// # Errors
 ///
-/// `BadSize`, then `BadMode`, then `BadArea`. The samples are then as they were.
+/// `BadSize`, then `BadMode`, then `BadArea`. The samples are then unchanged.
 pub fn put_moved_16<S>(
     dst: &mut [u16],
     to: Place,
@@ -133,7 +138,8 @@ pub fn put_moved_16<S>(
     block: &MovedBlock,
     window: &mut MotionWindow<u16>,
 ) -> Result<(), Error> {
-    // SAFETY: as above. No sample of the reference is past the depth, since all were tested when it was made.
+    // SAFETY: as above. No sample of the reference is past the depth: all were checked when it was
+    // made.
     told(unsafe {
         sys::av1_put_moved_16(
             dst.as_mut_ptr(),
@@ -152,12 +158,13 @@ pub fn put_moved_16<S>(
     })
 }
 
-/// Prepares a block that its vector moves for the average with another, from a plane of 8 bits without pads. The first `height * width` of
-/// `values` become those of the block, row by row, as [`prep_8tap_8`](crate::prep_8tap_8) leaves them.
+/// Prepares such a block for the average with another block, from a reference of 8 bits without
+/// padding. The call writes the first `height * width` of `values`, row by row, as
+/// [`prep_8tap_8`](crate::prep_8tap_8) does.
 ///
 /// # Errors
 ///
-/// `BadSize`, then `BadMode`, then `BadArea`, then `TooShort`. The values are then as they were.
+/// `BadSize`, then `BadMode`, then `BadArea`, then `TooShort`. The values are then unchanged.
 pub fn prep_moved_8(
     values: &mut [i16],
     src: &[u8],
@@ -165,7 +172,8 @@ pub fn prep_moved_8(
     block: &MovedBlock,
     window: &mut MotionWindow<u8>,
 ) -> Result<(), Error> {
-    // SAFETY: pointers and lengths are those of slices that are lent for the call, of which `values` and `window` are lent to nobody else.
+    // SAFETY: pointers and lengths come from borrowed slices, `values` and `window` borrowed
+    // mutably.
     told(unsafe {
         sys::av1_prep_moved_8(
             values.as_mut_ptr(),
@@ -180,11 +188,11 @@ pub fn prep_moved_8(
     })
 }
 
-/// The same for samples of 16 bits at the depth of the reference.
+/// [`prep_moved_8`] for samples of 16 bits at the depth of the reference.
 ///
 /// # Errors
 ///
-/// `BadSize`, then `BadMode`, then `BadArea`, then `TooShort`. The values are then as they were.
+/// `BadSize`, then `BadMode`, then `BadArea`, then `TooShort`. The values are then unchanged.
 pub fn prep_moved_16<S>(
     values: &mut [i16],
     src: &Tested<S>,
@@ -192,7 +200,8 @@ pub fn prep_moved_16<S>(
     block: &MovedBlock,
     window: &mut MotionWindow<u16>,
 ) -> Result<(), Error> {
-    // SAFETY: as above. No sample of the reference is past the depth, since all were tested when it was made.
+    // SAFETY: as above. No sample of the reference is past the depth: all were checked when it was
+    // made.
     told(unsafe {
         sys::av1_prep_moved_16(
             values.as_mut_ptr(),

@@ -1,45 +1,49 @@
-//! What a block's angle and its neighbours come to among the numbers of a block.
+//! Two numbers that a block needs: the steps of its angle, and whether a neighbour is smooth.
 
 use crate::{Error, sys, told};
 
-/// The blocks above and to the left of one that an intra mode predicts.
+/// The blocks above and to the left of a block that an intra mode predicts.
 #[repr(C)]
 #[derive(Clone, Copy, Debug, PartialEq, Eq)]
 pub struct Neighbours {
-    /// Whether the plane is one of chroma: 0 for luma.
+    /// 0: a plane of luma; else a plane of chroma.
     pub chroma: u8,
-    /// The number of the mode that the block above has in this plane, or [`ANY_MODE`](crate::ANY_MODE) where none lies there in the tile.
+    /// The number of the mode of the block above in this plane, or [`ANY_MODE`](crate::ANY_MODE) if
+    /// the tile has no block there.
     pub above_mode: u8,
-    /// Whether the block above is predicted from another frame: 0 where it isn't. It is read for chroma alone.
+    /// 0: the block above is predicted from its own frame. It is read only for chroma.
     pub above_inter: u8,
-    /// The number of the mode that the block to the left has in this plane, or [`ANY_MODE`](crate::ANY_MODE).
+    /// The number of the mode of the block to the left in this plane, or
+    /// [`ANY_MODE`](crate::ANY_MODE).
     pub left_mode: u8,
-    /// Whether the block to the left is predicted from another frame: 0 where it isn't. It is read for chroma alone.
+    /// 0: the block to the left is predicted from its own frame. It is read only for chroma.
     pub left_inter: u8,
 }
 
-/// Tells whether a neighbour of a block has a smooth mode, as the edge filter asks. In a plane of chroma only a neighbour counts that is predicted
-/// from its own frame.
+/// Finds out if a neighbour of a block has a smooth mode, which the edge filter needs. In a plane
+/// of chroma, only a neighbour that is predicted from its own frame counts.
 ///
 /// # Errors
 ///
-/// `BadMode`: no mode has a neighbour's number.
+/// `BadMode`: a neighbour's number is not a mode.
 pub fn smooth_neighbour(neighbours: &Neighbours) -> Result<bool, Error> {
     let mut smooth = 0;
-    // SAFETY: each reference leads to one value, of which `smooth` is lent to nobody else.
+    // SAFETY: each reference leads to one value, `smooth` borrowed mutably.
     told(unsafe { sys::av1_smooth_neighbour(&mut smooth, neighbours) })?;
     Ok(smooth != 0)
 }
 
-/// Finds how many steps of 3 degrees a mode turns to an angle in degrees: `angle_step` of a block. 90 is from above, 180 from the left. A mode
-/// without a direction has the angle 0 alone, and turns no steps.
+/// Converts an angle in degrees to steps of 3 degrees from a mode's own angle: `angle_step` of a
+/// block. 90 is from above, 180 from the left. A mode without a direction has only the angle 0, and
+/// turns no steps.
 ///
 /// # Errors
 ///
-/// `BadMode`: no intra mode has the number, or it is chroma from luma; then `BadAngle`: the mode does not turn to this angle.
+/// `BadMode`: the number is not an intra mode, or is chroma from luma. Then `BadAngle`: the mode
+/// does not turn to this angle.
 pub fn angle_step(mode: u8, angle: usize) -> Result<i8, Error> {
     let mut step = 0;
-    // SAFETY: the reference leads to one value that is lent to nobody else.
+    // SAFETY: the reference leads to one value, borrowed mutably.
     told(unsafe { sys::av1_angle_step(&mut step, mode, angle) })?;
     Ok(step)
 }

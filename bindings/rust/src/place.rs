@@ -1,10 +1,11 @@
-//! Where a block stands in samples of the caller.
+//! A place in the caller's samples.
 
-/// Column `x` of row `y` of samples, whose rows stand `stride` apart. A rectangle there lies in the samples where `x + width <= stride` and
-/// `(y + height) * stride` is at most their number, so that its last row is there as far as the stride, too.
+/// Column `x` of row `y` of samples whose rows are `stride` samples apart. A rectangle there lies
+/// in the samples if `x + width <= stride` and `(y + height) * stride` is at most their number: its
+/// last row also has `stride` samples.
 #[derive(Clone, Copy, Debug, PartialEq, Eq)]
 pub struct Place {
-    /// How far apart rows stand.
+    /// How many samples apart rows are.
     pub stride: usize,
     /// The column.
     pub x: usize,

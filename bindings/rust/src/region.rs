@@ -5,19 +5,20 @@ use std::marker::PhantomData;
 use std::ptr;
 use std::slice;
 
-/// Room in which the samples of a rectangle stand side by side while a call works on them. Each thread makes its own once, and uses it again; what it
-/// holds before doesn't matter. It takes memory where a rectangle has more samples than any before it.
+/// A buffer in which a call works on the samples of a rectangle, without gaps between its rows.
+/// Each thread makes its own once and uses it again; its contents before a call don't matter. It
+/// allocates if a rectangle has more samples than any before it.
 pub struct BlockRoom<T>(Vec<T>);
 
 impl<T> BlockRoom<T> {
-    /// Room that has no memory yet.
+    /// A buffer that has not allocated yet.
     pub const fn new() -> BlockRoom<T> {
         BlockRoom(Vec::new())
     }
 }
 
 impl<T: Copy + Default> BlockRoom<T> {
-    // Room for so many samples.
+    // The first `len` samples, allocated if they are missing.
     pub(crate) fn of(&mut self, count: usize) -> &mut [T] {
         if self.0.len() < count {
             self.0.resize(count, T::default());
@@ -32,8 +33,9 @@ impl<T> Default for BlockRoom<T> {
     }
 }
 
-// Rows of samples: where the first begins, how far they stand apart, and how many there are of how many samples. What is done with one by way of
-// `row` or `copy_to` is for those who know that its samples are there, and theirs.
+// Rows of samples: where the first begins, how far apart they are, how many there are, and how many
+// samples each has. Only a caller who knows that the samples exist and are its own may use `row`
+// and `copy_to`.
 struct Rows<T> {
     first: *mut T,
     stride: isize,
@@ -50,14 +52,14 @@ impl<T> Clone for Rows<T> {
 impl<T> Copy for Rows<T> {}
 
 impl<T> Rows<T> {
-    // Where column `x` of row `y` stands.
+    // The address of column `x` of row `y`.
     fn at(&self, x: usize, y: usize) -> *mut T {
         self.first
             .wrapping_offset(self.stride.wrapping_mul(y as isize))
             .wrapping_add(x)
     }
 
-    // The rows of a rectangle that lies in these.
+    // The rows of a rectangle that lies in these rows.
     fn part(&self, x: usize, y: usize, width: usize, height: usize) -> Rows<T> {
         Rows {
             first: self.at(x, y),
@@ -67,7 +69,7 @@ impl<T> Rows<T> {
         }
     }
 
-    // The same, where it does lie in these.
+    // The same, if the rectangle does lie in these rows.
     fn within(&self, x: usize, y: usize, width: usize, height: usize) -> Result<Rows<T>, Error> {
         let fits =
             |from: usize, count, all| matches!(from.checked_add(count), Some(end) if end <= all);
@@ -78,7 +80,7 @@ impl<T> Rows<T> {
         }
     }
 
-    // Rows that stand side by side in a slice.
+    // Rows next to one another in a slice.
     fn of(samples: &mut [T], width: usize, height: usize) -> Rows<T> {
         Rows {
             first: samples.as_mut_ptr(),
@@ -95,23 +97,24 @@ impl<T> Rows<T> {
 
     // The samples of row `y`.
     //
-    // Safety: they are there, and as long as 'a nobody writes them.
+    // Safety: they exist, and nobody writes them during 'a.
     unsafe fn row<'a>(&self, y: usize) -> &'a [T] {
         assert!(y < self.height);
         if self.width == 0 {
             return &[];
         }
-        // SAFETY: as asked for.
+        // SAFETY: the caller guarantees it.
         unsafe { slice::from_raw_parts(self.at(0, y), self.width) }
     }
 }
 
 impl<T: Copy> Rows<T> {
-    // Copies all samples to as many rows of as many. Rows of sides that transforms have are copied by moves of a known length.
+    // Copies all samples to rows of the same number and length. Rows as long as a transform's are
+    // copied by moves of a known length.
     //
-    // Safety: both are there and lent, these to be read and the others to be written.
+    // Safety: both exist and are borrowed, these to read and the others to write.
     unsafe fn copy_to(&self, to: &Rows<T>) {
-        // SAFETY: as asked for; so many samples stand in each row.
+        // SAFETY: the caller guarantees it; each row has this many samples.
         unsafe {
             match self.width {
                 0 => {}
@@ -134,31 +137,34 @@ impl<T: Copy> Rows<T> {
     // Safety: as above.
     unsafe fn copy_rows_of<const N: usize>(&self, to: &Rows<T>) {
         for y in 0..self.height {
-            // SAFETY: as asked for; what is written is lent to nobody else, so that it is none of what is read.
+            // SAFETY: the caller guarantees it. What is written is borrowed mutably, so it is not
+            // what is read.
             unsafe { ptr::copy_nonoverlapping(self.at(0, y), to.at(0, y), N) };
         }
     }
 }
 
-/// A rectangle of samples that is lent to be read, in rows that stand `stride` samples apart. What lies between its rows may be written by others.
+/// A rectangle of samples to read, in rows that are `stride` samples apart. Others may write what
+/// lies between its rows.
 #[derive(Clone, Copy)]
 pub struct Region<'a, T> {
     rows: Rows<T>,
     lent: PhantomData<&'a [T]>,
 }
 
-// SAFETY: a region is a loan of its samples, as a slice is, and of no others.
+// SAFETY: a region borrows its samples, as a slice does, and no others.
 unsafe impl<T: Sync> Send for Region<'_, T> {}
 // SAFETY: as above.
 unsafe impl<T: Sync> Sync for Region<'_, T> {}
 
 impl<'a, T> Region<'a, T> {
-    /// The rectangle of `width` by `height` samples whose first is `samples[first]`, and whose rows begin `stride` samples behind one another, or
-    /// before, where `stride` is negative. Its last row need not go on behind its own samples.
+    /// The rectangle of `width` by `height` samples whose first is `samples[first]`. Each row
+    /// begins `stride` samples after the one before, or before it if `stride` is negative. The last
+    /// row may end with its own samples.
     ///
     /// # Errors
     ///
-    /// `BadArea`: a sample of it is none of `samples`, or its rows overlap.
+    /// `BadArea`: one of its samples is not in `samples`, or its rows overlap.
     pub fn new(
         samples: &'a [T],
         first: usize,
@@ -170,15 +176,15 @@ impl<'a, T> Region<'a, T> {
             return Err(Error::BadArea);
         }
         let first = samples.as_ptr().wrapping_add(first);
-        // SAFETY: all of it are samples of the slice, which is lent as long.
+        // SAFETY: all its samples are in the slice, which is borrowed for as long.
         Ok(unsafe { Region::from_raw_parts(first, stride, width, height) })
     }
 
-    /// The rectangle whose first sample `first` leads to, in a plane that others may be writing elsewhere.
+    /// The rectangle whose first sample is at `first`, in a plane that others may write elsewhere.
     ///
     /// # Safety
     ///
-    /// As long as `'a` each sample of the rectangle is there, in one allocation, and nobody writes it.
+    /// During `'a` each sample of the rectangle exists, in one allocation, and nobody writes it.
     pub unsafe fn from_raw_parts(
         first: *const T,
         stride: isize,
@@ -210,20 +216,20 @@ impl<'a, T> Region<'a, T> {
     ///
     /// # Panics
     ///
-    /// There is no such row.
+    /// If there is no such row.
     pub fn row(&self, y: usize) -> &'a [T] {
-        // SAFETY: the samples of a row of the region are there, side by side, and lent.
+        // SAFETY: the samples of a region's row exist, next to one another, and are borrowed.
         unsafe { self.rows.row(y) }
     }
 }
 
 impl<T: Copy + Default> Region<'_, T> {
-    /// Makes a call that reads samples of a rectangle, which is `width` by `height` and begins at column `x` of row `y`. The call is given these
-    /// samples and no others, row by row, and the place of the first.
+    /// Makes a call that reads a rectangle, `width` by `height` samples at column `x` of row `y`.
+    /// The call gets only these samples, row by row, and the place of the first.
     ///
     /// # Errors
     ///
-    /// `BadArea`: the rectangle does not lie in the region. Else those of the call.
+    /// `BadArea`: the rectangle does not lie in the region. Then those of the call.
     pub fn call<R>(
         &self,
         room: &mut BlockRoom<T>,
@@ -235,30 +241,32 @@ impl<T: Copy + Default> Region<'_, T> {
     ) -> Result<R, Error> {
         let rows = self.rows.within(x, y, width, height)?;
         let block = room.of(rows.count()?);
-        // SAFETY: the rows are lent to be read, and as many samples of the room to be written.
+        // SAFETY: the rows are borrowed to read, and as many samples of the buffer to write.
         unsafe { rows.copy_to(&Rows::of(block, width, height)) };
         call(block, front(width))
     }
 }
 
-/// A rectangle of samples that is lent to nobody else, in rows that stand `stride` samples apart. What lies between its rows may be lent to others.
+/// A rectangle of samples to read and write, in rows that are `stride` samples apart. Others may
+/// hold what lies between its rows.
 pub struct RegionMut<'a, T> {
     rows: Rows<T>,
     lent: PhantomData<&'a mut [T]>,
 }
 
-// SAFETY: a region is a loan of its samples, as a slice is, and of no others.
+// SAFETY: a region borrows its samples, as a slice does, and no others.
 unsafe impl<T: Send> Send for RegionMut<'_, T> {}
 // SAFETY: as above.
 unsafe impl<T: Sync> Sync for RegionMut<'_, T> {}
 
 impl<'a, T> RegionMut<'a, T> {
-    /// The rectangle of `width` by `height` samples whose first is `samples[first]`, and whose rows begin `stride` samples behind one another, or
-    /// before, where `stride` is negative. Its last row need not go on behind its own samples.
+    /// The rectangle of `width` by `height` samples whose first is `samples[first]`. Each row
+    /// begins `stride` samples after the one before, or before it if `stride` is negative. The last
+    /// row may end with its own samples.
     ///
     /// # Errors
     ///
-    /// `BadArea`: a sample of it is none of `samples`, or its rows overlap.
+    /// `BadArea`: one of its samples is not in `samples`, or its rows overlap.
     pub fn new(
         samples: &'a mut [T],
         first: usize,
@@ -270,15 +278,18 @@ impl<'a, T> RegionMut<'a, T> {
             return Err(Error::BadArea);
         }
         let first = samples.as_mut_ptr().wrapping_add(first);
-        // SAFETY: all of it are samples of the slice, which is lent as long and to nobody else, and its rows don't overlap.
+        // SAFETY: all its samples are in the slice, which is borrowed mutably for as long, and its
+        // rows don't overlap.
         Ok(unsafe { RegionMut::from_raw_parts(first, stride, width, height) })
     }
 
-    /// The rectangle whose first sample `first` leads to, in a plane of which others may have other parts: an encoder's own region as one of these.
+    /// The rectangle whose first sample is at `first`, in a plane of which others may hold other
+    /// parts. Use it to turn an encoder's own region into one of these.
     ///
     /// # Safety
     ///
-    /// As long as `'a` each sample of the rectangle is there, in one allocation, and nobody else reads or writes it; and no two rows overlap.
+    /// During `'a` each sample of the rectangle exists, in one allocation, and nobody else reads or
+    /// writes it. No two rows overlap.
     pub unsafe fn from_raw_parts(
         first: *mut T,
         stride: isize,
@@ -296,7 +307,8 @@ impl<'a, T> RegionMut<'a, T> {
         }
     }
 
-    // A rectangle that lies in this one. The caller sees to it that no two that are lent at once overlap.
+    // A rectangle that lies in this one. The caller makes sure that no two that exist at the same
+    // time overlap.
     fn part<'b>(&self, x: usize, y: usize, width: usize, height: usize) -> RegionMut<'b, T> {
         RegionMut {
             rows: self.rows.part(x, y, width, height),
@@ -314,12 +326,12 @@ impl<'a, T> RegionMut<'a, T> {
         self.rows.height
     }
 
-    /// The same, for less long.
+    /// The same region, borrowed for a shorter time.
     pub fn reborrow(&mut self) -> RegionMut<'_, T> {
         self.part(0, 0, self.width(), self.height())
     }
 
-    /// The same, to be read.
+    /// The same region, only to read.
     pub fn as_region(&self) -> Region<'_, T> {
         Region {
             rows: self.rows,
@@ -327,11 +339,11 @@ impl<'a, T> RegionMut<'a, T> {
         }
     }
 
-    /// The first `columns` columns, and the others.
+    /// The first `columns` columns, and the rest.
     ///
     /// # Panics
     ///
-    /// There are fewer.
+    /// If there are fewer.
     pub fn split_columns(self, columns: usize) -> (RegionMut<'a, T>, RegionMut<'a, T>) {
         assert!(columns <= self.width());
         (
@@ -340,11 +352,11 @@ impl<'a, T> RegionMut<'a, T> {
         )
     }
 
-    /// The first `rows` rows, and the others.
+    /// The first `rows` rows, and the rest.
     ///
     /// # Panics
     ///
-    /// There are fewer.
+    /// If there are fewer.
     pub fn split_rows(self, rows: usize) -> (RegionMut<'a, T>, RegionMut<'a, T>) {
         assert!(rows <= self.height());
         (
@@ -357,33 +369,36 @@ impl<'a, T> RegionMut<'a, T> {
     ///
     /// # Panics
     ///
-    /// There is no such row.
+    /// If there is no such row.
     pub fn row(&self, y: usize) -> &[T] {
         self.as_region().row(y)
     }
 
-    /// The same, to be changed.
+    /// The samples of row `y`, to write.
     ///
     /// # Panics
     ///
-    /// There is no such row.
+    /// If there is no such row.
     pub fn row_mut(&mut self, y: usize) -> &mut [T] {
         assert!(y < self.height());
         if self.width() == 0 {
             return &mut [];
         }
-        // SAFETY: the samples of a row of the region are there, side by side, and are lent to nobody else as long as it is borrowed.
+        // SAFETY: the samples of a region's row exist, next to one another, and are borrowed
+        // mutably for as long.
         unsafe { slice::from_raw_parts_mut(self.rows.at(0, y), self.width()) }
     }
 }
 
 impl<T: Copy + Default> RegionMut<'_, T> {
-    /// Makes a call on the samples of a rectangle, which is `width` by `height` and begins at column `x` of row `y`. The call is given these samples
-    /// and no others, row by row, and the place of the first; what it leaves of them becomes the rectangle, where it succeeds.
+    /// Makes a call on a rectangle, `width` by `height` samples at column `x` of row `y`. The call
+    /// gets only these samples, row by row, and the place of the first. If it succeeds, what it
+    /// leaves becomes the rectangle.
     ///
     /// # Errors
     ///
-    /// `BadArea`: the rectangle does not lie in the region. Else those of the call. The samples are then as they were.
+    /// `BadArea`: the rectangle does not lie in the region. Then those of the call. The samples are
+    /// then unchanged.
     pub fn call<R>(
         &mut self,
         room: &mut BlockRoom<T>,
@@ -395,13 +410,13 @@ impl<T: Copy + Default> RegionMut<'_, T> {
     ) -> Result<R, Error> {
         let rows = self.rows.within(x, y, width, height)?;
         let block = room.of(rows.count()?);
-        // SAFETY: the rows are lent to be read, and as many samples of the room to be written.
+        // SAFETY: the rows are borrowed to read, and as many samples of the buffer to write.
         unsafe { rows.copy_to(&Rows::of(block, width, height)) };
         self.write(room, x, y, width, height, call)
     }
 
-    /// The same for a call that only writes, and writes all samples of the rectangle, as each but those that add a residue. They aren't read: what the
-    /// call is given in their place doesn't matter.
+    /// [`call`](Self::call) for a call that writes all samples of the rectangle and reads none, as
+    /// all do except those that add a residual. The call gets arbitrary samples in their place.
     ///
     /// ```
     /// use av1_c::{BlockRoom, MotionBlock, Place, RegionMut, put_8tap_8};
@@ -421,7 +436,7 @@ impl<T: Copy + Default> RegionMut<'_, T> {
     ///
     /// # Errors
     ///
-    /// As above.
+    /// Those of [`call`](Self::call).
     pub fn write<R>(
         &mut self,
         room: &mut BlockRoom<T>,
@@ -434,12 +449,13 @@ impl<T: Copy + Default> RegionMut<'_, T> {
         let rows = self.rows.within(x, y, width, height)?;
         let block = room.of(rows.count()?);
         let answer = call(block, front(width))?;
-        // SAFETY: the rows are lent to nobody else, and as many samples of the room to be read.
+        // SAFETY: the rows are borrowed mutably, and as many samples of the buffer to read.
         unsafe { Rows::of(block, width, height).copy_to(&rows) };
         Ok(answer)
     }
 
-    // Puts a rectangle of samples, of which the first is `samples[first]` and whose rows stand `stride` apart, at column `x` of row `y`.
+    // Writes a rectangle of samples to column `x` of row `y`. Its first sample is `samples[first]`,
+    // and its rows are `stride` samples apart.
     pub(crate) fn put(
         &mut self,
         (x, y): (usize, usize),
@@ -450,13 +466,13 @@ impl<T: Copy + Default> RegionMut<'_, T> {
     ) -> Result<(), Error> {
         let from = Region::new(samples, first, stride as isize, width, height)?;
         let to = self.rows.within(x, y, width, height)?;
-        // SAFETY: the samples are lent to be read, and the rows to nobody else.
+        // SAFETY: the samples are borrowed to read, and the rows mutably.
         unsafe { from.rows.copy_to(&to) };
         Ok(())
     }
 }
 
-// The place of the first of samples that stand side by side, in rows of so many.
+// The place of the first of samples without gaps, in rows of this width.
 fn front(width: usize) -> Place {
     Place {
         stride: width,
@@ -465,7 +481,8 @@ fn front(width: usize) -> Place {
     }
 }
 
-// Whether so many samples have a rectangle whose first is number `first`, and no two rows of it overlap.
+// Whether `len` samples have a rectangle whose first is number `first`, and no two rows of it
+// overlap.
 fn lies_in(len: usize, first: usize, stride: isize, width: usize, height: usize) -> bool {
     if width == 0 || height == 0 {
         return true;

@@ -1,4 +1,4 @@
-//! The library as C sees it: `bindings/c/av1_c.h` says of each call what it asks and answers.
+//! The library as C sees it: `bindings/c/av1_c.h` says what each call takes and returns.
 
 use crate::builder::{Coefficient, Header, Leaf};
 use crate::motion::MotionBlock;

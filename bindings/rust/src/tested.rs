@@ -1,11 +1,12 @@
-//! Samples that are tested for a depth once, so that calls on them need not look at them again.
+//! Samples that are checked against a depth once, so that calls need not check them again.
 
 use crate::{Error, MotionBlock, Place, sys, told};
 use std::fmt;
 use std::sync::Arc;
 
-/// Samples of 16 bits of which none is past a depth, with what owns them: a slice that is lent, a `Vec<u16>`, an `Arc<[u16]>`, or a frame or a plane
-/// of the caller's own type. A clone shares them.
+/// Samples of 16 bits, none of them past a depth, together with their owner: a borrowed slice, a
+/// `Vec<u16>`, an `Arc<[u16]>`, or a frame or a plane of the caller's own type. A clone shares
+/// them.
 ///
 /// ```
 /// use av1_c::{Error, Tested};
@@ -22,7 +23,7 @@ use std::sync::Arc;
 /// # Ok::<(), Error>(())
 /// ```
 ///
-/// What is lent can't be changed meanwhile:
+/// Borrowed samples cannot be changed meanwhile:
 ///
 /// ```compile_fail,E0506
 /// let mut samples = [0; 64];
@@ -31,39 +32,43 @@ use std::sync::Arc;
 /// assert_eq!(tested.samples().len(), 64);
 /// # Ok::<(), av1_c::Error>(())
 /// ```
-// The owner is asked for its samples once, when they are tested, and they are looked at by that answer alone: another that it would give later plays
-// no part. They stay what they are as any slice does that a reference to the owner has given. Nobody has the owner by `&mut` or by value as long as
-// a clone of this is left, it doesn't move in memory, and it is dropped after its samples were looked at last. What it admits to those who have it by
-// `&` leaves a slice alone that it has lent. So any owner will do, also one whose `AsRef` answers differently each time, or that has parts which
-// change behind `&`: it needs no promise of its own.
+// Any owner will do: none has to promise anything. The owner is asked for its samples once, when
+// they are checked, and only that slice is read later. A different slice that `AsRef` would return
+// later has no effect. The samples stay what they are, like any slice that a reference to the owner
+// has given. As long as a clone of this exists, nobody has the owner by `&mut` or by value, and the
+// owner does not move. It is dropped after the last use of its samples. Parts of it that can change
+// behind `&` cannot change a slice that it has lent.
 pub struct Tested<S> {
     owner: Arc<S>,
     samples: *const [u16],
     bit_depth: usize,
 }
 
-// SAFETY: what can be had of it is the owner by `&`, the samples by `&`, and, by the last clone, the owner itself.
+// SAFETY: it gives out the owner by `&`, the samples by `&`, and, by the last clone, the owner
+// itself.
 unsafe impl<S: Send + Sync> Send for Tested<S> {}
 // SAFETY: as above.
 unsafe impl<S: Send + Sync> Sync for Tested<S> {}
 
 impl<S: AsRef<[u16]>> Tested<S> {
-    /// Looks at all samples of an owner. They can't change as long as it is held here.
+    /// Checks all samples of an owner. They cannot change as long as it is held here.
     ///
     /// # Errors
     ///
-    /// `BadArea`: there are none. `BadDepth`: samples have no such depth. `BadSample`: one of them is past it.
+    /// `BadArea`: there are no samples. `BadDepth`: the depth is not 8, 10 or 12. `BadSample`: a
+    /// sample is past it.
     pub fn new(owner: S, bit_depth: usize) -> Result<Tested<S>, Error> {
         Tested::with(owner, S::as_ref, bit_depth)
     }
 }
 
 impl<S> Tested<S> {
-    /// The same for the samples that `samples` finds in the owner, such as those of a plane in a frame. It is called once.
+    /// [`Tested::new`] for samples that `samples` finds in the owner, such as those of a plane in a
+    /// frame. `samples` is called once.
     ///
     /// # Errors
     ///
-    /// As [`Tested::new`].
+    /// Those of [`Tested::new`].
     pub fn with(
         owner: S,
         samples: impl FnOnce(&S) -> &[u16],
@@ -72,7 +77,7 @@ impl<S> Tested<S> {
         let owner = Arc::new(owner);
         let samples = samples(&owner);
         let count = samples.len();
-        // SAFETY: the pointer and the length are those of a slice that is lent for the call.
+        // SAFETY: pointer and length come from one borrowed slice.
         told(unsafe {
             sys::av1_test_samples_16(samples.as_ptr(), count, count, 0, 0, count, 1, bit_depth)
         })?;
@@ -86,7 +91,8 @@ impl<S> Tested<S> {
 
     /// The samples.
     pub fn samples(&self) -> &[u16] {
-        // SAFETY: the owner has lent them for as long as it is neither moved, dropped nor had by `&mut`, and it is held here.
+        // SAFETY: the owner has lent them for as long as it is neither moved, dropped nor borrowed
+        // mutably, and it is held here.
         unsafe { &*self.samples }
     }
 
@@ -95,16 +101,16 @@ impl<S> Tested<S> {
         self.bit_depth
     }
 
-    /// What owns them.
+    /// Their owner.
     pub fn owner(&self) -> &S {
         &self.owner
     }
 
-    /// Gives the owner back.
+    /// Returns the owner.
     ///
     /// # Errors
     ///
-    /// A clone is left, which needs it.
+    /// This `Tested` itself, if a clone exists, which still needs the owner.
     pub fn into_owner(self) -> Result<S, Tested<S>> {
         let (samples, bit_depth) = (self.samples, self.bit_depth);
         Arc::try_unwrap(self.owner).map_err(|owner| Tested {
@@ -133,11 +139,11 @@ impl<S> fmt::Debug for Tested<S> {
     }
 }
 
-/// The same as [`put_8tap_16`](crate::put_8tap_16) at the depth of the reference, without another look at it.
+/// [`put_8tap_16`](crate::put_8tap_16) at the depth of the reference, which is not checked again.
 ///
 /// # Errors
 ///
-/// `BadSize`, then `BadMode`, then `BadFraction`, then `BadArea`. The samples are then as they were.
+/// `BadSize`, then `BadMode`, then `BadFraction`, then `BadArea`. The samples are then unchanged.
 pub fn put_tested_16<S>(
     dst: &mut [u16],
     to: Place,
@@ -146,8 +152,8 @@ pub fn put_tested_16<S>(
     block: &MotionBlock,
 ) -> Result<(), Error> {
     let samples = src.samples();
-    // SAFETY: pointers and lengths are those of slices that are lent for the call, of which `dst` is lent to nobody else. No sample of the
-    // reference is past the depth, since all were tested when it was made.
+    // SAFETY: pointers and lengths come from borrowed slices, `dst` borrowed mutably. No sample of
+    // the reference is past the depth: all were checked when it was made.
     told(unsafe {
         sys::av1_put_tested_16(
             dst.as_mut_ptr(),
@@ -166,11 +172,12 @@ pub fn put_tested_16<S>(
     })
 }
 
-/// The same as [`prep_8tap_16`](crate::prep_8tap_16) at the depth of the reference, without another look at it.
+/// [`prep_8tap_16`](crate::prep_8tap_16) at the depth of the reference, which is not checked again.
 ///
 /// # Errors
 ///
-/// `BadSize`, then `BadMode`, then `BadFraction`, then `BadArea`, then `TooShort`. The values are then as they were.
+/// `BadSize`, then `BadMode`, then `BadFraction`, then `BadArea`, then `TooShort`. The values are
+/// then unchanged.
 pub fn prep_tested_16<S>(
     values: &mut [i16],
     src: &Tested<S>,

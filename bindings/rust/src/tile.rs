@@ -1,11 +1,12 @@
-//! Edges and predictions in a tile that is a region of its plane, so that threads work on tiles of one plane.
+//! Edges and predictions in a tile that is a region of its plane, so that threads can work on tiles
+//! of one plane.
 
 use crate::{
     BlockRoom, EdgeBlock, EdgePlane, Error, Region, RegionMut, predict_in_plane_8,
     predict_in_plane_16,
 };
 
-// The columns and rows of the transforms of each size.
+// The columns and rows of each transform size.
 const SIDES: [(usize, usize); 19] = [
     (4, 4),
     (8, 8),
@@ -28,14 +29,14 @@ const SIDES: [(usize, usize); 19] = [
     (64, 16),
 ];
 
-/// A transform, and what of its tile lies round it, as a plane of its own: a row above and a column to the left of the transform, where the tile has
-/// them, and to the right and below as many samples again as an edge may have.
+/// A transform block and what its tile has around it, as a plane of its own: the row above, the
+/// column to the left, and to the right and below as many more samples as an edge may have.
 pub(crate) struct Window {
-    /// The plane that the window is, all of it in the tile that the transform lies in.
+    /// The window as a plane, all of it in the tile of the transform.
     pub plane: EdgePlane,
-    /// The transform in it.
+    /// The transform in the window.
     pub block: EdgeBlock,
-    // Where the window begins in the tile.
+    // The position of the window in the tile.
     at: (usize, usize),
     // The columns and rows of the transform.
     sides: (usize, usize),
@@ -44,11 +45,13 @@ pub(crate) struct Window {
 }
 
 impl Window {
-    /// The window of a transform in a tile, of which a region has so many columns and rows.
+    /// The window of a transform in a tile; `region` is how many columns and rows the tile's region
+    /// has.
     ///
     /// # Errors
     ///
-    /// `BadArea`: the tile doesn't lie in the plane, the transform doesn't begin in the tile, or the region hasn't all of one of them.
+    /// `BadArea`: the tile doesn't lie in the plane, the transform doesn't begin in the tile, or
+    /// the region doesn't have all of one of them.
     pub fn new(
         region: (usize, usize),
         plane: &EdgePlane,
@@ -94,7 +97,7 @@ impl Window {
         })
     }
 
-    /// The samples of the window, of which those that an edge has are loaded.
+    /// The samples of the window. Those of the edge are loaded.
     pub fn load<'a, T: Copy + Default>(
         &self,
         tile: &Region<'_, T>,
@@ -115,7 +118,7 @@ impl Window {
         samples
     }
 
-    /// Puts the transform of the window into the tile.
+    /// Writes the transform of the window to the tile.
     fn store<T: Copy + Default>(
         &self,
         tile: &mut RegionMut<'_, T>,
@@ -127,7 +130,7 @@ impl Window {
     }
 }
 
-// Whether of `all` columns or rows there are `count` from number `from` on.
+// Whether `all` columns or rows have `count` from number `from` on.
 fn holds(all: usize, from: usize, count: usize) -> bool {
     matches!(from.checked_add(count), Some(end) if end <= all)
 }
@@ -135,13 +138,14 @@ fn holds(all: usize, from: usize, count: usize) -> bool {
 macro_rules! tile_calls {
     ($sample:ident, $predict_in_plane:ident, $predict_in_tile:ident, #[doc = $like:literal]) => {
         #[doc = $like]
-        /// in a tile that is a region: it begins with the first sample of the tile, and has all of the tile and of the transform. Of the tile only the
-        /// samples round the transform are read from which its edge is prepared, and only those of the transform are written. Where the samples of
-        /// `plane` stand (`stride`, `x`, `y`) is not read.
+        /// in a tile that is a region, whose first sample is the tile's. The region must have all
+        /// columns and rows of the tile and of the transform. The call reads only the samples
+        /// around the transform that its edge needs, and writes only those of the transform. The
+        /// `stride`, `x` and `y` of `plane` are not read.
         ///
         /// # Errors
         ///
-        /// `BadArea`, or as that call. The samples are then as they were.
+        /// `BadArea`, then those of that call. The samples are then unchanged.
         pub fn $predict_in_tile(
             tile: &mut RegionMut<'_, $sample>,
             room: &mut BlockRoom<$sample>,
@@ -170,11 +174,11 @@ tile_calls!(
     u8,
     predict_in_plane_8,
     predict_in_tile_8,
-    /// The same as [`predict_in_plane_8`](crate::predict_in_plane_8)
+    /// [`predict_in_plane_8`](crate::predict_in_plane_8)
 );
 tile_calls!(
     u16,
     predict_in_plane_16,
     predict_in_tile_16,
-    /// The same as [`predict_in_plane_16`](crate::predict_in_plane_16)
+    /// [`predict_in_plane_16`](crate::predict_in_plane_16)
 );

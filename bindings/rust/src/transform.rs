@@ -1,12 +1,12 @@
-//! The inverse transform of a block, added to samples of the caller.
+//! The inverse transform of a block, added to the caller's samples.
 
 use crate::{Error, sys, told};
 
-/// Room for one block between the passes of its transform, and for its scaled coefficients. What it holds before a call doesn't matter.
+/// Scratch memory for the transform of one block. Its contents before a call don't matter.
 pub struct TransformScratch(Box<sys::TransformScratch>);
 
 impl TransformScratch {
-    /// Room for every size, 64x64 included.
+    /// Scratch memory for every size, 64x64 included.
     pub fn new() -> TransformScratch {
         TransformScratch(Box::new(sys::TransformScratch { words: [0; 6144] }))
     }
@@ -31,13 +31,14 @@ pub struct TransformBlock {
     pub y: usize,
 }
 
-/// Adds the residue of a block's coefficients to samples of 8 bits, whose rows stand `stride` apart, and clips, at a depth of 8. The
-/// coefficient of row r and column c stands at `c * min(height, 32) + r`; the rows and columns from 32 on have none. Those that `coefficients`
-/// is too short for are 0, and cost nothing, so that it may end behind the last that isn't 0.
+/// Adds the residual of a block to samples of 8 bits whose rows are `stride` samples apart, and
+/// clips the sums to a depth of 8. Coefficients are ordered column by column: row r of column c is
+/// at `c * min(height, 32) + r`. Rows and columns from 32 on have no coefficients. The list may end
+/// after the last nonzero one: missing ones are 0 and cost nothing.
 ///
 /// # Errors
 ///
-/// `BadSize`, then `BadType`, then `BadArea`. The samples are then as they were.
+/// `BadSize`, then `BadType`, then `BadArea`. The samples are then unchanged.
 pub fn inverse_transform_add_8(
     scratch: &mut TransformScratch,
     coefficients: &[i16],
@@ -45,7 +46,7 @@ pub fn inverse_transform_add_8(
     stride: usize,
     block: TransformBlock,
 ) -> Result<(), Error> {
-    // SAFETY: pointers and lengths are those of slices that are lent for the call, of which `samples` is lent to nobody else.
+    // SAFETY: pointers and lengths come from borrowed slices, `samples` borrowed mutably.
     told(unsafe {
         sys::av1_inverse_transform_add_8(
             &mut scratch.0,
@@ -62,13 +63,14 @@ pub fn inverse_transform_add_8(
     })
 }
 
-/// The same for samples of 16 bits at a depth of 8, 10 or 12. A sample that is past the depth is clipped with what is added to it.
-/// Where rav1e's transforms differ from AV1's, it does as AV1.
+/// [`inverse_transform_add_8`] for samples of 16 bits at a depth of 8, 10 or 12. A sample past the
+/// depth is clipped after the addition. If rav1e's transform differs from AV1's, this call follows
+/// AV1.
 ///
 /// # Errors
 ///
-/// `BadSize`, then `BadType`, then `BadArea`, then `BadDepth`, then `BadCoefficient`: one of the transform's coefficients
-/// has more than `bit_depth + 8` bits, its sign among them. The samples are then as they were.
+/// `BadSize`, then `BadType`, then `BadArea`, then `BadDepth`, then `BadCoefficient`: a coefficient
+/// has more than `bit_depth + 8` bits, sign included. The samples are then unchanged.
 pub fn inverse_transform_add_16(
     scratch: &mut TransformScratch,
     coefficients: &[i32],
@@ -95,12 +97,13 @@ pub fn inverse_transform_add_16(
     })
 }
 
-/// The same by rav1e's rule, which differs above a depth of 8. At a depth of 12 its identities of 4 and 16 values along rows wrap at 32 bits, where
-/// AV1's don't. And lossless blocks (`WHT_WHT`) are clamped between the passes, as all others.
+/// [`inverse_transform_add_16`] by rav1e's rules, which differ above a depth of 8. At depth 12 the
+/// identities of 4 and 16 values along rows wrap at 32 bits, and AV1's do not. Lossless blocks
+/// (`WHT_WHT`) are clamped between the passes, like all other blocks.
 ///
 /// # Errors
 ///
-/// Those of [`inverse_transform_add_16`]. The samples are then as they were.
+/// Those of [`inverse_transform_add_16`]. The samples are then unchanged.
 pub fn inverse_transform_add_rav1e_16(
     scratch: &mut TransformScratch,
     coefficients: &[i32],
@@ -127,12 +130,13 @@ pub fn inverse_transform_add_rav1e_16(
     })
 }
 
-/// The same as [`inverse_transform_add_16`], but that a coefficient of more bits is cut to the nearest number of `bit_depth + 8` bits, as AV1 cuts
-/// what it dequantizes. At a depth of 8 such a coefficient does not fit `i16`, so that there is no such call for samples of 8 bits.
+/// [`inverse_transform_add_16`] for coefficients of any size: a larger coefficient is clamped to
+/// `bit_depth + 8` bits, as AV1 clamps what it dequantizes. At a depth of 8 such a coefficient does
+/// not fit `i16`, so there is no such call for samples of 8 bits.
 ///
 /// # Errors
 ///
-/// `BadSize`, then `BadType`, then `BadArea`, then `BadDepth`. The samples are then as they were.
+/// `BadSize`, then `BadType`, then `BadArea`, then `BadDepth`. The samples are then unchanged.
 pub fn inverse_transform_add_clamped_16(
     scratch: &mut TransformScratch,
     coefficients: &[i32],

@@ -19,7 +19,8 @@ const fn number(digits: &str) -> u32 {
     value
 }
 
-/// The version of the archive that is linked, made up in the same way. It is [`VERSION`] where the crate was built with its own archive.
+/// The version of the linked archive, in the form of [`VERSION`]. The two are equal if the crate
+/// was built with its own archive.
 pub fn version() -> u32 {
     // SAFETY: the call takes nothing and writes nothing.
     unsafe { sys::av1_c_version() }

@@ -14,6 +14,8 @@ BUILD = [
     edits.Edit("a build of the whole program at once", "Cargo.toml", 'debug = 2\nincremental = true', "debug = false\nincremental = false\ncodegen-units = 1"),
     edits.Edit("the module", "src/lib.rs", "mod predict;\n", "mod predict;\npub mod wrapper;\n"),
 ]
+LOSSLESS = edits.Edit("lossless blocks", edits.INVERSE, "let range = cmp::max(bd + 6, 16);",
+                      "let range = crate::wrapper::range_of_columns(lossless, cmp::max(bd + 6, 16));")
 
 
 def of_wrapper(edit):
@@ -29,4 +31,4 @@ def apply(crate):
     with open(os.path.join(crate, "src/bin/rav1e.rs"), "w", encoding="utf-8") as file:
         file.write("fn main() {\n  rav1e::wrapper::main()\n}\n")
     own = [of_wrapper(edit) for edit in edits.SETTINGS if edit.what in AS_AV1]
-    edits.apply_all(crate, [edits.TESTS, *edits.LESS, *BUILD, *own])
+    edits.apply_all(crate, [edits.TESTS, *edits.LESS, *BUILD, *own, LOSSLESS])

@@ -45,7 +45,7 @@ impl Answer {
   }
 }
 
-/// Set for files of version 3, in which the sharp filter and identities are AV1's and not rav1e's.
+/// Set for files of version 3, in which the sharp filter, identities and lossless blocks are AV1's and not rav1e's.
 static AS_AV1: AtomicBool = AtomicBool::new(false);
 
 /// Says whether samples are of version 3.
@@ -68,6 +68,16 @@ pub fn scaled(factor: i32, value: i32) -> i32 {
     (factor as i64 * value as i64 + (1 << 11) >> 12) as i32
   } else {
     factor.wrapping_mul(value).wrapping_add(1 << 11) >> 12
+  }
+}
+
+/// The bits to which values are clamped between rows and columns: rav1e's, or in version 3 AV1's, which has no such clamp in a
+/// lossless block.
+pub fn range_of_columns(lossless: bool, range: usize) -> usize {
+  if lossless && AS_AV1.load(Relaxed) {
+    32
+  } else {
+    range
   }
 }
 
