@@ -149,6 +149,7 @@ module _ {T C : Type 0} {g : _} {ord : _} {eq : _} {partial : _} {coeff : _} (k 
         (subst (λ (x : Header). StoresAll g.num x q) back stores) same
 
     pub room_over : (own_h : Header) → own_h ≡ frame_header k.frames k.slots head → HasRoomFor own_h s.memory
+    unfolding coded_width coded_height
     room_over own_h e = subst (λ (x : Header). HasRoomFor x s.memory) (own_seen ∙ sym e) s.room
 
     -- the samples have the frame's depth

@@ -15,7 +15,7 @@ use Rattle.av1_plan.specs.Grammar.{plan_behind, superblocks}
 use Rattle.av1_plan.specs.Plan.{LeafValue, PlanValue}
 use Rattle.av1_plan.specs.Spelling.{AreText, Spells}
 use Rattle.av1_streams.specs.Streams.{AppendsPrefix}
-use Rattle.av1_streams.specs.Tasks.{read_failed, refused, too_long, write_failed}
+use Rattle.av1_streams.specs.Tasks.{read_failed, too_long, write_failed}
 use Rattle.av1_streams.proofs.Performing.{is_err}
 use Rattle.av1_streams.proofs.Prefixes.{AppendsPrefix-after}
 use Rattle.av1_tile.specs.Canvas.{Component, Y, U, V}

@@ -115,6 +115,8 @@ class Judged:
 
     def blocking(self):
         """For each tool that plans lack, the leaves that aren't judged whole for it; most first."""
+        if not self.plans:
+            return {}
         counts = {}
         for leaf, level, found in zip(self.frame.leaves, self.levels, self.lacks):
             if level != plans.WHOLE:

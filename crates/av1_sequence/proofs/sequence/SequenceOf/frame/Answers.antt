@@ -1,6 +1,9 @@
-use Rattle.std.proofs.Common.{length, refl}
+use Rattle.std.proofs.Common.{length, refl, subst, sym}
+use Rattle.av1_plan.specs.ReadPlans.{IsReadFrame}
 use Rattle.av1_plan.specs.Values.{leaves_value}
+use Rattle.av1_sequence.specs.Kept.{slots_shown}
 use Rattle.av1_sequence.proofs.Framed.{accepts_over, refused_over, short_seen, spelled_over, valid_over}
+use Rattle.av1_sequence.proofs.Serving.{read_header}
 use Rattle.av1_sequence.proofs.sequence.SequenceOf.frame.Goals as goal
 
 pub returns-in-Err-clause-refused : goal.returns-in-Err-clause-refused
@@ -10,6 +13,12 @@ returns-in-Err-clause-refused g c =
     c.reference_bytes.ensures.value refl c.if-reference_bytes-part-gt-MOST_BYTES.false in
     refused_over c.args.self.now c.self.inside c.self.view_is c.args.head.now c.frame_header-header.result c.args.part.now c.frame_header-header.ensures
     c.in-Err.error short c.in-Err.ensures.refused
+
+pub read_leaves-requires-clause-frame : goal.read_leaves-requires-clause-frame
+read_leaves-requires-clause-frame g c =
+    let kept = c.self.inside.pictures in
+    subst IsReadFrame (sym c.frame_header-header.ensures)
+    (read_header kept.header (slots_shown g.T.Pixel.num kept.header kept.fi kept.places) c.args.head.now kept.keeps.frame c.requires.head)
 
 pub show-requires-clause-spelled : goal.show-requires-clause-spelled
 show-requires-clause-spelled g c =
