@@ -1,31 +1,25 @@
 // A plan that is built.
+use super::support::WHOLE;
 use av1_blocks::{FilterMode, PredictionMode, TxSize, TxType};
 use av1_plan::{ChromaMode, Header, LeafKind};
 use av1_planwrite::{BuildError, PlanBuilder};
 use std::test::Fail;
 
-/// 8x8 at depth 8, of one leaf that is predicted by DC.
-const WHOLE: [u8; 34] = [
-    0x52, 0x50, 0x4C, 0x31, 8, 0, 8, 0, 8, 0, 0, 0, 0, 0, 0, 0, 0, 0, 0, 0, // the header
-    0, // the mark
-    0, 0, 0, 0, 4, 0, 0, 0, 0, 0, 0, 0, 0, // the leaf
-];
-
 /// The type of all transforms here.
 const DCT: TxType = TxType::DCT_DCT;
 
-/// The header of an 8x8 plan at depth 8.
-fn header() -> Header {
+/// The header of an 8x8 plan at depth 8 in this sampling, with planes in the slots of the mask.
+fn header(sampling: u8, mask: u8) -> Header {
     Header {
         version: 1,
         width: 8,
         height: 8,
         depth: 8,
-        sampling: 0,
+        sampling,
         filter: FilterMode::REGULAR,
         edge_filter: false,
         slots: [0; 7],
-        mask: 0,
+        mask,
     }
 }
 
@@ -38,7 +32,7 @@ fn by_dc() -> LeafKind {
 
 #[test]
 fn a_plan_is_built_field_by_field(rt: HostRuntime) -> Result<(), Fail> {
-    let Ok(mut builder) = PlanBuilder::new(rt.alloc(), &header()) else {
+    let Ok(mut builder) = PlanBuilder::new(rt.alloc(), &header(0, 0)) else {
         return Err(Fail::new("the header is admitted"));
     };
     assert_eq!(rt; builder.mark(0), Ok(()));
@@ -52,5 +46,23 @@ fn a_plan_is_built_field_by_field(rt: HostRuntime) -> Result<(), Fail> {
         return Err(Fail::new("all fields are given"));
     };
     assert_eq!(rt; bytes.as_slice(), WHOLE.as_slice());
+    Ok(())
+}
+
+#[test]
+fn planes_of_a_slot_are_taken_within_the_depth(rt: HostRuntime) -> Result<(), Fail> {
+    let Ok(mut builder) = PlanBuilder::new(rt.alloc(), &header(2, 1)) else {
+        return Err(Fail::new("the header is admitted"));
+    };
+    let chroma = [128; 64];
+    let mut luma = [0; 64];
+    for i in 0..64u16 {
+        luma[usize::from(i)] = 10 * (i % 8);
+    }
+    let mut deep = luma;
+    deep[63] = 256;
+    let refused = builder.reference(&deep, &chroma, &chroma);
+    assert_eq!(rt; refused, Err(BuildError::NotAdmitted));
+    assert_eq!(rt; builder.reference(&luma, &chroma, &chroma), Ok(()));
     Ok(())
 }

@@ -1,6 +1,9 @@
 // Running out of memory.
 use super::support::{PLAN, PLANES, are_planes};
-use av1_recon::{MemSink, ReconError, SliceSource, reconstruct_plan};
+use av1_edges::IntraEdgeBuffer;
+use av1_inter::InterCompoundBuffers;
+use av1_recon::{MemSink, ReconError, SliceSource, read_plan_bytes, reconstruct_plan};
+use std::test::Fail;
 
 // With ample memory the planes are written. Where an allocation fails, as in a run that lets each fail in turn, nothing
 // is.
@@ -17,4 +20,14 @@ fn running_out_of_memory_writes_nothing(rt: HostRuntime) {
             assert!(rt; sink.bytes().is_empty());
         }
     }
+}
+
+#[test]
+fn buffers_are_made_with_ample_memory(rt: HostRuntime) -> Result<(), Fail> {
+    let edges = IntraEdgeBuffer::<u8>::new(rt.alloc())?;
+    assert_eq!(rt; edges.prepared(), 0);
+    assert!(rt; InterCompoundBuffers::new(rt.alloc()).is_ok());
+    let bytes = read_plan_bytes(rt.alloc(), &mut SliceSource::new(&PLAN, 30, &[]))?;
+    assert_eq!(rt; bytes.as_slice(), PLAN.as_slice());
+    Ok(())
 }

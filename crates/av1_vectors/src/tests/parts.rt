@@ -1,6 +1,7 @@
 // Chroma that small leaves from references share.
+use super::support::{planes_of, refusal_of};
 use av1_plan::InvalidKind;
-use av1_recon::{MemSink, ReconError, SliceSource, reconstruct_plan};
+use av1_recon::ReconError;
 use std::alloc::Global;
 use std::test::Fail;
 
@@ -46,14 +47,10 @@ fn chroma_of(alloc: Global, leaves: &[u8]) -> Result<Vec<u8>, Fail> {
     let mut plan = Vec::new(alloc);
     plan.extend_from_slice(front().as_slice())?;
     plan.extend_from_slice(leaves)?;
-    let mut source = SliceSource::new(plan.as_slice(), 65536, &[]);
-    let mut sink = MemSink::new(alloc, 1000, 65536, &[])?;
-    let Ok(()) = reconstruct_plan(alloc, &mut source, &mut sink) else {
-        return Err(Fail::new("the plan is reconstructed"));
-    };
+    let planes = planes_of(alloc, &plan)?;
     let mut chroma = Vec::new(alloc);
-    if sink.bytes().len() == PLANES {
-        chroma.extend_from_slice(&sink.bytes()[64..80])?;
+    if planes.len() == PLANES {
+        chroma.extend_from_slice(&planes[64..80])?;
     }
     Ok(chroma)
 }
@@ -80,13 +77,10 @@ fn earlier_versions_have_no_such_leaves(rt: HostRuntime) -> Result<(), Fail> {
     plan.extend_from_slice(front().as_slice())?;
     plan.extend_from_slice(&QUARTERS)?;
     plan.as_mut_slice()[3] = 0x32;
-    let mut source = SliceSource::new(plan.as_slice(), 65536, &[]);
-    let mut sink = MemSink::new(rt.alloc(), 1000, 65536, &[])?;
-    let answer = reconstruct_plan(rt.alloc(), &mut source, &mut sink);
     let refused = ReconError::Invalid {
         leaf: 0,
         kind: InvalidKind::Mode,
     };
-    assert_eq!(rt; answer, Err(refused));
+    assert_eq!(rt; refusal_of(rt.alloc(), &plan)?, refused);
     Ok(())
 }

@@ -1,6 +1,6 @@
 // Frames of any sides.
-use super::support::planes_of;
-use av1_recon::{MemSink, ReconError, SliceSource, reconstruct_plan};
+use super::support::{planes_of, refusal_of};
+use av1_recon::ReconError;
 use std::test::Fail;
 
 /// One sample of luma at depth 8 in 4:2:0, and one leaf that is predicted by DC.
@@ -65,9 +65,9 @@ fn motion_past_a_side_reads_the_last_sample_that_is_shown(rt: HostRuntime) -> Re
 fn earlier_versions_have_multiples_of_8(rt: HostRuntime) -> Result<(), Fail> {
     let mut plan = ONE;
     plan[3] = 0x32;
-    let mut source = SliceSource::new(&plan, 65536, &[]);
-    let mut sink = MemSink::new(rt.alloc(), 1000, 65536, &[])?;
-    let answer = reconstruct_plan(rt.alloc(), &mut source, &mut sink);
-    assert_eq!(rt; answer, Err(ReconError::Malformed { at: 4 }));
+    assert_eq!(rt;
+        refusal_of(rt.alloc(), &plan)?,
+        ReconError::Malformed { at: 4 }
+    );
     Ok(())
 }

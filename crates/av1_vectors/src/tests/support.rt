@@ -1,9 +1,9 @@
-// A worked plan and its planes, what any plan comes to, and the samples of a block.
+// Worked plans, what a plan comes to or is refused for, and the samples of a block.
 ghost use Rattle.std.specs.Prelude.{◌≤◌};
 ghost use Rattle.av1_frame.specs.Regions.{InStorage};
 
 use av1_frame::PlaneRegionMut;
-use av1_recon::{MemSink, SliceSource, reconstruct_plan};
+use av1_recon::{MemSink, ReconError, SliceSource, reconstruct_plan};
 use std::alloc::Global;
 use std::test::Fail;
 
@@ -18,10 +18,17 @@ pub const PLAN: [u8; 83] = [
     0, 0, 0, 0, 0, 0, 0, 0, 0, 0, 0, 0, 0, // the fourth
 ];
 
-/// How many bytes its planes have.
+/// An 8x8 frame in 4:2:0 at depth 8, of one leaf that is predicted by DC.
+pub const WHOLE: [u8; 34] = [
+    0x52, 0x50, 0x4C, 0x31, 8, 0, 8, 0, 8, 0, 0, 0, 0, 0, 0, 0, 0, 0, 0, 0, // the header
+    0, // the mark
+    0, 0, 0, 0, 4, 0, 0, 0, 0, 0, 0, 0, 0, // the leaf
+];
+
+/// How many bytes the planes of `PLAN` have.
 pub const PLANES: usize = 192;
 
-/// Whether these are its planes.
+/// Whether these are the planes of `PLAN`.
 pub fn are_planes(bytes: &[u8]) -> bool {
     let mut planes = [128; PLANES];
     planes[..64].fill(131);
@@ -38,6 +45,16 @@ pub fn planes_of(alloc: Global, bytes: &[u8]) -> Result<Vec<u8>, Fail> {
     let mut planes = Vec::new(alloc);
     planes.extend_from_slice(sink.bytes())?;
     Ok(planes)
+}
+
+/// What a plan is refused for.
+pub fn refusal_of(alloc: Global, bytes: &[u8]) -> Result<ReconError, Fail> {
+    let mut source = SliceSource::new(bytes, 65536, &[]);
+    let mut sink = MemSink::new(alloc, 2000, 65536, &[])?;
+    match reconstruct_plan(alloc, &mut source, &mut sink) {
+        Ok(()) => Err(Fail::new("the plan is refused")),
+        Err(error) => Ok(error),
+    }
 }
 
 /// The samples of a block of 4 by 4.

@@ -1,4 +1,8 @@
 // Inverse transforms of one line and of a block.
+ghost use Rattle.std.specs.Prelude.{◌≢◌, ◌≤◌, IsTrue};
+ghost use Rattle.av1_blocks.specs.Transforms.{tx_width, tx_height, valid_av1_transform};
+ghost use Rattle.av1_blocks.specs.declared.transform.TxType.TheVariants.{WHT_WHT};
+
 use super::support::four_rows;
 use av1_blocks::{TxSize, TxType};
 use av1_dct::av1_idct4;
@@ -6,6 +10,7 @@ use av1_frame::Plane;
 use av1_itx::{
     TxScratch, av1_iidentity4, av1_iwht4, inverse_transform_add, inverse_transform_add_with,
 };
+use std::alloc::Global;
 use std::test::Fail;
 
 #[test]
@@ -63,24 +68,27 @@ fn coefficients_stand_column_by_column(rt: HostRuntime) -> Result<(), Fail> {
 /// Two coefficients, all others being 0: a block of a first one alone takes a way of its own.
 const TWO: [i16; 2] = [8, 8];
 
+/// How many groups of eight columns a block with two coefficients puts through the lanes.
+fn groups_of(alloc: Global, tx_size: TxSize, tx_type: TxType) -> Result<u64, Fail>
+    requires valid { IsTrue (valid_av1_transform tx_size tx_type) }
+    requires lossy { tx_type ≢ WHT_WHT }
+    requires columns { tx_width tx_size ≤ 16 }
+    requires rows { tx_height tx_size ≤ 16 }
+{
+    let mut plane = Plane::<u8>::new(alloc, 16, 16, 0, 0, 0, 0)?;
+    let mut scratch = TxScratch::new(alloc)?;
+    let mut block = plane.as_region_mut();
+    inverse_transform_add_with(&mut scratch, &TWO, &mut block, tx_size, tx_type, 8);
+    Ok(scratch.lane_groups())
+}
+
 #[test]
 fn cosine_columns_go_by_eights(rt: HostRuntime) -> Result<(), Fail> {
-    let mut plane = Plane::<u8>::new(rt.alloc(), 16, 16, 0, 0, 0, 0)?;
-    let mut block = plane.as_region_mut();
-    let mut scratch = TxScratch::new(rt.alloc())?;
-    let dct = TxType::DCT_DCT;
-    inverse_transform_add_with(&mut scratch, &TWO, &mut block, TxSize::TX_16X16, dct, 8);
-    assert_eq!(rt; scratch.lane_groups(), 2, "16 columns");
-    inverse_transform_add_with(&mut scratch, &TWO, &mut block, TxSize::TX_8X8, dct, 8);
-    assert_eq!(rt; scratch.lane_groups(), 3, "8 columns more");
-    inverse_transform_add_with(&mut scratch, &TWO, &mut block, TxSize::TX_4X4, dct, 8);
-    assert_eq!(rt; scratch.lane_groups(), 3, "4 columns more");
-    let adst = TxType::ADST_DCT;
-    inverse_transform_add_with(&mut scratch, &TWO, &mut block, TxSize::TX_16X16, adst, 8);
-    assert_eq!(rt;
-        scratch.lane_groups(),
-        3,
-        "16 columns more by a sine transform"
-    );
+    let cosine = TxType::DCT_DCT;
+    assert_eq!(rt; groups_of(rt.alloc(), TxSize::TX_16X16, cosine)?, 2);
+    assert_eq!(rt; groups_of(rt.alloc(), TxSize::TX_8X8, cosine)?, 1);
+    assert_eq!(rt; groups_of(rt.alloc(), TxSize::TX_4X4, cosine)?, 0);
+    let sine = TxType::ADST_DCT;
+    assert_eq!(rt; groups_of(rt.alloc(), TxSize::TX_16X16, sine)?, 0);
     Ok(())
 }

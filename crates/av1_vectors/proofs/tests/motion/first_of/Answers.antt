@@ -1,4 +1,4 @@
-use Rattle.std.proofs.Common.{◌≡◌, ◌∙◌, ℕ, ◌<◌, arith, subst, sym, replicate}
+use Rattle.std.proofs.Common.{◌∙◌, ◌<◌, arith, subst, sym, replicate}
 use Rattle.std.specs.List.{All}
 use Rattle.std.proofs.lemmas.List.Elements.{All-set, All-replicate}
 use Rattle.av1_frame.proofs.Within.{number_below}
