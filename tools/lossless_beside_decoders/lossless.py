@@ -21,7 +21,7 @@ Both decoders run by their plain code and by their vector code. The vector code 
 differ in the last two kinds.
 
 A line names each frame that differs, with the first sample that does. FOLDER gets the stream and the plan of each. FILE gets
-all plans as rows (docs/ROWS.md) with dav1d's samples, except monochrome ones. The status is 1 if a frame differs that may not:
+all plans as rows (tools/record_rows/README.md) with dav1d's samples, except monochrome ones. The status is 1 if a frame differs that may not:
 PROGRAM or aomdec's plain code in any kind, vector code in the first three.
 
 On Debian 12: apt-get install --no-install-recommends dav1d aom-tools librust-rav1e-dev

@@ -4,7 +4,7 @@
     integrations/rav1e/source
     tools/record_rows/draw_runs.py FILE SEED..
 
-FILE gets rows as docs/ROWS.md says, some 120 for each seed: plans of each version, grids, traces, sequences and plans without their coefficients,
+FILE gets rows as README.md here says, some 120 for each seed: plans of each version, grids, traces, sequences and plans without their coefficients,
 and each of them broken in one way. `av1_rows < FILE` replays them. Where rav1e departs from AV1 in version 3 (`integrations/rav1e/answer`) there is no row.
 It needs `cargo` and Python 3.
 """
