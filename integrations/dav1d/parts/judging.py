@@ -61,18 +61,19 @@ def grid_difference(plan, defined):
 
 
 def difference(tool, plan):
-    """None, or plane, row, column, the decoder's value and the defined one."""
+    """None, or plane, row, column, the decoder's value and the defined one; and how many leaves differ (bytes in a grid)."""
     if plan.is_grid:
         status, out, error = run([tool, "tiles"], plan.text)
         if status == 0:
-            return None if out == plan.planes else grid_difference(plan, out)
+            count = sum(ours != theirs for ours, theirs in zip(out, plan.planes))
+            return (grid_difference(plan, out), count) if count else (None, 0)
     else:
         status, out, error = run([tool, "trace"], trace(plan))
         words = out.decode().split()
         if status == 0 and words[:1] == ["same"]:
-            return None
+            return None, 0
         if words[:1] == ["leaf"]:
-            return tuple(int(words[i]) for i in (3, 5, 7, 9, 11))
+            return tuple(int(words[i]) for i in (3, 5, 7, 9, 11)), words.count("leaf")
     sys.exit(f"{tool} {'tiles' if plan.is_grid else 'trace'} ended with status {status}: {error}")
 
 
@@ -97,7 +98,7 @@ class Judged:
 
     def __init__(self, frame, tool):
         self.frame, self.plans, self.line, self.fields, self.worst = frame, [], None, None, None
-        self.lacks, self.levels, self.found = [], [], []
+        self.lacks, self.levels, self.found, self.differing = [], [], [], 0
         if frame.error:
             self.why = "not judged: the decoder rejects the frame"
             return
@@ -108,7 +109,8 @@ class Judged:
             return
         self.plans, self.levels = plans.plans(frame, self.lacks)
         for plan in self.plans:
-            found = difference(tool, plan)
+            found, count = difference(tool, plan)
+            self.differing += count
             if found and not self.line:
                 self.line, self.fields = described(plan, found)
                 self.worst = plan
