@@ -4,7 +4,7 @@
     bindings/declared.py [--check]
 
 It reads the crates `av1_c` and `av1_calls`: the size of each struct that crosses to C, the type and the offset of each
-field, the number of each constant, and the parameters and the result of each call. From these it writes assertions about
+field, the number of each constant, and the parameters and the result of each call. It writes assertions about
 `c/av1_c.h` into `c/declared.c`, and about the Rust crate into `rust/src/declared.rs`, which compile only if they hold.
 `c/av1_c.map` lists the calls for the linker. With --check it writes nothing, and the status is 1 if a file differs from
 what it would write.

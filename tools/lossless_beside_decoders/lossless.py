@@ -16,7 +16,7 @@ Frames are of five kinds, by their coefficients:
 - `farther`: those of a residual of up to depth + 8 bits;
 - `any`: of any size, up to the limit and past it, where decoders clip them.
 
-Both decoders run by their plain code and by their vector code. The vector code of aomdec, and at 8 bits that of dav1d, adds in
+Both decoders run by their plain code and by their vector code. The vector code of aomdec, and at 8 bits also dav1d's, adds in
 16 bits: if a sample and its residual sum to more than 32767, it writes 0 in place of the greatest sample. So vector code may
 differ in the last two kinds.
 

@@ -1,11 +1,12 @@
 #!/usr/bin/env python3
-"""Flags the worst patterns of prose (docs/STYLE.md) in pages and comments.
+"""Flags the worst patterns of prose (docs/STYLE.md) in pages, comments and messages.
 
     prose.py [--check | --write-baseline] [FILE..]
 
-Reads what git tracks of *.md, //! and /// in .rt, comments in .h and specs/*.antt, without fences and text in backticks. With no
-flag it prints every finding. --check fails if a file has more findings of a rule than tools/prose/baseline.txt. --write-baseline
-stores the counts; it raises one only in a FILE that is named.
+Reads what git tracks of *.md, //! and /// in .rt, comments in .h and specs/*.antt, without fences and text in backticks; and of
+scripts in tools/, integrations/ and bindings/ their usage and their error messages. With no flag it prints every finding. --check
+fails if a file has more findings of a rule than tools/prose/baseline.txt. --write-baseline stores the counts; it raises one only
+in a FILE that is named.
 """
 import collections
 import os
@@ -13,10 +14,14 @@ import re
 import subprocess
 import sys
 
+from messages import messages_of
+
 HERE = os.path.dirname(os.path.abspath(__file__))
 TOP, BASELINE = os.path.dirname(os.path.dirname(HERE)), os.path.join(HERE, "baseline.txt")
 WRITTEN = {"docs/TRUSTED.md", "docs/STYLE.md"}  # the first is written by a tool, the second quotes what not to write
 COMMENT = {".rt": re.compile(r"\s*//[/!] ?(.*)"), ".h": re.compile(r"(?:.*?(?://|/\*+)|\s*\*(?!/)) ?(.*)"), ".antt": re.compile(r"(?:.*\s)?-- ?(.*)")}
+QUOTED = r"`[^`]*`|\]\([^)]*\)|~~.*?~~"
+SCRIPTS = ("tools/", "integrations/", "bindings/", "tilgwaren")
 END = r"(?=[.,;:)]|$)"
 RULES = {name: re.compile(pattern) for name, pattern in {
     "word": r"\b(?:residues?|refuses?|takes? (?:no )?memory|answers? (?:a|the|one|0|Ok)\b|asks? (?:nothing|for nothing)|work room)\b",
@@ -33,7 +38,11 @@ RULES = {name: re.compile(pattern) for name, pattern in {
 def prose_of(path):
     """(number, text) of each line of prose in a file"""
     kind, is_fenced = os.path.splitext(path)[1], False
-    with open(os.path.join(TOP, path), encoding="utf8") as handle:
+    with open(os.path.join(TOP, path), encoding="utf8", errors="replace") as handle:
+        if kind not in COMMENT and kind != ".md":
+            for number, text in messages_of(path, handle.read()):
+                yield number, re.sub(QUOTED, "_", text)
+            return
         for number, line in enumerate(handle, 1):
             if kind == ".md":
                 is_fenced ^= line.lstrip().startswith("```")
@@ -41,7 +50,7 @@ def prose_of(path):
             else:
                 found = COMMENT[kind].match(line)
                 text = found[1] if found else ""
-            yield number, re.sub(r"`[^`]*`|\]\([^)]*\)|~~.*?~~", "_", text)
+            yield number, re.sub(QUOTED, "_", text)
 
 
 def findings(paths):
@@ -54,8 +63,9 @@ def findings(paths):
 
 def main():
     words = [word for word in sys.argv[1:] if not word.startswith("--")]
-    listed = ["git", "ls-files", "*.md", "*.rt", "*.h", "crates/*/specs/*.antt"]
+    listed = ["git", "ls-files", "*.md", "*.rt", "*.h", "crates/*/specs/*.antt", *SCRIPTS]
     tracked = subprocess.run(listed, cwd=TOP, check=True, stdout=subprocess.PIPE, text=True).stdout.split()
+    tracked = sorted({path for path in tracked if os.path.splitext(path)[1] in (".md", ".rt", ".h", ".antt", ".py", ".sh", "")})
     found = list(findings([path for path in tracked if path not in WRITTEN and (not words or path in words)]))
     counts = collections.Counter((path, rule) for path, _, rule, _ in found)
     old = collections.Counter()

@@ -1,5 +1,5 @@
 #!/usr/bin/env python3
-"""Draws other calls on blocks than those that are stored, with rav1e's answers.
+"""Draws block calls that are not stored, with rav1e's results.
 
     integrations/rav1e/source
     tools/record_rows/draw_calls.py WORK FILE SEED..

@@ -1,11 +1,11 @@
 #!/usr/bin/env python3
-"""Draws other runs of the programs than those that are stored, with the answers of rav1e's own functions.
+"""Draws runs of the programs that are not stored, with the results of rav1e's own functions.
 
     integrations/rav1e/source
     tools/record_rows/draw_runs.py FILE SEED..
 
 FILE gets rows as README.md here says, some 120 for each seed: plans of each version, grids, traces, sequences and plans without their coefficients,
-and each of them broken in one way. `av1_rows < FILE` replays them. Where rav1e departs from AV1 in version 3 (`integrations/rav1e/answer`) there is no row.
+and each of them broken in one way. `av1_rows < FILE` replays them. If rav1e differs from AV1 in version 3 (`integrations/rav1e/answer`) there is no row.
 It needs `cargo` and Python 3.
 """
 import pathlib

@@ -1,4 +1,4 @@
-"""Looks at docs/TRUSTED.md alone: whether the last definition reaches each of the others by the words that the page prints.
+"""Looks only at docs/TRUSTED.md: whether the last definition reaches each of the others by the words that the page prints.
 
 `definitions.py` decides what belongs to the page by the `use` lines of the files. This is a second look, which knows none of
 them: from the theorem on, a definition is reached where one that is reached prints its name, a name that its file has for it

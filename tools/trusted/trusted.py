@@ -8,7 +8,7 @@ ROOT is CRATE.NAME, CRATE.FILE.NAME, or CRATE for everything that the contracts 
 of the others, if a word has no definition and the head of the page does not explain it, or if a definition is used before it is
 printed. --count prints how many definitions, lines and files there are by crate.
 
-`definitions.py` reads the definitions, `chapters.py` has the chapters and what each begins with, `reached.py` looks at the page alone."""
+`definitions.py` reads the definitions, `chapters.py` has the chapters and what each begins with, `reached.py` looks only at the page."""
 import argparse
 import collections
 import difflib

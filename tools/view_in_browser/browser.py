@@ -1,4 +1,4 @@
-"""A headless Chromium that is told what to do through a pipe, by its DevTools protocol."""
+"""A headless Chromium that takes commands through a pipe, by its DevTools protocol."""
 import base64
 import json
 import os

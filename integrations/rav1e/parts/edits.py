@@ -1,8 +1,8 @@
 """The edits that turn a copy of rav1e 0.5.1 or 0.8.1 into the recorder.
 
-An edit is a file, an anchor in it, what stands in the anchor's place, and how often the anchor must stand there.  Anchors
-are short; what they are replaced by is this project's own.  What differs between the versions is given by version.  An edit
-with `within` looks only between the one place of its first part and the next place of its second.
+An edit is a file, an anchor in it, a replacement of the anchor, and how often the anchor must occur there.  Anchors are short;
+replacements are this project's own.  An edit can differ by version.  An edit with `within` looks only between the one place
+of its first part and the next place of its second.
 """
 import copy
 import os

@@ -1,4 +1,4 @@
-"""Reads plans and grids of tiles (docs/PLAN_FORMAT.md): what stands first, and the leaves in coding order."""
+"""Reads plans and grids of tiles (docs/PLAN_FORMAT.md): the header, and the leaves in coding order."""
 import struct
 
 MODES = ("DC V H D45 D135 D113 D157 D203 D67 SMOOTH SMOOTH_V SMOOTH_H PAETH CFL "

@@ -1,4 +1,4 @@
-"""What came of many clips that were compared: counts, and what they were compared with."""
+"""The results of many compared clips: counts, and the decoders."""
 import datetime
 import glob
 import os
