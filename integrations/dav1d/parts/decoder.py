@@ -80,7 +80,7 @@ def decoder(folder, version=None):
         if not error:
             return build(folder, one)
         print(error, file=sys.stderr, flush=True)
-    sys.exit(error and f"no source of dav1d can be fetched; $DEBIAN_MIRROR can name another mirror than {packages.MIRROR}")
+    sys.exit(error and f"dav1d's source cannot be fetched from {packages.MIRROR}; set $DEBIAN_MIRROR to another mirror")
 
 
 def main():

@@ -47,6 +47,6 @@ def apply(folder):
         with open(path, encoding="utf-8") as file:
             source = file.read()
         if source.count(text) != count:
-            sys.exit(f"{path}: the text of an edit is there {source.count(text)} times, not {count}: {text.strip()}")
+            sys.exit(f"{path}: the text of an edit occurs {source.count(text)} times, not {count}: {text.strip()}")
         with open(path, "w", encoding="utf-8") as file:
             file.write(source.replace(text, {"+": new + text, "-": text + new, "=": new}[how]))
