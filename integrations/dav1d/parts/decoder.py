@@ -38,7 +38,7 @@ def fetch(folder, version):
             return error
     with open(path, "rb") as file:
         if hashlib.sha256(file.read()).hexdigest() != checksum:
-            return f"{path} hasn't the checksum {checksum}: remove it and try again"
+            return f"{path}: checksum differs from {checksum}; remove the file and try again"
     return None
 
 
