@@ -113,6 +113,7 @@ for folder in out out/rattle; do
     done
     try "$folder: clang -g -fsanitize=thread regions.c" runs "" regions.c $folder clang -g -fsanitize=thread
     try "$folder: a shared library" shared $folder
+    try "$folder: the Python module" env TILGWAREN_LIBRARY="$work/libav1_c.so" python3 -m unittest discover -s python/tests
     try "$folder: cargo test" env AV1_C_FOLDER="$here/$folder" cargo test --offline --manifest-path rust/Cargo.toml --target-dir "$here/out/target"
 done
 for number in 1 2 3 4 5; do

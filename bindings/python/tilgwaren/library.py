@@ -1,0 +1,92 @@
+"""The calls of the proved library, libav1_c.so, on plans and traces."""
+import ctypes
+import ctypes.util
+import os
+from typing import NamedTuple
+
+from .planes import Planes
+
+STATUSES = {1: "out of memory", 2: "the buffer is too short", 3: "too long", 4: "malformed", 5: "invalid",
+            30: "the plan of a part would be too long", 31: "a part is malformed", 32: "a leaf of a part is invalid",
+            33: "a part shows the frame of an empty slot"}
+KINDS = {1: "block size", 2: "transform", 3: "mode", 4: "vector", 5: "missing reference", 6: "coefficient"}
+VERSION = 0x300
+
+
+class Refusal(ctypes.Structure):
+    _fields_ = [("at", ctypes.c_uint32), ("leaf", ctypes.c_uint32), ("kind", ctypes.c_uint32)]
+
+
+class PartRefusal(ctypes.Structure):
+    _fields_ = [("part", ctypes.c_uint32), *Refusal._fields_]
+
+
+class Found(ctypes.Structure):
+    _fields_ = [("leaf", ctypes.c_uint32), ("row", ctypes.c_uint16), ("column", ctypes.c_uint16), ("given", ctypes.c_uint16),
+                ("defined", ctypes.c_uint16), ("plane", ctypes.c_uint8)]
+
+
+class Difference(NamedTuple):
+    """The first sample of a leaf in one plane (0 to 2) that differs: its place in the plane, what was given, what the plan defines."""
+    leaf: int
+    plane: int
+    row: int
+    column: int
+    given: int
+    defined: int
+
+
+class RefusedError(ValueError):
+    """What the library rejects. `status` is the call's; `at`, `leaf`, `kind` and `part` say where and why."""
+
+    def __init__(self, status, refusal):
+        self.status, self.part = status, getattr(refusal, "part", 0)
+        self.at, self.leaf, self.kind = refusal.at, refusal.leaf, KINDS.get(refusal.kind)
+        where = f" at {self.at}" if status in (4, 31) else f" leaf {self.leaf}: {self.kind}" if status in (5, 32) else ""
+        super().__init__(STATUSES.get(status, f"status {status}") + where)
+
+
+def library():
+    """The library, loaded once: the file that $TILGWAREN_LIBRARY names, or the installed one."""
+    if not hasattr(library, "loaded"):
+        path = os.environ.get("TILGWAREN_LIBRARY") or ctypes.util.find_library("av1_c")
+        if not path:
+            raise OSError("libav1_c.so is not installed: install a release, or set TILGWAREN_LIBRARY to its path")
+        loaded = ctypes.CDLL(path)
+        version = loaded.av1_c_version()
+        if version >> 8 != VERSION >> 8:
+            raise OSError(f"{path} is version {version >> 16}.{version >> 8 & 255}, and this module needs 0.{VERSION >> 8 & 255}")
+        library.loaded = loaded
+    return library.loaded
+
+
+def call(name, data, refusal, *arguments):
+    data = bytes(data)
+    status = getattr(library(), name)(data, ctypes.c_size_t(len(data)), *arguments, ctypes.byref(refusal))
+    if status:
+        raise RefusedError(status, refusal)
+
+
+def planes_length(plan):
+    """How many bytes the planes of a plan have. Only its header is read."""
+    length = ctypes.c_size_t()
+    call("av1_planes_len", plan, Refusal(), ctypes.byref(length))
+    return length.value
+
+
+def reconstruct(plan):
+    """The planes that a plan defines. Raises RefusedError for one that is malformed or invalid."""
+    from .plan import Plan, read_header
+    from .fields import Reader
+    header = plan if isinstance(plan, Plan) else read_header(Reader(bytes(plan)))
+    room, written = ctypes.create_string_buffer(header.planes_length()), ctypes.c_size_t()
+    name, refusal = ("av1_reconstruct_tiles", PartRefusal()) if header.is_grid else ("av1_reconstruct_plan", Refusal())
+    call(name, plan, refusal, room, ctypes.c_size_t(len(room)), ctypes.byref(written))
+    return Planes.read(room.raw[:written.value], header.dimensions(), header.depth)
+
+
+def differences(trace, most=65536):
+    """The leaves whose samples differ in a trace (`tilgwaren.trace`), in coding order, at most so many."""
+    room, found = (Found * most)(), ctypes.c_size_t()
+    call("av1_trace_differences", trace, PartRefusal(), room, ctypes.c_size_t(most), ctypes.byref(found))
+    return [Difference(it.leaf, it.plane, it.row, it.column, it.given, it.defined) for it in room[:min(most, found.value)]]
