@@ -4,7 +4,7 @@
     tools/count/count.py             the totals, and each thing that could go
     tools/count/count.py --crates    a line for each crate
 
-The numbers come from the text of the .rt and .antt files alone. A function is counted once for each
+The numbers come only from the text of the .rt and .antt files. A function is counted once for each
 `fn` with a body or in a trait. The names of rav1e and of the C library, whose signatures are given
 from outside, are not counted as functions with too many parameters.
 """
