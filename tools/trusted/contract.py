@@ -1,7 +1,8 @@
 """The contract of the main theorem as its file has it, and what it is over: two traits, and what their kinds tell."""
 import re
+import chapters
 from definitions import cited_by_code, read
-from notation import wrapped
+from notation import filled, wrapped
 
 CONTRACT = ("crates/av1_recon/src/reconstruct.rt", r"pub fn reconstruct_plan", r"\{$")
 TRAITS = [
@@ -39,8 +40,9 @@ def roots():
 def shown():
     """the contract, its traits and their kinds"""
     lines, number = code(*CONTRACT)
-    out = ["The contract ([reconstruct.rt](../%s#L%d)):" % (CONTRACT[0], number), "", "```rust"] + lines
-    out += ["```", "", "Its two traits, and what they are for each kind of source and sink:", "", "```rust"]
+    out = ["The contract ([reconstruct.rt](../%s#L%d)):" % (CONTRACT[0], number), "", "```rust"] + lines + ["```", ""]
+    out += filled(chapters.TRAITS) + ["", "```rust"]
     out += [line for item in TRAITS for line in code(*item)[0] if line.strip()]
-    out += [line for item in KINDS for line in ghosts(*item)]
-    return [part for line in out for part in wrapped(line)] + ["```", ""]
+    out += ["```", "", "What they are for each kind of source and sink:", "", "```rust"]
+    out += [line for item in KINDS for line in ghosts(*item)] + ["```", ""] + filled(chapters.KINDS) + [""]
+    return [part for line in out for part in wrapped(line)]

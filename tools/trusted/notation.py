@@ -152,6 +152,12 @@ def printed(line):
     return line if line.strip().startswith("--") else room + shown(tree(line.strip()))
 
 
+def filled(text, width=100, first="", more=""):
+    """words in lines"""
+    text = re.sub(r"\s+", " ", text).strip()
+    return textwrap.wrap(text, width, initial_indent=first, subsequent_indent=more, break_long_words=False, break_on_hyphens=False)
+
+
 def wrapped(line):
     """a line, broken if it is longer than the page"""
     if len(line) <= WIDTH:

@@ -69,7 +69,7 @@ def enumeration(enum, columns, names, is_first):
     tests = [(d, values) for d, values in columns if is_test(values)]
     rest = [(d, values) for d, values in columns if not is_test(values)]
     text = ["**[`%s`](../%s#L%d)**%s" % (enum.name, enum.path, enum.line, " " + sentence(enum.note) if is_first else ":")]
-    text += ["`%s`:%s." % (names.of(d), lowered([d.note])) for d, _ in rest if d.note and d.name not in chapters.SILENT]
+    text += ["`%s`:%s." % (names.of(d), lowered([d.note])) for d, _ in rest if d.note and d.name in chapters.SPOKEN]
     text += ["`%s` is true of %s alone." % (names.of(d), next(c for c, v in values.items() if v == "true")) for d, values in tests]
     text += ["(%s)" % ", ".join("[%s](../%s)" % link for link in dict.fromkeys((d.place, d.path) for d, _ in columns))]
     rows = [[short(case)] + [short(values[case]) for _, values in rest] for case in cases(enum)]
@@ -89,10 +89,22 @@ def is_record(d):
     return re.match(r"\s*(?:pub )?(record|data) \S+ : Type 0 where", d.lines[0]) is not None
 
 
+def grouped(fields):
+    """the fields of a record, with those beside each other that have one type: `x, y: u16`"""
+    out = []
+    for text in fields:
+        name, _, kind = text.strip("`").partition(": ")
+        if out and re.fullmatch(r"\w+", name) and out[-1].endswith(": %s`" % kind) and " " not in out[-1].split(": ")[0].replace(", ", ""):
+            out[-1] = "`%s, %s: %s`" % (out[-1][1:].rpartition(": ")[0], name, kind)
+        else:
+            out.append(text)
+    return out
+
+
 def fields_of_rust(d):
-    """the fields or cases of a type, with their words if chapters.TOLD has it or it is an enumeration"""
+    """the fields or cases of a type, with their words if chapters.FIELDS_TOLD has it or it is an enumeration"""
     note, out, inner = [], [], None
-    is_told = d.name in chapters.TOLD or cases(d)
+    is_told = d.name in chapters.FIELDS_TOLD or cases(d)
     for line in map(str.strip, d.lines[1:-1]):
         if line.startswith("//"):
             note.append(line.strip("/ "))
@@ -106,7 +118,7 @@ def fields_of_rust(d):
         else:
             out.append("`%s`%s" % (re.sub(r"^pub(\(crate\))? ", "", line.rstrip(",")), lowered(note) if is_told else ""))
             note = []
-    return "; ".join(out) or "nothing"
+    return "; ".join(grouped(out)) or "nothing"
 
 
 def fields_of_specs(d, lines):
@@ -114,7 +126,7 @@ def fields_of_specs(d, lines):
     out = [re.sub(r"^pub ", "", line.strip()).replace(" :", ":", 1) for line in lines[1:] if line.strip() and not line.strip().startswith("--")]
     if re.match(r"\s*(pub )?data", d.lines[0]) and all(line.endswith(": " + d.name) and "→" not in line for line in out):
         return ", ".join("`%s`" % name for line in out for name in line.split(":")[0].split())
-    return "; ".join("`%s`" % line for line in out)
+    return "; ".join(grouped("`%s`" % line for line in out))
 
 
 def row_of(d, name, lines):
@@ -122,7 +134,7 @@ def row_of(d, name, lines):
     if d.is_constant():
         what, inside = "constant", "`%s`" % d.lines[0].partition("= ")[2].rstrip(";")
     else:
-        what = sentence(d.note.split(". ")[0]).replace("|", "/") if d.name not in chapters.SILENT else ""
+        what = sentence(d.note.split(". ")[0]).replace("|", "/") if d.name in chapters.SPOKEN else ""
         inside = fields_of_rust(d) if d.is_rust else fields_of_specs(d, lines)
     return "| [`%s`](../%s#L%d) | %s | %s |" % (name, d.path, d.line, what, inside)
 

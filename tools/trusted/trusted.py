@@ -18,17 +18,15 @@ import re
 import shutil
 import subprocess
 import sys
-import textwrap
 import chapters
 import contract
 import tables
 from alike import are_alike
 from definitions import TOP, citations, closure, indent, module, read, resolve, roots_of, words_of, words_of_std
-from notation import PLACE, WIDTH, looks_of
+from notation import PLACE, WIDTH, filled, looks_of
 
 HERE = os.path.dirname(os.path.abspath(__file__))
 PAGES = {"main": "docs/TRUSTED.md", "format": "docs/TRUSTED_FORMAT.md"}
-PROSE = 100
 
 
 def text_of(name):
@@ -47,11 +45,6 @@ AV1 = sections_of_av1()
 
 def key_of(d):
     return "%s.%s" % (d.place, d.name)
-
-
-def filled(text, width=PROSE, first="", more=""):
-    text = re.sub(r"\s+", " ", text).strip()
-    return textwrap.wrap(text, width, initial_indent=first, subsequent_indent=more, break_long_words=False, break_on_hyphens=False)
 
 
 class Names:
@@ -129,11 +122,15 @@ def top_down(groups):
     return order[::-1]
 
 
+def without_av1(note):
+    """words without the sections that they name: av1.txt has them"""
+    return re.sub(r"\s*\(AV1 specification: [^)]*\)|\s*AV1 specification: (\([^)]*\)|[^.(])*(\.|$)", "", note)
+
+
 def words_before(d, owner, last):
     """the words before a definition, and its section of the AV1 specification: `same` if it is the last one in the file"""
     title, remark = AV1.get(key_of(d), ("", ""))
-    note = tables.sentence(chapters.INSTEAD.get(key_of(d), owner.note)) if owner and owner.name not in chapters.SILENT else ""
-    note = re.sub(r"\s*\(?AV1 specification: [^.)]*[.)]*", "", note).strip()
+    note = tables.sentence(chapters.INSTEAD.get(key_of(d), without_av1(owner.note))) if owner and owner.name in chapters.SPOKEN else ""
     section = "§\u00a0" + ": ".join(filter(None, ["same" if title == last and remark else title, remark])) if title else ""
     return filled(note + " " + section, WIDTH, "-- ", "-- ")
 
@@ -204,12 +201,12 @@ class Writer:
             found = [d for d in self.reached if d.place == name and d not in self.where and d not in self.columns]
             if found:
                 links.append("[%s](../%s)" % (name, found[0].path))
-                out += ["-- ======== %s ========" % name, ""] + self.section(page, found) + [""]
+                out += ["-- [%s]" % name, ""] + self.section(page, found) + [""]
         return filled("Files: %s." % ", ".join(links)) + ["", "```text"] + out[:-1] + ["```", ""] if out else []
 
     def section(self, page, found):
         """the definitions of a file"""
-        note = tables.sentence(module(found[0].path).note) if found[0].place not in chapters.SILENT else ""
+        note = tables.sentence(without_av1(module(found[0].path).note)) if found[0].place in chapters.SPOKEN else ""
         groups, owner = units(found)
         beside, said, last, out, was_short = [], set(), None, filled(note, WIDTH, "-- ", "-- "), False
         for group in top_down(groups):
@@ -277,10 +274,10 @@ def faults_of(writer, pages):
 
 
 def is_in(lines, name):
-    """whether a page defines a name: in a line of its own, in a table, or as a column of one"""
-    key = re.escape(name)
-    pattern = re.compile(r"(record |data |infix)?%s(?![\w'])|\| \[`%s`\]|\*\*\[`%s`\]|.*`%s` is true of|(\w+ +)+%s( |$)|.*\S {6,}%s:" % ((key,) * 6))
-    return any(pattern.match(line.lstrip()) for line in lines)
+    """whether a page defines a name: at the left end of a line, as a row or a column of a table, or in the words of one"""
+    own = re.compile(r"(record |data )?KEY(?![\w'])( [^=]*)?:( |$)|\| \[`KEY`\]|\*\*\[`KEY`\]|.*`KEY` is true of|\w+( +[\w.]+)*  +KEY( |$)|.* {6}KEY:"
+                     .replace("KEY", re.escape(name)))
+    return any(own.match(line) for line in lines)
 
 
 def faults_of_library():
