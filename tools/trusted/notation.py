@@ -87,6 +87,8 @@ def word_of(group):
         return group.open + inner
     if group.open == "(" and group.suffix == "" and re.fullmatch(r"[\w.']*\[[^\[\]]+\]|\d+", inner):
         return inner
+    if re.fullmatch(r"\d+, \d+", inner):                               # a pair of numbers stays in one line
+        inner = inner.replace(" ", "")
     if group.open == "{" and not inner.strip("0 "):                     # `Unit {0}`, `record {}`
         return "{}" if not inner else ""
     space = " " if group.open in "[{" else ""
@@ -154,7 +156,7 @@ def printed(line):
 
 def filled(text, width=100, first="", more=""):
     """words in lines"""
-    text = re.sub(r"\s+", " ", text).strip()
+    text = re.sub(r"[ \t\n]+", " ", text).strip()
     return textwrap.wrap(text, width, initial_indent=first, subsequent_indent=more, break_long_words=False, break_on_hyphens=False)
 
 
@@ -163,7 +165,10 @@ def wrapped(line):
     if len(line) <= WIDTH:
         return [line]
     inner = " " * indent(line) + ("-- " if line.lstrip().startswith("--") else "    ")
-    return textwrap.wrap(line, WIDTH, subsequent_indent=inner, break_long_words=False, break_on_hyphens=False)
+    lines = textwrap.wrap(line, WIDTH, subsequent_indent=inner, break_long_words=False, break_on_hyphens=False)
+    if lines[-1].strip() == "=":
+        lines = textwrap.wrap(line, WIDTH - 2, subsequent_indent=inner, break_long_words=False, break_on_hyphens=False)
+    return lines
 
 
 def equations(lines):

@@ -239,13 +239,24 @@ def anchor(title):
     return re.sub(r"[^\w -]", "", title).lower().replace(" ", "-")
 
 
+def reflowed(text):
+    """paragraphs in lines of one length, with a blank line behind each; headings and tables stay"""
+    out = []
+    for part in text.strip("\n").split("\n\n"):
+        mark = "> " if part.startswith(">") else ""
+        stays = part.startswith(("#", "|"))
+        out += part.split("\n") if stays else filled(re.sub(r"(?m)^> ", "", part), first=mark, more=mark)
+        out.append("")
+    return out
+
+
 def whole(out, page):
     """a page with its head and its end"""
     titles = [title for other, title, _, _ in chapters.CHAPTERS if other == page]
     head = chapters.HEAD if page == "main" else chapters.FORMAT_HEAD
     contents = ["- [%s](#%s)" % (title, anchor(title)) for title in titles]
-    tail = chapters.TAIL.strip("\n").split("\n") + ["| `%s` | %s |" % row for row in chapters.OTHERS] if page == "format" else []
-    return "\n".join(line.rstrip() for line in head.strip("\n").split("\n") + [""] + contents + [""] + out + tail).rstrip().split("\n")
+    tail = reflowed(chapters.TAIL)[:-1] + ["| `%s` | %s |" % row for row in chapters.OTHERS] if page == "format" else []
+    return "\n".join(line.rstrip() for line in reflowed(head) + contents + [""] + out + tail).rstrip().split("\n")
 
 
 # ---- checks
