@@ -4,13 +4,14 @@
     links.py [--number]
 
 If the text of a link is a name in backticks and the link leads into code, its line must define that name. With --number
-the script finds these lines and corrects the numbers. It checks docs/TRUSTED.md, which tools/trusted writes, but never
-changes it. It doesn't follow links to other hosts, and ignores fenced blocks."""
+the script finds these lines and corrects the numbers. It checks the two pages that tools/trusted writes, but never
+changes them. It doesn't follow links to other hosts, and ignores fenced blocks."""
 import os
 import re
 import subprocess
 import sys
 
+WRITTEN = {"docs/TRUSTED.md", "docs/TRUSTED_FORMAT.md"}
 TOP = os.path.dirname(os.path.dirname(os.path.dirname(os.path.abspath(__file__))))
 FENCE = re.compile(r"^```.*?^```$", re.M | re.S)
 LINK = re.compile(r"\[([^\[\]]*)\]\(([^()\s#]*)(?:#([^()\s]*))?\)")
@@ -79,7 +80,7 @@ def main():
     listed = subprocess.run(["git", "ls-files", "*.md"], cwd=TOP, check=True, stdout=subprocess.PIPE, text=True).stdout.split()
     for page in listed:
         before = text_of(os.path.join(TOP, page))
-        after, more, wrong = looked_at(page, before, is_numbering and page != "docs/TRUSTED.md")
+        after, more, wrong = looked_at(page, before, is_numbering and page not in WRITTEN)
         count, faults = count + more, faults + wrong
         if after != before:
             with open(os.path.join(TOP, page), "w", encoding="utf8") as handle:

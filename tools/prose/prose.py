@@ -18,7 +18,7 @@ from messages import messages_of
 
 HERE = os.path.dirname(os.path.abspath(__file__))
 TOP, BASELINE = os.path.dirname(os.path.dirname(HERE)), os.path.join(HERE, "baseline.txt")
-WRITTEN = {"docs/TRUSTED.md", "docs/STYLE.md"}  # the first is written by a tool, the second quotes what not to write
+WRITTEN = {"docs/TRUSTED.md", "docs/TRUSTED_FORMAT.md", "docs/STYLE.md"}  # a tool writes the first two, the third quotes what not to write
 COMMENT = {".rt": re.compile(r"\s*//[/!] ?(.*)"), ".h": re.compile(r"(?:.*?(?://|/\*+)|\s*\*(?!/)) ?(.*)"), ".antt": re.compile(r"(?:.*\s)?-- ?(.*)")}
 QUOTED = r"`[^`]*`|\]\([^)]*\)|~~.*?~~"
 SCRIPTS = ("tools/", "integrations/", "bindings/", "tilgwaren")

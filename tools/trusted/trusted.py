@@ -1,235 +1,351 @@
 #!/usr/bin/env python3
-"""Prints the definitions that a theorem uses, directly or through others, each once, lowest first.
+"""Prints what the main theorem says: its contract, then each definition that it cites, in turn, above those that it cites itself.
 
-    trusted.py [--root ROOT].. [--check | --count]
+    trusted.py [--format | --check | --count] [--root ROOT]..
 
-ROOT is CRATE.NAME, CRATE.FILE.NAME, or CRATE for everything that the contracts of a crate cite. The default is `Reconstructs` of
-`av1_recon`: the output is then docs/TRUSTED.md. --check fails if that page is out of date, if its last definition does not reach one
-of the others, if a word has no definition and the head of the page does not explain it, or if a definition is used before it is
-printed. --count prints how many definitions, lines and files there are by crate.
+Without an option it prints docs/TRUSTED.md, with --format docs/TRUSTED_FORMAT.md, the second page, which has the grammar of bytes. --check
+fails if a page is out of date, if a definition that is cited stands on neither page, if one is printed with another meaning than its file
+has, or if a word means nothing. --count prints how many definitions, lines and words there are. --root CRATE.NAME, CRATE.FILE.NAME or CRATE
+prints the definitions of another theorem, in chapters by crate. try_trusted.py shows that --check finds faults.
 
-`definitions.py` reads the definitions, `chapters.py` has the chapters and what each begins with, `reached.py` looks only at the page."""
+`definitions.py` reads the definitions, `contract.py` the contract, `notation.py` and `tables.py` say how they look, `alike.py` compares what
+is printed with the file, `chapters.py` has the chapters, `av1.txt` the sections of the AV1 specification, `library.txt` the library's words."""
 import argparse
 import collections
 import difflib
+import os
 import re
+import shutil
+import subprocess
 import sys
-import textwrap
-from chapters import CHAPTERS, HEAD, OTHERS, TAIL
-from definitions import citations, closure, modules, read, resolve, roots_of, words_of_std
-from reached import not_reached
+import chapters
+import contract
+import tables
+from alike import are_alike
+from definitions import TOP, citations, closure, indent, module, read, resolve, roots_of, words_of, words_of_std
+from notation import PLACE, WIDTH, filled, looks_of
 
-PAGE = "docs/TRUSTED.md"
-WIDTH = 112
-
-
-def link(d):
-    return "[`%s`](../%s#L%d)" % (d.name.replace("◌", " _ ").strip(), d.path, d.line)
+HERE = os.path.dirname(os.path.abspath(__file__))
+PAGES = {"main": "docs/TRUSTED.md", "format": "docs/TRUSTED_FORMAT.md"}
 
 
-def told(note):
-    """the words that stand before a definition or at the head of a file, as a sentence"""
-    note = re.sub(r"\s+", " ", note).strip().rstrip(".")
-    return note + "." if note else ""
+def text_of(name):
+    with open(os.path.join(HERE, name), encoding="utf8") as handle:
+        return handle.read().split("\n")
 
 
-def filled(text):
-    return textwrap.fill(re.sub(r"\s+", " ", text).strip(), WIDTH, break_long_words=False, break_on_hyphens=False).split("\n")
+def sections_of_av1():
+    """for each definition the title of its section of the AV1 specification, and a remark"""
+    rows = [line.split("|") for line in text_of("av1.txt") if line.strip() and not line.startswith("#")]
+    return {row[0].strip(): (row[1].strip(), row[2].strip() if len(row) > 2 else "") for row in rows}
 
 
-def wrapped(line):
-    """a line, broken where it is longer than the page; what goes on stands further in"""
-    if len(line) <= WIDTH:
-        return [line]
-    inner = " " * (len(line) - len(line.lstrip())) + ("-- " if line.lstrip().startswith("--") else "/// " if "///" in line else " " * 8)
-    return textwrap.wrap(line, WIDTH, subsequent_indent=inner, break_long_words=False, break_on_hyphens=False, drop_whitespace=True)
+AV1 = sections_of_av1()
 
 
-def in_columns(cells, left):
-    """short cells side by side"""
-    room = max(map(len, cells)) + 3
-    count = max(1, (WIDTH - left) // room)
-    return [(" " * left + "".join(cell.ljust(room) for cell in cells[i:i + count])).rstrip() for i in range(0, len(cells), count)]
+def key_of(d):
+    return "%s.%s" % (d.place, d.name)
 
 
-def shown(d):
-    """the lines of a definition; those of a table stand side by side"""
-    lines = [line for line in d.lines if line.strip()]
-    for n in range(len(lines) - 1, 0, -1):                              # a comment of several lines is one
-        if re.match(r" *(--|///) ", lines[n]) and re.match(r" *(--|///) ", lines[n - 1]):
-            lines[n - 1:n + 1] = [lines[n - 1] + lines[n].lstrip(" -/").join([" ", ""])]
-    if d.is_rust:
-        items = [line.strip().rstrip(",") for line in lines[1:-1]]
-        if len(items) > 6 and all(re.fullmatch(r"[\w:]+(?: = \d+)?", item) for item in items):
-            return [lines[0]] + in_columns(items, 4) + lines[-1:]
-        return [part for line in lines for part in wrapped(line)]
-    inner = len(lines[0]) - len(lines[0].lstrip())
-    lines = [line[inner:] for line in lines]
-    lines[0] = re.sub(r"^(?:(?:abbrev|unfoldable|opaque|pub) )+", "", lines[0])
-    lines[1:] = [re.sub(r"^( +)pub ", r"\1", line) for line in lines[1:]]
-    short = [m for line in lines[1:] for m in [re.fullmatch(r"%s (\S+) = ([^=]{1,24})" % re.escape(d.name), line)] if m]
-    if len(short) > 6 and len(short) == len(lines) - 1:
-        return lines[:1] + in_columns(["%s = %s" % m.groups() for m in short], 4)
-    return ([d.infix.strip()] if d.infix else []) + [part for line in lines for part in wrapped(line)]
+class Names:
+    """What a definition is called on the pages: by its own name or, if several have it, behind that of its crate."""
+
+    def __init__(self, reached):
+        self.many = collections.Counter(d.name for d in reached)
+        self.place_of_list = next((d for d in reached if d.crate == "av1_dct" and d.name == "at"), None)
+
+    def of(self, d):
+        name = d.name.replace("::", ".").replace("◌", " _ ").strip()
+        return "%s.%s" % (d.crate[4:], name) if self.many[d.name] > 1 and d is not self.place_of_list else name
+
+    def cited(self, file, word):
+        """how a word of a file is printed"""
+        name, _, rest = word.partition(".")
+        if name in file.aliases and rest:
+            path = file.aliases[name]
+            owners = [part for part in path if not part.startswith("The") and part[:1].isupper()]
+            return "%s.%s" % (path[-1] if "TheConstants" in path else owners[-1], rest)
+        path, own = file.names.get(name, ((), name))
+        if "TheVariants" in path:
+            owner = [part for part in path if not part.startswith("The")][-1]
+            return word if own == name else ".".join(filter(None, [owner, own, rest]))
+        target = resolve(path, own) if path else file.definitions.get(name)
+        if target is None or target.name != own:
+            return word
+        return PLACE if target is self.place_of_list and not rest else self.of(target) + ("." + rest if rest else "")
+
+    def lines(self, d):
+        """the lines of a definition with the names of the pages"""
+        lines = list(d.lines)
+        for number, start, word in reversed(words_of(d) if not d.is_rust else []):
+            if word.split(".")[0] not in d.fields():
+                lines[number] = lines[number][:start] + self.cited(module(d.path), word) + lines[number][start + len(word):]
+        return lines
 
 
-def entry(d):
-    what = "" if not d.is_rust else ", a constant of Rust" if " const " in d.lines[0] else ", a type of Rust"
-    return filled("%s%s%s %s" % (link(d), what, ":" if d.note else ".", told(d.note))) + ["```text"] + shown(d) + ["```", ""]
+# ---- the order of a file's definitions, and the words before them
 
 
-def place(d):
-    """crate/File"""
-    return "%s/%s" % (d.crate, re.sub(r"^crates/\w+/(?:specs|src)/|\.antt$", "", d.path))
+def units(found):
+    """the definitions of a file: each with those behind it that have no words of their own, which its words are for"""
+    groups, owner, last = [], {}, None
+    for d in sorted(dict.fromkeys(module(found[0].path).definitions.values()), key=lambda d: d.line):
+        last = owner[d] = d if d.note or last is None else last
+    for d in sorted(found, key=lambda d: d.line):
+        if groups and owner[groups[-1][0]] is owner[d]:
+            groups[-1].append(d)
+        else:
+            groups.append([d])
+    return groups, owner
 
 
-def here(definitions, reached):
-    """what the names of a file stand for, where that can't be seen: those that it has under another name, and those of several files"""
-    module, text = modules()[definitions[0].path], "\n".join(line for d in definitions for line in d.lines)
-    cited = {other for d in definitions for other in citations(d)[0]}
-    many = collections.Counter(d.name for d in reached)
-    said = []
-    for own, (path, name) in module.names.items():
-        target = resolve(path, name)
-        if target in cited and re.search(r"(?<![\w.])%s\b" % re.escape(own), text) and (own != name or many[target.name] > 1):
-            said.append("`%s` is %s of `%s`" % (own, "that" if own == name else "`%s`" % name, target.name if target.is_rust else place(target)))
-    for alias, path in module.aliases.items():
-        if re.search(r"\b%s\." % alias, text):
-            said.append("`%s` has the %s of `%s`" % (alias, "constants" if "TheConstants" in path else "cases" if "TheVariants" in path else "words",
-                        [part for part in path if not part.startswith("The")][-1] if "TheConstants" not in path else path[-1]))
-    return filled("Here %s." % ", ".join(said)) + [""] if said else []
+def top_down(groups):
+    """the groups, each above those that it cites; those that most hangs on stand first"""
+    at = {d: i for i, group in enumerate(groups) for d in group}
+    cites = [[at[o] for d in group for o in citations(d)[0] if at.get(o, i) != i] for i, group in enumerate(groups)]
+    cited, order, seen = {j for some in cites for j in some}, [], set()
+
+    def below(i, found):
+        for j in set(cites[i]) - found:
+            found.add(j)
+            below(j, found)
+        return len(found)
+
+    def visit(i):
+        if i not in seen:
+            seen.add(i)
+            for j in reversed(cites[i]):
+                visit(j)
+            order.append(groups[i])
+    for i in sorted(range(len(groups)), key=lambda i: (i in cited, below(i, {i}), -i)):
+        visit(i)
+    return order[::-1]
 
 
-def by_citations(files):
-    """the files, each behind those that it cites"""
-    order = []
-
-    def add(name):
-        if name not in seen:
-            seen.add(name)
-            for other in sorted({place(other) for d in files[name] for other in citations(d)[0]} & set(files)):
-                add(other)
-            order.append(name)
-    seen = set()
-    for name in sorted(files):
-        add(name)
-    return order
+def without_av1(note):
+    """words without the sections that they name: av1.txt has them"""
+    return re.sub(r"\s*\(AV1 specification: [^)]*\)|\s*AV1 specification: (\([^)]*\)|[^.(])*(\.|$)", "", note)
 
 
-def in_chapters(reached):
-    """for each chapter its title, what it begins with, its types of Rust and its files with their definitions, all in their order"""
-    files, standing, chapters = collections.defaultdict(list), set(), []
-    for d in sorted(reached, key=lambda d: (d.path, d.line)):
-        if not d.is_rust:
-            files[place(d)].append(d)
-    listed = [name for _, _, names in CHAPTERS for name in names.split()]
-    rest = [name for name in by_citations(files) if name not in listed]
-    for title, text, names in CHAPTERS + ([("What else is cited", "These files have no chapter of their own.", " ".join(rest))] if rest else []):
-        own = [(name, files[name]) for name in names.split() if name in files]
-        types = []
-
-        def add(d):
-            for other in citations(d)[0]:
-                if other.is_rust and other not in standing:
-                    standing.add(other)
-                    add(other)
-                    types.append(other)
-        for _, definitions in own:
-            for d in definitions:
-                add(d)
-        if own:
-            chapters.append((title, text, types, own))
-    return chapters
+def words_before(d, owner, last):
+    """the words before a definition, and its section of the AV1 specification: `same` if it is the last one in the file"""
+    title, remark = AV1.get(key_of(d), ("", ""))
+    note = tables.sentence(chapters.INSTEAD.get(key_of(d), without_av1(owner.note))) if owner and owner.name in chapters.SPOKEN else ""
+    section = "§\u00a0" + ": ".join(filter(None, ["same" if title == last and remark else title, remark])) if title else ""
+    return filled(note + " " + section, WIDTH, "-- ", "-- ")
 
 
-def page(roots, reached):
-    out = HEAD.split("\n") if roots is None else ["# What %s cites" % " and ".join("`%s`" % root for root in roots), ""]
-    chapters = in_chapters(reached)
-    if roots is None:
-        out += ["%d. [%s](#%s)" % (i, title, anchor(i, title)) for i, (title, *_) in enumerate(chapters, 1)] + [""]
-    for i, (title, text, types, own) in enumerate(chapters, 1):
-        out += ["## %d. %s" % (i, title), ""] + filled(text) + [""]
-        for d in types:
-            out += entry(d)
-        for name, definitions in own:
-            out += ["### `%s`" % name, ""] + filled(told(modules()[definitions[0].path].note)) + [""] + here(definitions, reached)
-            title = ""
-            for d in definitions:
-                out += ["#### " + d.title, ""] if d.title != title else []
-                title = d.title
-                out += entry(d)
-    return out + (others() if roots is None else [])
+# ---- pages
 
 
-def anchor(number, title):
-    return re.sub(r"[^\w -]", "", "%d. %s" % (number, title)).lower().replace(" ", "-")
+class Writer:
+    """Writes the pages, and keeps what it has printed."""
+
+    def __init__(self, reached, is_other):
+        self.reached, self.names, self.where, self.unlike, self.is_other = reached, Names(reached), {}, [], is_other
+        self.enums = {d.name: d for d in reached if d.name in tables.FOLDED and tables.cases(d)}
+        self.columns = {d: column for d in reached for column in [tables.column_of(d, self.enums)] if column}
+        self.chapters = chapters.CHAPTERS
+        if is_other:
+            self.chapters = [("main", crate, "", " ".join(sorted({d.place for d in reached if d.crate == crate and not d.is_rust})))
+                             for crate in sorted({d.crate for d in reached})]
+
+    def note(self, d, page):
+        if d in self.where:
+            sys.exit("%s %s is printed twice" % (d.path, d.name))
+        self.where[d] = page
+
+    def pages(self):
+        """the lines of both pages, without their heads"""
+        out, before = {"main": [], "format": []}, set()
+        for page, title, text, listed in self.chapters:
+            files = listed.split()
+            types = tables.types_of(files, self.reached, before)
+            before.update(types)
+            out[page] += ["## " + title, ""] + filled(text) + [""] * bool(text)
+            out[page] += contract.shown() + text_of("library.txt") if title == chapters.THEOREM else []
+            out[page] += self.records(page, types + [d for d in self.reached if d.place in files and tables.is_record(d)])
+            out[page] += self.enumerations(page, title, files) + self.definitions(page, files)
+        return out
+
+    def records(self, page, found):
+        rows = []
+        for d in dict.fromkeys(found):
+            if d.name not in self.enums and d not in self.where:
+                self.note(d, page)
+                is_all = d.name.endswith("::ALL") and d.name[:-5] in self.enums
+                rows += [] if is_all else [tables.row_of(d, self.names.of(d), self.names.lines(d))]
+        return ["| record or enumeration | what it is | fields or cases |", "|---|---|---|"] + rows + [""] if rows else []
+
+    def enumerations(self, page, title, files):
+        """a table for each enumeration, with what functions give of its cases"""
+        if page == "main" and not self.is_other:
+            later = {name for other, _, _, listed in self.chapters if other == "format" for name in listed.split()}
+            files = {d.place for d in self.reached} - later if title == chapters.SIZES else set()
+        out = []
+        for name in (name for name in tables.FOLDED if name in self.enums):
+            enum = self.enums[name]
+            found = [d for d in sorted(self.columns, key=lambda d: (d.path, d.line)) if d.place in files and self.columns[d][0] == name]
+            if found:
+                is_first = enum not in self.where
+                for d in found + [enum] * is_first:
+                    self.note(d, page)
+                text, table = tables.enumeration(enum, [(d, self.columns[d][1]) for d in found], self.names, is_first)
+                out += filled(" ".join(text)) + [""] + (["```text"] + table + ["```", ""] if table else [])
+        return out
+
+    def definitions(self, page, files):
+        """the definitions of a chapter's files, in one block with a line for each file"""
+        out, links = [], []
+        for name in files:
+            found = [d for d in self.reached if d.place == name and d not in self.where and d not in self.columns]
+            if found:
+                links.append("[%s](../%s)" % (name, found[0].path))
+                out += ["-- [%s]" % name, ""] + self.section(page, found) + [""]
+        return filled("Files: %s." % ", ".join(links)) + ["", "```text"] + out[:-1] + ["```", ""] if out else []
+
+    def section(self, page, found):
+        """the definitions of a file"""
+        note = tables.sentence(without_av1(module(found[0].path).note)) if found[0].place in chapters.SPOKEN else ""
+        groups, owner = units(found)
+        beside, said, last, out, was_short = [], set(), None, filled(note, WIDTH, "-- ", "-- "), False
+        for group in top_down(groups):
+            lines = []
+            for d in group:
+                self.note(d, page)
+                if tables.rows_of_numbers(d):
+                    beside.append(d)
+                    continue
+                lines += words_before(d, owner[d] if owner[d] not in said else None, last) + self.module_line(d)
+                last = AV1.get(key_of(d), (last, ""))[0]
+                said.add(owner[d])
+                looks, pairs = looks_of(d, self.names.of(d), self.names.lines(d))
+                self.unlike += ["printed with another meaning: %s" % d.name for stands, made in pairs if not are_alike(stands, made)]
+                lines += looks
+            is_short = sum(not line.startswith("--") for line in lines) <= 2
+            out += [""] * (bool(out) and bool(lines) and not (was_short and is_short)) + lines
+            was_short = is_short
+        return out + [line for d in beside for line in words_before(d, d, None)] + tables.numbers(beside, self.names)
+
+    def module_line(self, d):
+        """the variables of `module _`, which are the first arguments of all definitions within"""
+        if not d.bound:
+            return []
+        line = next(line for line in reversed(read(d.path)[:d.line]) if re.match(r" *module _ ", line))
+        return ["-- Of %s, which come before the other arguments in other files." % re.sub(r" *module _ (.*) where", r"\1", line)]
 
 
-def others():
-    """where the readings of the other crates' contracts begin"""
-    return TAIL.split("\n") + ["| root | what its contracts speak of |", "|---|---|"] + ["| `%s` | %s |" % row for row in OTHERS] + [""]
+def anchor(title):
+    return re.sub(r"[^\w -]", "", title).lower().replace(" ", "-")
 
 
-def lines_of(definitions):
-    return sum(1 for d in definitions for line in d.lines if line.strip() and not line.strip().startswith("--"))
+def reflowed(text):
+    """paragraphs in lines of one length, with a blank line behind each; headings and tables stay"""
+    out = []
+    for part in text.strip("\n").split("\n\n"):
+        mark = "> " if part.startswith(">") else ""
+        stays = part.startswith(("#", "|"))
+        out += part.split("\n") if stays else filled(re.sub(r"(?m)^> ", "", part), first=mark, more=mark)
+        out.append("")
+    return out
 
 
-def count(reached):
-    specs = [d for d in reached if not d.is_rust]
-    by_crate = collections.defaultdict(list)
-    for d in specs:
-        by_crate[d.crate].append(d)
-    for crate, found in sorted(by_crate.items(), key=lambda item: -lines_of(item[1])):
-        print("%-16s %4d definitions %5d lines %3d files" % (crate, len(found), lines_of(found), len({d.path for d in found})))
-    print("%-16s %4d definitions %5d lines %3d files" % ("all", len(specs), lines_of(specs), len({d.path for d in specs})))
-    print("beside them %d types and constants of Rust, %d lines" % (len(reached) - len(specs), lines_of([d for d in reached if d.is_rust])))
-    everything = [d for m in modules().values() for d in dict.fromkeys(m.definitions.values())]
-    print("of %d definitions, %d lines in %d files" % (len(everything), lines_of(everything), len(modules())))
+def whole(out, page):
+    """a page with its head and its end"""
+    titles = [title for other, title, _, _ in chapters.CHAPTERS if other == page]
+    head = chapters.HEAD if page == "main" else chapters.FORMAT_HEAD
+    contents = ["- [%s](#%s)" % (title, anchor(title)) for title in titles]
+    tail = reflowed(chapters.TAIL)[:-1] + ["| `%s` | %s |" % row for row in chapters.OTHERS] if page == "format" else []
+    return "\n".join(line.rstrip() for line in reflowed(head) + contents + [""] + out + tail).rstrip().split("\n")
 
 
-def faults_of(reached):
-    """the words of definitions that mean nothing, or are the standard library's and not told, and definitions that are
-    cited before they stand"""
-    order = [d for _, _, types, own in in_chapters(reached) for d in types + [d for _, found in own for d in found]]
-    at, told_of = {d: i for i, d in enumerate(order)}, set(re.findall(r"[^\s`():,.]+", HEAD))
-    return [
-        "not resolved: %s %s: %s" % (place(d), d.name, word) for d in reached for word in citations(d)[1]
-    ] + [
-        "not told of at the head of the page: %s" % word
-        for word in sorted(set().union(*map(words_of_std, reached)) - told_of)
-    ] + [
-        "cited before it stands: %s, by %s of %s" % (other.name, d.name, place(d))
-        for d in order for other in citations(d)[0] if at[other] > at[d]
-    ]
+# ---- checks
 
 
-def faults_of_page(out, reached):
-    """what is wrong with docs/TRUSTED.md, where it should be these lines"""
-    stands, wanted = ("\n".join(lines).rstrip().split("\n") for lines in (read(PAGE), out))
-    differ = list(difflib.unified_diff(stands, wanted, PAGE, "what trusted.py prints", lineterm="", n=0))
-    lost, count = not_reached("\n".join(stands))
-    faults = ["%s:%s is not reached from the last definition of the page" % (d.path, d.name) for d in lost] + faults_of(reached)
-    if not faults and not differ:
-        print("%s is what trusted.py prints: %d definitions, all reached" % (PAGE, count))
-    return faults + differ[:20] + ["`tools/trusted/trusted.py > %s` writes it anew" % PAGE] * bool(differ)
+def faults_of(writer, pages):
+    """what is wrong with the pages, whatever stands in docs"""
+    reached, names, by_name = writer.reached, writer.names, collections.defaultdict(set)
+    faults = ["%s %s: no definition of %s" % (d.place, d.name, word) for d in reached for word in citations(d)[1]] + writer.unlike
+    for d in reached:
+        by_name[names.of(d)].add(d)
+        if d not in writer.where:
+            faults.append("cited, and on no page: %s %s" % (d.path, d.name))
+        elif not is_in(pages[writer.where[d]], names.of(d)) and not d.name.endswith("::ALL"):
+            faults.append("not printed: %s %s" % (d.path, d.name))
+        if d.name.endswith("::ALL") and d.name[:-5] in writer.enums and not tables.in_order(d, writer.enums[d.name[:-5]]):
+            faults.append("%s: in another order than the cases" % d.name)
+    faults += ["%s means %d things" % (name, len(found)) for name, found in by_name.items() if len(found) > 1]
+    told = set(re.findall(r"[^\s`():,;|.]+", "\n".join(text_of("library.txt")) + chapters.HEAD))
+    faults += ["library.txt doesn't tell of %s" % word for word in sorted(set().union(*map(words_of_std, reached)) - told)]
+    listed, files = [name for chapter in chapters.CHAPTERS for name in chapter[3].split()], {d.place for d in reached}
+    faults += ["chapters.py has %s %s" % (name, "twice" if name in files else "which nothing cites") for name in sorted(set(listed))
+               if listed.count(name) > 1 or name not in files]
+    keys = {key_of(d) for d in reached}
+    return faults + ["no page has %s, which chapters.py or av1.txt names" % key for key in [*chapters.INSTEAD, *AV1] if key not in keys]
+
+
+def is_in(lines, name):
+    """whether a page defines a name: at the left end of a line, as a row or a column of a table, or in the words of one"""
+    own = re.compile(r"(record |data )?KEY(?![\w'])( [^=]*)?:( |$)|\| \[`KEY`\]|\*\*\[`KEY`\]|.*`KEY` is true of|\w+( +[\w.]+)*  +KEY( |$)|.* {6}KEY:"
+                     .replace("KEY", re.escape(name)))
+    return any(own.match(line) for line in lines)
+
+
+def faults_of_library():
+    """lines of library.txt that the toolchain's library, if it is at hand, doesn't have"""
+    if not shutil.which("rt"):
+        return []
+    kit = os.path.dirname(subprocess.run(["rt", "doc"], capture_output=True, text=True, check=False).stdout.split("\n")[0].strip())
+    stands, faults, inside = "", [], False
+    for line in text_of("library.txt"):
+        found = re.match(r"`(\S+\.antt)`", line)
+        path = os.path.join(kit, "rattle", found[1]) if found else ""
+        if os.path.exists(path):
+            with open(path, encoding="utf8") as handle:
+                stands = re.sub(r"\s+", " ", handle.read().replace("abbrev pub ", ""))
+        inside = inside != line.startswith("```")
+        if inside and stands and line.strip() and not line.startswith("```") and re.sub(r"\s+", " ", line.strip()) not in stands:
+            faults.append("library.txt: the library doesn't say: %s" % line)
+    return faults
+
+
+def faults_of_files(pages):
+    """how the pages in docs differ from these"""
+    faults = []
+    for page, lines in pages.items():
+        stands = read(PAGES[page]) if os.path.exists(os.path.join(TOP, PAGES[page])) else []
+        differ = list(difflib.unified_diff("\n".join(stands).rstrip().split("\n"), lines, PAGES[page], "what trusted.py prints", lineterm="", n=0))
+        renew = "`tools/trusted/trusted.py%s > %s` writes it anew" % (" --format" * (page == "format"), PAGES[page])
+        faults += differ[:20] + [renew] * bool(differ)
+    return faults
+
+
+def count(writer, pages):
+    for page, lines in pages.items():
+        print("%-24s %5d lines %6d words %4d definitions" % (
+            PAGES[page], len(lines), len(" ".join(lines).split()), sum(where == page for where in writer.where.values())))
+    specs = [d for d in writer.reached if not d.is_rust]
+    print("%d definitions in %d files, and %d types and constants of Rust" % (
+        len(specs), len({d.path for d in specs}), len(writer.reached) - len(specs)))
 
 
 def main():
     parser = argparse.ArgumentParser(description=__doc__.split("\n")[0])
-    parser.add_argument("--root", action="append", default=[])
-    parser.add_argument("--check", action="store_true")
-    parser.add_argument("--count", action="store_true")
+    parser.add_argument("--root", action="append", default=[], help="prints the definitions of another theorem")
+    parser.add_argument("--check", action="store_true", help="fails if a page is out of date or lacks a definition")
+    parser.add_argument("--count", action="store_true", help="prints how many definitions, lines and words there are")
+    parser.add_argument("--format", action="store_true", help="prints the second page")
     asked = parser.parse_args()
-    reached = closure([d for root in asked.root or ["av1_recon.Reconstructs"] for d in roots_of(root)])
+    writer = Writer(closure([d for root in asked.root for d in roots_of(root)] if asked.root else contract.roots()), bool(asked.root))
+    pages = {page: out if asked.root else whole(out, page) for page, out in writer.pages().items()}
     if asked.count:
-        count(reached)
+        count(writer, pages)
         return 0
-    out = [line.rstrip() for line in page(asked.root or None, reached)]
     if not asked.check:
-        print("\n".join(out).rstrip())
+        print("\n".join(pages["format" if asked.format else "main"]))
         return 0
-    faults = faults_of_page(out, reached)
-    print("\n".join(faults), end="\n" if faults else "")
+    faults = faults_of(writer, pages) + faults_of_library() + faults_of_files(pages)
+    print("\n".join(faults) if faults else "both pages are what trusted.py prints: %d definitions" % len(writer.reached))
     return 1 if faults else 0
 
 
