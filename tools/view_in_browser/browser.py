@@ -74,9 +74,14 @@ class Browser:
         while not any(event.get("method") == method for event in self.events):
             self.events.append(self.receive())
 
-    def open(self, path):
+    def open(self, path, address=""):
+        """Opens a page, at a part of its address that begins with `#`."""
+        if address:
+            self.events = []
+            self.call("Page.navigate", url="about:blank")
+            self.wait("Page.loadEventFired")
         self.events = []
-        self.call("Page.navigate", url="file://" + os.path.abspath(path))
+        self.call("Page.navigate", url="file://" + os.path.abspath(path) + address)
         self.wait("Page.loadEventFired")
 
     def value(self, expression):

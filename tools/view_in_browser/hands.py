@@ -66,6 +66,7 @@ def look_at_pointer(browser, checks, plan, planes):
 
 def look_at_controls(browser, checks):
     """Keys go on working once a control was clicked."""
+    browser.value("view.setLayer('map', true)")
     for control in ("layer-modes", "source-reconstruction", "component-Y", "matrix", "histogram"):
         box = browser.json(f"((e) => (e.scrollIntoView({{ block: 'center' }}), e.getBoundingClientRect()))"
                            f"(document.querySelector('#{control} button') || document.getElementById('{control}'))")
@@ -80,7 +81,7 @@ def look_at_controls(browser, checks):
         after = browser.json("[view.state.zoom, view.leafAt(view.state.x, view.state.y).number]")
         checks.true(f"keys behind {control}", after[0] > before[0] and after[1] != before[1])
         browser.key("Escape")
-    browser.value("view.setLayer('modes', true), view.setSource('reconstruction'), view.setComponent('RGB'), view.setProperty('mode'), view.fitFrame()")
+    browser.value("view.setLayer('map', false), view.setLayer('modes', true), view.setSource('reconstruction'), view.setComponent('RGB'), view.setProperty('mode'), view.fitFrame()")
 
 
 def look_at_wheel(browser, checks):

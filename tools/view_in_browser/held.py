@@ -48,7 +48,7 @@ def look_at(browser, checks, name, path, plan, planes, predictions):
     held = {"reconstruction": plan.samples(planes), "prediction": plan.samples(predictions), **{f"slot {slot}": samples for slot, samples in plan.slots.items()}}
     draw = random.Random(3)
     places = [(p, draw.randrange(plan.sides[p][0]), draw.randrange(plan.sides[p][1])) for p in (0, 1, 2) for _ in range(60)]
-    names = list(held) + ["residue"]
+    names = list(held) + ["residual"]
     wanted = []
     for p, x, y in places:
         i = y * plan.sides[p][0] + x

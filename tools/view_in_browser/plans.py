@@ -5,6 +5,13 @@ import struct
 SIZES = [(4, 4), (8, 8), (16, 16), (32, 32), (64, 64), (4, 8), (8, 4), (8, 16), (16, 8), (16, 32), (32, 16), (32, 64), (64, 32), (4, 16), (16, 4),
          (8, 32), (32, 8), (16, 64), (64, 16)]
 
+# The weights of smooth prediction along a side, in 256ths.
+CURVES = {4: [255, 149, 85, 64], 8: [255, 197, 146, 105, 73, 50, 37, 32],
+          16: [255, 225, 196, 170, 145, 123, 102, 84, 68, 54, 43, 33, 26, 20, 17, 16],
+          32: [255, 240, 225, 210, 196, 182, 169, 157, 145, 133, 122, 111, 101, 92, 83, 74, 66, 59, 52, 45, 39, 34, 29, 25, 21, 17, 14, 12, 10, 9, 8, 8],
+          64: [255, 248, 240, 233, 225, 218, 210, 203, 196, 189, 182, 176, 169, 163, 156, 150, 144, 138, 133, 127, 121, 116, 111, 106, 101, 96, 91, 86, 82, 77,
+               73, 69, 65, 61, 57, 54, 50, 47, 44, 41, 38, 35, 32, 29, 27, 25, 22, 20, 18, 16, 15, 13, 12, 10, 9, 8, 7, 6, 6, 5, 5, 4, 4, 4]}
+
 # The change of a byte that each number of packed predictions is.
 CHANGES = [number // 2 if number % 2 == 0 else 255 - number // 2 for number in range(256)]
 
@@ -248,7 +255,6 @@ def differing_everywhere(plan, planes):
     return b"RTR1" + struct.pack("<I", len(plan)) + plan + given
 
 
-
 def sharp(filter_number=2, column=8, version=1):
     """One leaf of 8x8 in 4:2:0 from a reference whose U has a stripe, by this filter and a vector of so many eighths to the right."""
     stripe = bytes([0, 128, 0, 0])
@@ -261,3 +267,10 @@ def identity(value, kind=9, side=4, version=1):
     header = b"RPL%d" % version + struct.pack("<HHBBBB", *2 * [max(side, 8)], 12, 2, 0, 0) + bytes(8)
     leaf = bytes([0, 0, 0, 0]) + bytes([0 if side == 4 else 2, kind, 0]) + struct.pack("<HBHi", 1, 0, 0, value) + bytes(4)
     return header + (bytes([3, 3, 3, 3]) + leaf + 3 * bytes(13) if side == 4 else bytes([3, 3, 0]) + leaf)
+
+
+def lossless(value, depth=12, version=1):
+    """Leaves of 4x4 in 4:4:4, the first of them lossless, with four coefficients of this value in its first row."""
+    header = b"RPL%d" % version + struct.pack("<HHBBBB", 8, 8, depth, 2, 0, 0) + bytes(8)
+    first = bytes([0, 0, 0, 0, 0, 16, 16]) + struct.pack("<H", 4) + b"".join(struct.pack("<BHi", 0, 4 * i, value) for i in range(4)) + bytes(4)
+    return header + bytes([3, 3, 3, 3]) + first + 3 * bytes(13)

@@ -7,16 +7,21 @@ from checks import drawn, pixels, place_in_window
 def look_at_layers(browser, checks):
     """Each layer by its key and by its switch."""
     browser.value("view.fit({ x: 288, y: 64, width: 96, height: 80 }, 1.1), view.moveTo(360, 100)")
+    hidden = "['source', 'block'].map((id) => document.getElementById(id).hidden).join()"
+    shown = lambda: drawn(browser) + browser.value(hidden)
     for layer, key in browser.json("view.layersHere.map((l) => [l.id, l.key])"):
         if layer == "values":
             browser.value("view.fit({ x: 296, y: 96, width: 24, height: 20 }, 1)")
-        before, on = drawn(browser) + str(browser.value("document.getElementById('source').hidden")), browser.value(f"view.layers.{layer}")
+        if layer == "edge":
+            browser.value("view.moveToLeaf(view.leaves.find((l) => !l.motions).number), view.fitLeaf()")
+        before, on = shown(), browser.value(f"view.layers.{layer}")
         browser.key(key, key)
-        between = drawn(browser) + str(browser.value("document.getElementById('source').hidden"))
+        between = shown()
         checks.same(f"layer {layer} by its key", browser.json(f"[view.layers.{layer}, document.getElementById('layer-{layer}').checked]"), 2 * [not on])
         checks.true(f"layer {layer} is drawn", before != between)
         browser.value(f"document.getElementById('layer-{layer}').click()")
-        checks.true(f"layer {layer} by its switch", drawn(browser) + str(browser.value("document.getElementById('source').hidden")) == before)
+        checks.true(f"layer {layer} by its switch", shown() == before)
+    browser.value("view.setLocked(false)")
 
 
 def look_at_components(browser, checks, plan):
@@ -24,7 +29,7 @@ def look_at_components(browser, checks, plan):
     for component in ("Y", "U", "V", "RGB"):
         browser.key("c", "c")
         checks.same("component by its key", browser.value("view.state.component"), component)
-    for source in ("prediction", "residue", "slot 0", "reconstruction"):
+    for source in ("prediction", "residual", "slot 0", "reconstruction"):
         browser.key("s", "s")
         checks.same("samples by their key", browser.value("view.state.source.name"), source)
     x, y = 300, 100
@@ -37,17 +42,18 @@ def look_at_components(browser, checks, plan):
             checks.near(f"{component} of {source} in grey", browser.value(f"view.pixel({x}, {y})[0]"), value / (1 << plan.depth - 8), 1)
     browser.value("view.setSource('reconstruction'), view.setComponent('RGB')")
     luma, u, v = (browser.value(f"view.sample('reconstruction', {p}, {300 >> (p > 0)}, {100 >> (p > 0)})") / 4 for p in range(3))
-    wanted = [luma + 1.5748 * (v - 128), luma - 0.18732 * (u - 128) - 0.46812 * (v - 128), luma + 1.8556 * (u - 128)]
+    luma, u, v = (luma - 16) * 255 / 219, (u - 128) * 255 / 224, (v - 128) * 255 / 224
+    wanted = [luma + 1.5748 * v, luma - 0.18732 * u - 0.46812 * v, luma + 1.8556 * u]
     found = browser.json("view.pixel(300, 100)")
     checks.true("RGB by BT.709", all(abs(min(max(w, 0), 255) - f) <= 1 for w, f in zip(wanted, found)))
-    checks.same("the matrix that is named", browser.value("document.getElementById('matrix').value"), "BT.709, full range")
+    checks.same("the matrix that is named", browser.value("document.getElementById('matrix').value"), "BT.709, limited range")
 
 
 def look_at_gains(browser, checks, plan, planes, predictions):
     """Differences that are drawn stronger: by the greatest magnitude, and by a gain that is set."""
     changes = [a - b for a, b in zip(plan.samples(planes)[0], plan.samples(predictions)[0])]
     greatest, unit = max(map(abs, changes)), 1 << plan.depth - 8
-    browser.value("view.setSource('residue'), view.setComponent('Y')")
+    browser.value("view.setSource('residual'), view.setComponent('Y')")
     checks.near("the automatic gain", browser.value("view.gain()"), 127 * unit / greatest, 1e-9)
     checks.same("the greatest magnitude is white", browser.text("lightest"), f"+{greatest}")
     checks.true("the greatest magnitude is told", browser.text("strength").endswith(f"greatest {greatest}"))

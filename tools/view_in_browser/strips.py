@@ -29,6 +29,15 @@ def look_at_samples(browser, checks, name, plan, held):
 # ---- sequences
 
 
+def names_text(plan, slot):
+    """The references of a frame that name a slot, in words."""
+    slots = list(plan.data[12:19])
+    names, others = ([name for name, other in zip(NAMES[1:], slots) if (other == slot) == same] for same in (True, False))
+    if len(names) > 4:
+        return "all but " + " ".join(others) if others else "all references"
+    return " ".join(names) or "no reference"
+
+
 def look_at_strip(browser, checks, frames, planes):
     """The frames of a sequence, from one to the next by arrows on the strip, each with its leaves, its planes and its slots."""
     checks.same("how many frames there are", browser.value("view.file.count"), len(frames))
@@ -44,7 +53,8 @@ def look_at_strip(browser, checks, frames, planes):
         held = {f"slot {slot}": planes[other] for slot, other in enumerate(frame.held) if other >= 0}
         look_at_samples(browser, checks, name, plan, {"reconstruction": planes[number], **held})
         labels = browser.json("[...document.querySelectorAll('#sources label')].map((l) => l.textContent.trim())")
-        checks.same(f"{name}: its slots", labels, ["reconstruction"] + [f"slot {s}, frame {other}" for s, other in enumerate(frame.held) if other >= 0])
+        checks.same(f"{name}: its slots", labels, ["reconstruction"] + [
+            f"slot {s}, frame {other} ({names_text(plan, s)})" for s, other in enumerate(frame.held) if other >= 0])
         look_at_cursor(browser, checks, name, plan, planes[number], min(200 + number, plan.width - 1), min(131, plan.height - 1))
         look_at_item(browser, checks, plan, number, frame, planes[number])
         browser.value("document.getElementById('strip').focus()")

@@ -1,18 +1,18 @@
 #!/usr/bin/env python3
-"""Opens pages of `av1_view` in a headless Chromium, and checks their content.
+"""Opens pages of `av1_view` in a headless Chromium, and checks what they show.
 
     tools/view_in_browser/view_in_browser.py [--view PROGRAM] [--recon PROGRAM] [--tools PROGRAM] [--screenshots FOLDER] [--only WORD] [--small]
-        [--frame PLAN] [--coded PLAN]
+        [--frame PLAN]
 
-The default programs are what `rt run` builds in the folders `out` of `av1_view`, `av1_vectors` and `av1_tools`. Each page is opened. Before
+The default programs are those that `rt run` leaves in the folders `out` of `av1_view`, `av1_vectors` and `av1_tools`. Each page is opened. Before
 that, it is compared byte by byte with the page that `view_template` puts together from the planes of `av1_vectors` and the page's own
 predictions. The predictions are compared with what `av1_vectors` makes of plans without the coefficients that follow. What a page contains is
 compared with a second reader of plans, `plans.py`. What it shows is checked by keys, by the mouse, in windows of all sizes, in the light and the
 dark scheme, and at two device pixels for each CSS pixel.
 
 `--view none` puts the pages together here, with the frame without coefficients as predictions, and does not run av1_view. `--only` runs the groups
-of steps whose name has the word. `--small` leaves out the large frames: 2048x2048, and the frame of `--frame`. `--frame` is the plan of an intra
-frame from `integrations/rav1e/record`: its page must be small and open fast. `--coded` is a small frame of a clip, for pictures.
+of steps whose name has the word. `--small` leaves out the large frames: those of 2048x2048 and that of `--frame`. `--frame` is the plan of an intra
+frame from `integrations/rav1e/record`: its page must be small and open fast.
 
 It needs `chromium` (a Debian package) and no network. It ends with 'N passed, M failed'; the status is 1 if M is not 0. `--screenshots` leaves
 pictures of the pages in that folder.
@@ -36,6 +36,8 @@ import edges  # noqa: E402
 import files  # noqa: E402
 import hands  # noqa: E402
 import held  # noqa: E402
+import hunt  # noqa: E402
+import near  # noqa: E402
 import plans  # noqa: E402
 import shown  # noqa: E402
 import strips  # noqa: E402
@@ -121,17 +123,17 @@ def worked(browser, pages, checks, options):
     path, planes, predictions = pages.write("worked", data)
     held.look_at(browser, checks, "worked", path, Plan(data), planes, predictions)
     if options.view != "none":
-        script = "[[3, 3], [4, 0], [0, 4], [7, 7]].map(([x, y]) => ['reconstruction', 'prediction', 'residue'].map((s) => view.sample(s, 0, x, y)))"
-        checks.same("worked: a sample of each leaf, as it is predicted, and its residue", browser.json(script), [[131, 128, 3]] + 3 * [[131, 131, 0]])
+        script = "[[3, 3], [4, 0], [0, 4], [7, 7]].map(([x, y]) => ['reconstruction', 'prediction', 'residual'].map((s) => view.sample(s, 0, x, y)))"
+        checks.same("worked: a sample of each leaf, as it is predicted, and its residual", browser.json(script), [[131, 128, 3]] + 3 * [[131, 131, 0]])
     wanted = [{"block": 0, "place": 0, "value": 100, "column": 0, "row": 0}]
     checks.same("worked: a coefficient", browser.json("view.coefficients(0, 0)"), wanted)
-    checks.same("worked: a pixel", browser.json("view.pixel(3, 3)"), [131, 131, 131, 255])
+    checks.same("worked: a pixel", browser.json("view.pixel(3, 3)"), [134, 134, 134, 255])
     decoded = browser.json("['', 'a', 'ab', 'abc', 'abcd'].map((text) => String.fromCharCode(...decoded(btoa(text))))")
     checks.same("worked: bytes are decoded where the browser has no call for it", decoded, ["", "a", "ab", "abc", "abcd"])
     checks.same("worked: faults of the page", browser.faults(), [])
     path, _, _ = pages.write("same", data, plans.trace_of(data, planes, []))
     browser.open(path)
-    checks.same("a trace without a difference", browser.text("differences"), "The given samples are those of the plan.")
+    checks.same("a trace without a difference", browser.text("differing"), "The given samples equal those of the plan.")
     checks.same("same: faults of the page", browser.faults(), [])
 
 
@@ -165,6 +167,9 @@ def departures(browser, pages, checks, options):
         ("negative identity of 4", plans.identity(-370704), [0]), ("small negative identity of 4", plans.identity(-370703), []),
         ("identity of columns", plans.identity(370703, 11), []), ("identity of 16", plans.identity(185352, 9, 16), [0]),
         ("small identity of 16", plans.identity(185351, 9, 16), []), ("identity of 16 as in AV1", plans.identity(185352, 9, 16, 3), []),
+        ("lossless at 12 bits", plans.lossless(262144), [0]), ("small lossless at 12 bits", plans.lossless(262140), []),
+        ("lossless at 10 bits", plans.lossless(65536, 10, 2), [0]), ("small lossless at 10 bits", plans.lossless(65532, 10, 2), []),
+        ("lossless as in AV1", plans.lossless(262144, 12, 3), []), ("lossless at 8 bits", plans.lossless(32764, 8), []),
     ])
 
 
@@ -188,6 +193,10 @@ def five(browser, pages, checks, options):
     hands.look_at_windows(browser, checks)
     hands.look_at_schemes(browser, checks)
     hands.look_at_scale(browser, checks)
+    hunt.look_at_colours(browser, checks)
+    near.look_at_edges(browser, checks, "make 5", plan, planes, predictions)
+    hunt.look_at_edge_layer(browser, checks, next(leaf[0] for leaf in plan.leaves if 3 <= leaf[5] <= 8 and leaf[3] >= 16))
+    hunt.look_at_numbers(browser, checks, "make 5", plan, planes, predictions)
     checks.same("make 5, by hand: faults of the page", browser.faults(), [])
     pictures_of_five(browser, options)
 
@@ -207,6 +216,34 @@ def pictures_of_five(browser, options):
     browser.value("view.setComponent('RGB'), view.setLocked(false)")
 
 
+def photo(browser, pages, checks, options):
+    """A photograph that rav1e coded, from two references."""
+    with open(os.path.join(CRATES, "..", "demo", "photo.plan"), "rb") as file:
+        data = file.read()
+    plan = Plan(data)
+    path, planes, predictions = pages.write("photo", data)
+    held.look_at(browser, checks, "photo", path, plan, planes, predictions)
+    hunt.look_at_panel(browser, checks, "photo", plan)
+    hunt.look_at_borders(browser, checks, "photo", plan)
+    hunt.look_at_labels(browser, checks, "photo")
+    hunt.look_at_numbers(browser, checks, "photo", plan, planes, predictions)
+    near.look_at_edges(browser, checks, "photo", plan, planes, predictions)
+    hunt.look_at_definitions(browser, checks, path)
+    hunt.look_at_address(browser, checks, path)
+    checks.same("photo: faults of the page", browser.faults(), [])
+    pictures_of_photo(browser, options)
+
+
+def pictures_of_photo(browser, options):
+    place = "view.moveTo(120, 90), view.fitFrame()"
+    browser.window(1280, 800)
+    screenshot(browser, options, "view_demo", place)
+    screenshot(browser, options, "view_map", "view.setLayer('map', true), " + place)
+    screenshot(browser, options, "view_residual", "['map', 'modes', 'vectors'].forEach((l) => view.setLayer(l, false)), view.setSource('residual'), "
+               "view.setComponent('Y'), view.setGain(8), " + place)
+    browser.window(1100, 700)
+
+
 def trace(browser, pages, checks, options):
     """A trace of that plan, of which two samples differ."""
     data = pages.run(options.recon, ["make", "5"], b"")
@@ -216,8 +253,20 @@ def trace(browser, pages, checks, options):
     path, planes, predictions = pages.write("trace", data, changed)
     held.look_at(browser, checks, "trace", path, plan, planes, predictions)
     held.look_at_differences(browser, checks, plan, planes)
-    screenshot(browser, options, "view_trace", "view.setComponent('Y'), view.moveTo(200, 100), view.fit({ x: 192, y: 94, width: 18, height: 14 }, 1)")
+    hunt.look_at_panel(browser, checks, "trace", plan)
+    hunt.look_at_labels(browser, checks, "trace")
+    hunt.look_at_numbers(browser, checks, "trace", plan, planes, predictions)
+    hunt.look_at_ranks(browser, checks, plan, planes, changed[8 + len(data):])
+    hunt.look_at_report(browser, checks)
+    hunt.look_at_wipe(browser, checks)
+    near_by = "view.setComponent('Y'), view.moveTo(200, 100), view.fit({ x: 192, y: 94, width: 24, height: 18 }, 1)"
+    browser.window(1280, 800)
+    screenshot(browser, options, "view_trace", "view.setSecond('given'), " + near_by)
+    screenshot(browser, options, "view_block", "view.setSecond(null), ['edge', 'block'].forEach((l) => view.setLayer(l, true)), view.moveToLeaf(339), "
+               "view.moveTo(view.state.x + 3, view.state.y + 4), view.fit({ x: view.state.x - 10, y: view.state.y - 7, width: 24, height: 24 }, 1)")
+    browser.window(1100, 700)
     checks.same("trace: faults of the page", browser.faults(), [])
+    hunt.look_at_address(browser, checks, path)
 
 
 def everywhere(browser, pages, checks, options):
@@ -240,12 +289,15 @@ def sequence(browser, pages, checks, options):
     planes = [all_planes[length * i:length * (i + 1)] for i in range(5)]
     frames = list(files.frames_of(data, lambda number: planes[number]))
     browser.open(path)
-    checks.same("sequence: its title", browser.value("document.title"), "A sequence seen")
+    checks.same("sequence: its title", browser.value("document.title"), "Plan viewer: a sequence")
     strips.look_at_strip(browser, checks, frames, planes)
     strips.look_at_steps(browser, checks, frames, planes)
     strips.look_at_slots(browser, checks, frames, planes)
     strips.look_at_windows(browser, checks)
     screenshot(browser, options, "view_sequence", "view.setFrame(2), view.moveToLeaf(68), view.fitFrame()")
+    hunt.look_at_panel(browser, checks, "sequence", Plan(frames[2].plan))
+    hunt.look_at_labels(browser, checks, "sequence")
+    hunt.look_at_address(browser, checks, path, 3)
     checks.same("sequence: faults of the page", browser.faults(), [])
     path, _ = pages.write_file("empty", "sequence", files.sequence([]))
     browser.open(path)
@@ -268,7 +320,6 @@ def hidden(browser, pages, checks, options):
     grey = len(planes[0]) // 2 * b"\0\2"
     browser.open(path)
     strips.look_at_strip(browser, checks, frames, [held if strips.is_held(frames, i) else grey for i, held in enumerate(planes)])
-    screenshot(browser, options, "hidden", "view.setFrame(3), view.moveTo(72, 50), view.fitFrame()")
     checks.same("hidden: faults of the page", browser.faults(), [])
     if options.view != "none":
         again = files.shown_and_not([b"\1" + files.frame(2, files.leaves_of(plans.odd(depth=10, moves=False))), b"\2\5\0"])
@@ -285,7 +336,7 @@ def grid(browser, pages, checks, options):
         path, planes = pages.write_file(name.replace(" ", "_"), "tiles", data)
         tiles = files.tiles_of(data)
         browser.open(path)
-        checks.same(f"{name}: its title", browser.value("document.title"), "A grid of tiles seen")
+        checks.same(f"{name}: its title", browser.value("document.title"), "Plan viewer: a grid of tiles")
         strips.look_at_grid(browser, checks, name, tiles, planes)
         if data[:4] == b"RTL2":
             strips.look_at_tile_sources(browser, checks, tiles, files.front_of(data))
@@ -359,25 +410,7 @@ def recorded(browser, pages, checks, options):
     checks.same("recorded: faults of the page", browser.faults(), [])
 
 
-def coded(browser, pages, checks, options):
-    """A frame of a clip that an encoder coded: its leaves, its residue and its modes."""
-    if not options.coded:
-        return
-    with open(options.coded, "rb") as file:
-        data = file.read()
-    path, planes, predictions = pages.write("coded", data)
-    held.look_at(browser, checks, "coded", path, Plan(data), planes, predictions)
-    place = "view.moveTo(150, 100), view.fitFrame()"
-    screenshot(browser, options, "view_coded", place)
-    others = "['modes', 'vectors'].forEach((l) => view.setLayer(l, %s)), "
-    screenshot(browser, options, "view_residue", others % "false" + "view.setSource('residue'), view.setComponent('Y'), view.setGain(8), " + place)
-    browser.value("view.setSource('reconstruction'), view.setComponent('RGB'), view.setGain('automatic')")
-    screenshot(browser, options, "view_map", "view.setLayer('map', true), " + place + ", document.getElementById('classes').scrollIntoView()")
-    browser.value(others % "true" + "view.setLayer('map', false)")
-    checks.same("coded: faults of the page", browser.faults(), [])
-
-
-SMALL = [worked, stripes, odd, departures, five, coded, trace, everywhere, sequence, hidden, grid]
+SMALL = [worked, stripes, odd, departures, five, photo, trace, everywhere, sequence, hidden, grid]
 LARGE = [great, greatest_trace, recorded]
 
 
@@ -387,7 +420,6 @@ def main():
         parser.add_argument("--" + name, default=os.path.join(CRATES, crate, "out", crate))
     parser.add_argument("--screenshots")
     parser.add_argument("--frame")
-    parser.add_argument("--coded")
     parser.add_argument("--only", default="")
     parser.add_argument("--small", action="store_true")
     options, checks = parser.parse_args(), Checks()

@@ -15,6 +15,9 @@ import sys
 
 CRATE = os.path.join(os.path.dirname(os.path.abspath(__file__)), "..", "..", "crates", "av1_view")
 
+# How long a line may be before `rt fmt` puts its string on a line of its own.
+WIDTH = 100
+
 # Each part: its name, and what it is.
 PARTS = [
     ("BEFORE_PLAN", "What stands before the bytes of the plan: the page without its script."),
@@ -27,8 +30,9 @@ PARTS = [
 ]
 
 # The files of the script: what a plan says, what is shown of it, how that is drawn, and what one does with it.
-SCRIPT = ["names", "plan", "samples", "files", "colour", "differences", "departures", "classes", "texts", "state", "shared", "marks", "layers",
-          "difference_marks", "source", "picture", "panel", "list", "moving", "strip", "controls", "pointer", "start"]
+SCRIPT = ["names", "plan", "samples", "files", "colour", "differences", "departures", "classes", "texts", "state", "shared", "blocks", "marks",
+          "labels", "layers", "difference_marks", "numbers", "source", "picture", "definitions", "panel", "list", "moving", "strip", "controls", "pointer",
+          "address", "start"]
 
 
 def read(name):
@@ -71,11 +75,12 @@ def page(plan, planes, predictions, given=b""):
 
 
 def source():
-    """The module of constants."""
+    """The module of constants, each in one line: nobody reads or edits it."""
     lines = ["//! The constant parts of the page, written by `tools/view_template` from the files in `data/`."]
     for (name, text), part in zip(PARTS, parts()):
-        literal = part.replace("\\", "\\\\").replace('"', '\\"')
-        lines += ["", f"/// {text}", f'pub const {name}: &str = "{literal}";']
+        literal = part.replace("\\", "\\\\").replace('"', '\\"').replace("\n", "\\n")
+        line = f'pub const {name}: &str = "{literal}";'
+        lines += ["", f"/// {text}", line if len(line) <= WIDTH else line.replace(" = ", " =\n    ", 1)]
     return "\n".join(lines) + "\n"
 
 

@@ -2,12 +2,12 @@
 
 // A leaf has one class of each property: a number, with a name and a colour. Classes stand in the order of their numbers.
 
-// Modes: plain ones in browns, directions by their angle, one reference in greens, two in violets.
+// Modes: plain ones in browns, directions by their angle, one reference in greens, two from blue to red, in turn dark and light.
 const PLAIN_MODES = new Map([[0, [168, 168, 168]], [9, [244, 201, 160]], [10, [224, 160, 112]], [11, [200, 136, 80]], [12, [139, 90, 43]]]);
 
 function modeColour(mode) {
-  if (mode >= FIRST_COMPOUND) return byHue(262, 0.6, 0.3 + 0.035 * (mode - FIRST_COMPOUND));
-  if (mode >= FIRST_SINGLE) return byHue(160, 0.75, 0.25 + 0.08 * (mode - FIRST_SINGLE));
+  if (mode >= FIRST_COMPOUND) return byHue(215 + 12 * (mode - FIRST_COMPOUND), 0.9, [0.32, 0.5, 0.7, 0.86][mode % 4]);
+  if (mode >= FIRST_SINGLE) return byHue(160 - 9 * (mode - FIRST_SINGLE), 0.75, 0.22 + 0.1 * (mode - FIRST_SINGLE));
   return PLAIN_MODES.get(mode) || byHue(2 * ANGLES[mode] % 360, 0.7, 0.55);
 }
 

@@ -1,8 +1,9 @@
 // ---- Colours of samples.
 
-// The matrices by which Y, U and V become R, G and B: the weights of red and blue in luma.
+// The matrices by which Y, U and V become R, G and B: the weights of red and blue in luma. Nearly all video has the limited range, so that
+// stands first.
 const MATRICES = [['BT.709', 0.2126, 0.0722], ['BT.601', 0.299, 0.114], ['BT.2020', 0.2627, 0.0593]].flatMap(([name, red, blue]) =>
-  ['full range', 'limited range'].map((range) => ({ name: name + ', ' + range, red, blue, full: range === 'full range' })));
+  ['limited range', 'full range'].map((range) => ({ name: name + ', ' + range, red, blue, full: range === 'full range' })));
 
 // What writes the pixels of a row of luma samples, of a source and a component, at a place among pixels: those of some columns.
 function painterOf(frame, source, component, matrix, gain) {

@@ -3,8 +3,9 @@
 function setLayer(id, on) {
   layers[id] = on;
   element('layer-' + id).checked = on;
-  if (id === 'map' && on) element('classes').open = true;
+  element('classes').hidden = !layers.map;
   showSource();
+  showBlock();
   redraw();
 }
 
@@ -19,6 +20,7 @@ function setComponent(name) {
   state.component = name;
   element('component-' + name).checked = true;
   repaint();
+  showBlock();
 }
 
 function setMatrix(name) {
@@ -64,13 +66,17 @@ function addChoices(id, names, act) {
   element(id).addEventListener('change', (event) => act(names[event.target.selectedIndex]));
 }
 
-// The samples that can be shown of the frame; of slots of a sequence the frame that each holds is told.
+const NO_WIPE = 'no wipe';
+
+// The samples that can be shown of the frame; slots with their references, and in a sequence with the frame that each holds.
 function showSources() {
   element('sources').querySelectorAll('label').forEach((label) => label.remove());
   for (const s of sources) {
-    const text = s.slot < 0 ? s.name : slotText(s.slot);
+    const text = s.slot < 0 ? s.name : slotText(s.slot) + ' (' + namesText(frame, s.slot) + ')';
     addSwitch(element('sources'), 'radio', 'source', s.name, [text], s === state.source, () => setSource(s.name)).title = s.title;
   }
+  element('second').replaceChildren(...[NO_WIPE, ...sources.map((s) => s.name)].map((name) => new Option(name, name)));
+  element('wiping').hidden = sources.length < 2;
 }
 
 function addSwitches() {
@@ -80,11 +86,17 @@ function addSwitches() {
   addChoices('matrix', MATRICES.map((m) => m.name), setMatrix);
   addChoices('gain', GAINS, setGain);
   addChoices('property', PROPERTIES.map((p) => p.id), setProperty);
+  element('second').addEventListener('change', (event) => setSecond(event.target.value));
+  element('divide').addEventListener('input', (event) => setDivide(event.target.value / 100));
 }
 
 // ---- Keys.
 
 const next = (names, name) => names[(names.indexOf(name) + 1) % names.length];
+
+function showKeys() {
+  if (!element('keys').open) element('keys').showModal();
+}
 
 function freeCursor() {
   if (document.activeElement !== element('search')) setLocked(false);
@@ -98,6 +110,7 @@ const KEYS = {
   s: () => setSource(next(sources.map((s) => s.name), state.source.name)), c: () => setComponent(next(['RGB', ...PLANES], state.component)),
   g: () => setGain(next(GAINS, state.gain)), h: () => setProperty(next(PROPERTIES, state.property).id),
   '/': () => element('search').focus(), Escape: freeCursor, ',': () => stepFrame(-1), '.': () => stepFrame(1),
+  w: switchWipe, r: copyReport, '?': showKeys,
 };
 const ARROWS = { ArrowLeft: [-1, 0], ArrowRight: [1, 0], ArrowUp: [0, -1], ArrowDown: [0, 1] };
 
@@ -118,8 +131,8 @@ function onArrow(event, [right, below]) {
 }
 
 function onKey(event) {
-  if (event.ctrlKey || event.metaKey || event.altKey) return;
-  if (event.target === element('search') && event.key !== 'Escape') return;
+  if (event.ctrlKey || event.metaKey || event.altKey || element('keys').open) return;
+  if ([element('search'), element('report')].includes(event.target) && event.key !== 'Escape') return;
   const layer = LAYERS_HERE.find((l) => l.key === event.key);
   if (Object.hasOwn(ARROWS, event.key)) {
     if (!onArrow(event, ARROWS[event.key])) return;

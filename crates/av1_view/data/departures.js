@@ -12,6 +12,29 @@ function meetsShortFilter(frame, leaf) {
   return leaf.motions.some((m) => (narrow && (m.column & 15) !== 0) || (low && (m.row & 15) !== 0));
 }
 
+const CLAMPED_LOSSLESS = 'a lossless block exceeds the range of rav1e, which clamps between rows and columns; AV1 does not clamp there';
+
+// What rows of a lossless block give, before the columns (docs/TRUSTED.md, av1_itx/Walsh).
+function walsh([a, b, c, d]) {
+  const [sum, difference] = [a + b, c - d];
+  const half = sum - difference >> 1;
+  const [second, third] = [half - d, half - b];
+  return [sum - second, second, third, difference + third];
+}
+
+// In a plane a lossless block has a number between rows and columns that rav1e clamps: to 16 bits at depth 10, to 18 at depth 12.
+function clampsIn(plan, leaf, p) {
+  if (TRANSFORM_TYPES[p === 0 ? leaf.transformType : leaf.chromaType] !== 'WHT_WHT') return false;
+  const rows = new Map();
+  for (const { block, row, column, value } of coefficientsOf(plan, leaf, p)) {
+    const key = 4 * block + row;
+    if (!rows.has(key)) rows.set(key, [0, 0, 0, 0]);
+    rows.get(key)[column] = value >> 2;
+  }
+  const most = 2 ** (Math.max(plan.frame.depth + 6, 16) - 1);
+  return [...rows.values()].some((values) => walsh(values).some((number) => number < -most || number >= most));
+}
+
 // What an identity along rows multiplies by, in 1/4096: of 4 values a root of 2, of 16 two.
 const IDENTITY_FACTORS = new Map([[4, 5793], [16, 11586]]);
 
@@ -31,6 +54,7 @@ function wrapsIn(plan, leaf, p) {
 function departureOf(plan, leaf) {
   if (plan.frame.version > 2) return null;
   if (meetsShortFilter(plan.frame, leaf)) return SHORT_FILTER;
+  if (plan.frame.depth > 8 && leaf.triples.some((t, p) => t.count > 0 && clampsIn(plan, leaf, p))) return CLAMPED_LOSSLESS;
   if (plan.frame.depth === 12 && leaf.triples.some((t, p) => t.count > 0 && wrapsIn(plan, leaf, p))) return WRAPPED_IDENTITY;
   return null;
 }

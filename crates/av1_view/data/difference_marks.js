@@ -20,17 +20,18 @@ function entriesSeen(seen, crowded) {
 const columnOf = (d) => across((d.column + 0.5) * (1 << frame.xdecs[d.plane]));
 const rowOf = (d) => down((d.row + 0.5) * (1 << frame.ydecs[d.plane]));
 
-// A ring round the first differing sample of each leaf and plane, from near a cross through every one, and both values. Where these would run
-// into one another, a tint over each leaf by its greatest difference.
+// A ring around the first differing sample of each leaf and plane, from near a cross through each one, and both values. From so near that
+// values are drawn, a frame around each one in place of both. If there are too many, a tint over each leaf by its greatest difference.
 function drawDifferences(context, seen, part, crowded) {
   const entries = entriesSeen(seen, crowded);
   if (!entries) {
     drawOverFrame(context, heatOfLeaves(), false, 4);
     return false;
   }
+  const isFramed = state.zoom >= VALUES_ZOOM;
   const rings = [];
   const size = Math.max(7, state.zoom * 0.7);
-  for (const d of entries) {
+  for (const d of isFramed ? [] : entries) {
     const x = columnOf(d);
     const y = rowOf(d);
     if (x < -size || y < -size || x > state.width + size || y > state.height + size) continue;
@@ -38,10 +39,10 @@ function drawDifferences(context, seen, part, crowded) {
   }
   strokeTwice(context, colourOf('differences'), 2, [], rings);
   const room = state.zoom < CROSSES_ZOOM || drawCrosses(context, part);
-  if (state.zoom < VALUES_ZOOM) return room;
+  if (!isFramed) return room;
   for (const d of entries) {
     const text = PLANES[d.plane] + ' given ' + d.given + ' defined ' + d.defined;
-    barAt(context, text, columnOf(d), rowOf(d) - state.zoom, colourOf('differences'));
+    bar('differences', text, columnOf(d), rowOf(d) - state.zoom * (1 << frame.ydecs[d.plane]) / 2 - 14, colourOf('differences'));
   }
   return room;
 }
@@ -55,7 +56,7 @@ function heatOfLeaves() {
   });
 }
 
-// A cross through each visible sample that differs, of the planes that are shown, unless these are too many.
+// A mark of each visible sample that differs, of the planes that are shown, unless these are too many.
 function drawCrosses(context, part) {
   const places = [];
   PLANES.forEach((name, p) => { if (state.component === 'RGB' || state.component === name) crossesIn(places, part, p); });
@@ -65,8 +66,10 @@ function drawCrosses(context, part) {
 }
 
 function crossMark(width, height) {
+  const frames = (d) => d.rect(2, 2, width - 4, height - 4);
+  const crosses = (d) => { d.moveTo(0, 0); d.lineTo(width, height); d.moveTo(width, 0); d.lineTo(0, height); };
   return markOf(['cross', width, height].join(), width, height, (c) => {
-    strokeTwice(c, colourOf('differences'), 1.5, [], [(d) => { d.moveTo(0, 0); d.lineTo(width, height); d.moveTo(width, 0); d.lineTo(0, height); }]);
+    strokeTwice(c, colourOf('differences'), 1.5, [], [state.zoom >= VALUES_ZOOM ? frames : crosses]);
   });
 }
 

@@ -1,7 +1,7 @@
 // ---- Layers.
 
-// Each draws on the context, and tells whether all that it has to show had room. `seen` are the leaves in the visible part of the frame, and
-// `crowded` says that these are too many to be drawn one by one.
+// Each draws on the context, lists its labels (labels.js), and returns whether there was room for all. `seen` are the leaves in the visible
+// part of the frame, and `crowded` says that these are too many to be drawn one by one.
 
 // The transform blocks of a leaf in the plane that is shown, in luma samples, where they begin in the visible plane.
 function eachTransform(leaf, act) {
@@ -35,7 +35,7 @@ function drawTiles(context) {
   const colour = colourOf('tiles');
   drawEdges(context, colour, 3, plan.tiles);
   const roomy = plan.tiles.filter((tile) => Math.min(tile.width, tile.height) * state.zoom >= 40);
-  for (const tile of roomy) barAt(context, 'tile ' + tile.tile, across(tile.x) + 36, down(tile.y) + 14, colour);
+  for (const tile of roomy) bar('tiles', 'tile ' + tile.tile, across(tile.x) + 36, down(tile.y) + 14, colour);
   return roomy.length === plan.tiles.length;
 }
 
@@ -71,6 +71,16 @@ function edge(pixels, box, colour) {
 
 // ---- Modes.
 
+// From so near on, and so large, names are drawn.
+const NAMES_ZOOM = 3;
+const LEAST_LETTERS = 9;
+
+// The size of a name's letters that fits a width; 0 where that is too small to be read.
+function nameSize(text, width) {
+  const size = Math.min(13, (width - 2) / (0.62 * text.length));
+  return state.zoom >= NAMES_ZOOM && size >= LEAST_LETTERS ? size : 0;
+}
+
 // Directions as lines from the side that is continued, other modes by their names.
 function drawModes(context, seen, id, modeOf, place) {
   const colour = colourOf(id);
@@ -84,13 +94,13 @@ function drawModes(context, seen, id, modeOf, place) {
     const height = box.height * state.zoom;
     const x = across(leaf.x) + width / 2;
     const y = down(leaf.y) + height * (leaf.motions ? 0.5 : place);
-    const size = Math.min(13, 1.5 * width / m.text.length, height / 2);
+    const size = nameSize(m.text, width);
     if (Math.min(width, height) < 8) {
       room = false;
     } else if (m.mode >= 1 && m.mode <= 8) {
       slant(context, x, y, angleOf(m.mode, m.step), Math.round(Math.min(width, height) * (id === 'chroma' ? 0.2 : 0.42)), colour, dashes);
-    } else if (width >= 22 && size >= 6) {
-      textAt(context, m.text, x, y, size, colour);
+    } else if (size > 0 && height >= size + 2) {
+      label(id, m.text, x, y, size, colour);
     } else {
       room = false;
     }
@@ -151,12 +161,12 @@ function drawVectors(context, seen) {
   let room = roomy.length === inter.length;
   for (const leaf of roomy) {
     const box = visibleBox(frame, leaf);
-    const size = Math.min(13, box.width * state.zoom / 9);
-    if (size < 6) { room = false; continue; }
     const x = across(box.x + box.width / 2);
-    const name = MODES[leaf.mode];
-    textAt(context, name, x, down(box.y) + size, Math.min(size, 1.5 * box.width * state.zoom / name.length), colour);
-    textAt(context, motionsShown(leaf).map((m) => REFERENCES[m.reference]).join(' '), x, down(box.y + box.height) - size, size, colour);
+    const texts = [MODES[leaf.mode], motionsShown(leaf).map((m) => REFERENCES[m.reference]).join(' ')];
+    const sizes = texts.map((text) => nameSize(text, box.width * state.zoom));
+    if (Math.min(...sizes) === 0 || box.height * state.zoom < 4 * Math.max(...sizes)) { room = false; continue; }
+    label('vectors', texts[0], x, down(box.y) + sizes[0], sizes[0], colour);
+    label('vectors', texts[1], x, down(box.y + box.height) - sizes[1], sizes[1], colour);
   }
   return room;
 }
@@ -184,7 +194,7 @@ function drawSourceBoxes(context) {
   for (const m of motionsShown(leaf)) {
     const box = sourceBox(leaf, m);
     strokeTwice(context, colourOf('vectors'), 2, [6, 4], [boxPath(box)]);
-    barAt(context, REFERENCES[m.reference] + ', ' + slotText(m.slot), across(box.x + box.width / 2), down(box.y) - 10, colourOf('vectors'));
+    bar('source', REFERENCES[m.reference] + ', ' + slotText(m.slot), across(box.x + box.width / 2), down(box.y) - 10, colourOf('vectors'));
   }
 }
 
@@ -201,9 +211,9 @@ function drawCoefficients(context, seen) {
     eachTransform(leaf, (box, block) => {
       const width = box.width * state.zoom;
       if (!counts.has(block)) return;
-      if (width < 14) { room = false; return; }
       const size = Math.min(13, width / 3);
-      textAt(context, '#' + counts.get(block), across(box.x) + 1.2 * size, down(box.y) + 0.8 * size, size, colourOf('coefficients'));
+      if (size < LEAST_LETTERS) { room = false; return; }
+      label('coefficients', '#' + counts.get(block), across(box.x) + 1.2 * size, down(box.y) + 0.8 * size, size, colourOf('coefficients'));
     });
   }
   return room;
@@ -217,14 +227,14 @@ function drawValues(context, seen, part) {
   const p = shownPlane();
   const xdec = frame.xdecs[p];
   const ydec = frame.ydecs[p];
-  const size = Math.min(13, state.zoom * (1 << xdec) / 4, state.zoom * (1 << ydec) / (rgb ? 4 : 2));
+  const size = Math.min(13, state.zoom * (1 << xdec) / 4, state.zoom * (1 << ydec) / (rgb ? 4.5 : 2));
   for (let y = part.top >> ydec; y << ydec < part.bottom; y++) {
     for (let x = part.left >> xdec; x << xdec < part.right; x++) {
       const middle = across((x << xdec) + (1 << xdec) / 2);
       const centre = down((y << ydec) + (1 << ydec) / 2);
-      const value = (q) => valueAt(frame, state.source, q, rgb ? x >> frame.xdecs[q] : x, rgb ? y >> frame.ydecs[q] : y);
-      if (rgb) PLANES.forEach((name, q) => textAt(context, value(q), middle, centre + (q - 1) * size * 1.2, size, '#ffffff'));
-      else textAt(context, value(p), middle, centre, size, '#ffffff');
+      const value = (q) => valueAt(frame, sourceAcross(middle), q, rgb ? x >> frame.xdecs[q] : x, rgb ? y >> frame.ydecs[q] : y);
+      if (rgb) PLANES.forEach((name, q) => label('values', value(q), middle, centre + (q - 1) * size * 1.4, size, '#ffffff'));
+      else label('values', value(p), middle, centre, size, '#ffffff');
     }
   }
   return true;
@@ -247,7 +257,7 @@ function drawDepartures(context, seen, part, crowded) {
   if (crowded) return true;
   for (const leaf of seen) {
     if (!departures.has(leaf.number) || Math.min(leaf.width, leaf.height) * state.zoom < 20) continue;
-    textAt(context, '!AV1', across(leaf.x + leaf.width) - 16, down(leaf.y) + 9, 11, colourOf('departures'));
+    label('departures', '!AV1', across(leaf.x + leaf.width) - 16, down(leaf.y) + 9, 11, colourOf('departures'));
   }
   return true;
 }

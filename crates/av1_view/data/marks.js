@@ -35,15 +35,17 @@ function dashesOf(context, colour) {
   return context.createPattern(tile, 'repeat');
 }
 
-// The upper and the left edges of boxes, over dark ones.
+// The upper and the left edges of boxes, over dark ones, as far as they lie in the frame.
 function drawEdges(context, fill, width, boxes) {
   for (const [colour, thick] of [[SHADE, width + 2], [fill, width]]) {
     context.fillStyle = colour;
     for (const box of boxes) {
       const x = snap(across(box.x) - thick / 2);
       const y = snap(down(box.y) - thick / 2);
-      context.fillRect(x, y, snap(box.width * state.zoom), thick);
-      context.fillRect(x, y, thick, snap(box.height * state.zoom));
+      const seen = visibleBox(frame, box);
+      if (seen.width === 0 || seen.height === 0) continue;
+      context.fillRect(x, y, snap(seen.width * state.zoom), thick);
+      context.fillRect(x, y, thick, snap(seen.height * state.zoom));
     }
   }
 }

@@ -10,25 +10,32 @@ function row(...texts) {
   return line;
 }
 
-const TITLES = { plan: 'A plan seen', tiles: 'A grid of tiles seen', sequence: 'A sequence seen' };
+const TITLES = { plan: 'Plan viewer', tiles: 'Plan viewer: a grid of tiles', sequence: 'Plan viewer: a sequence', trace: 'Plan viewer: a trace' };
 
-// What is known of the whole frame.
-function showFrame() {
+// Which references each slot has.
+const slotsText = () => [...new Set(frame.slots)].sort().map((slot) => 'slot ' + slot + ': ' + namesText(frame, slot)).join('; ');
+
+// What is known of the whole frame. Many slots are only named beside the samples that can be shown.
+const MOST_SLOTS = 3;
+
+function frameText() {
   const numbers = file.kind === 'sequence' ? ['frame ' + state.frame + ' of ' + file.count] : plan.tiles ? [plan.tiles.length + ' tiles'] : [];
   const parts = [...numbers, frame.width + 'x' + frame.height, frame.depth + ' bits', SAMPLINGS[frame.sampling], leaves.length + ' leaves', 'version ' + frame.version,
-    FILTERS[frame.filter] + ' filter', 'edge filter ' + (frame.edgeFilter ? 'on' : 'off'), 'slots ' + frame.slots.join(' ')];
+    FILTERS[frame.filter] + ' filter', 'edge filter ' + (frame.edgeFilter ? 'on' : 'off')];
+  if (leaves.some((leaf) => leaf.motions) && new Set(frame.slots).size <= MOST_SLOTS) parts.push(slotsText());
   if (file.kind === 'sequence') parts.push(keptText(state.frame));
-  element('frame').textContent = parts.join(', ');
-  element('departing').hidden = departures.size === 0;
-  element('departing').textContent = departures.size + (departures.size === 1 ? ' leaf departs' : ' leaves depart')
-    + ' from AV1: a search for departs finds them.';
-  if (!given) return;
-  element('differences').hidden = false;
-  element('differences').textContent = differences.count === 0 ? 'The given samples are those of the plan.'
-    : differences.count + ' given samples differ, in ' + differences.ofLeaf.size + ' leaves, by ' + differences.most + ' at most.';
+  return parts.join(', ');
 }
 
-// Numbers with a sign are drawn round grey: what is drawn as black and as white.
+function showFrame() {
+  element('frame').textContent = frameText();
+  element('departing').hidden = departures.size === 0;
+  element('departing').textContent = departures.size + (departures.size === 1 ? ' leaf departs' : ' leaves depart')
+    + ' from AV1: search for departs to find ' + (departures.size === 1 ? 'it.' : 'them.');
+  showDifferences();
+}
+
+// Numbers with a sign are drawn around grey: what is drawn as black and as white.
 function showGain() {
   const { source, component } = state;
   element('gains').hidden = !source.signed;
@@ -51,14 +58,16 @@ function showPlace() {
   const l = leafHere();
   const past = state.unseen === null ? '' : ' past what is shown';
   element('place').textContent = 'leaf ' + l.number + past + ', sample at column ' + state.x + ', row ' + state.y;
-  element('locked').textContent = state.locked ? 'Locked: Esc lets go.' : 'A click locks it.';
+  element('locked').textContent = state.locked ? 'Locked. Press Esc to unlock.' : 'Click to lock.';
   element('samples').replaceChildren(row('', ...PLANES), ...sampleRows());
   const found = (differences.ofLeaf.get(l.number) || []).map((d) =>
     [PLANES[d.plane] + ' differs', 'row ' + d.row + ', column ' + d.column + ', given ' + d.given + ', defined ' + d.defined]);
   if (departures.has(l.number)) found.push(['departs from AV1', departures.get(l.number)]);
-  element('fields').replaceChildren(...fieldsOf(frame, l).concat(found).map((f) => row(...f)));
+  element('fields').replaceChildren(...fieldsOf(frame, l).concat(found).map((f) => row(...f)), definitionRow(l));
+  element('copied').textContent = '';
   element('triples').textContent = triplesText(plan, l);
   showSource();
+  showBlock();
 }
 
 // ---- Classes of leaves.

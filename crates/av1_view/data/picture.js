@@ -4,16 +4,23 @@
 const MOST_LEAVES = 2500;
 
 const picture = document.createElement('canvas');
+const secondPicture = document.createElement('canvas');
 let stamps = new Uint32Array(0);
 let stamp = 0;
 let waiting = false;
 
+// The samples of a source, as a picture of the whole frame.
+function paintWhole(image, source) {
+  image.width = frame.width;
+  image.height = frame.height;
+  const painter = painterOf(frame, source, state.component, state.matrix, gainOf(frame, source, state.component, state.gain));
+  image.getContext('2d').putImageData(paint(painter, shownOf(frame), shownOf(frame)), 0, 0);
+}
+
 // The samples that are shown, painted anew.
 function repaint() {
-  picture.width = frame.width;
-  picture.height = frame.height;
-  const painter = painterOf(frame, state.source, state.component, state.matrix, gainHere());
-  picture.getContext('2d').putImageData(paint(painter, shownOf(frame), shownOf(frame)), 0, 0);
+  paintWhole(picture, state.source);
+  if (state.second) paintWhole(secondPicture, state.second);
   showGain();
   showSource();
   redraw();
@@ -63,6 +70,7 @@ const DRAWN = {
   vectors: drawVectors,
   departures: drawDepartures,
   differences: drawDifferences,
+  edge: drawEdge,
 };
 
 // Edges of boxes; from far they are drawn as lines of the whole frame before.
@@ -91,6 +99,7 @@ function draw() {
   context.fillStyle = state.ground;
   context.fillRect(0, 0, state.width, state.height);
   drawOverFrame(context, picture, state.zoom * state.scale < 1);
+  if (state.second) drawWipe(context);
   const seen = visibleLeaves(part);
   const crowded = seen.length > MOST_LEAVES;
   const dense = [];
@@ -103,8 +112,52 @@ function draw() {
   }
   if (layers.vectors) drawSourceBoxes(context);
   drawCursor(context);
+  state.labels = [];
+  for (const id of drawLabels(context)) if (!dense.includes(nameOfLayer(id))) dense.push(nameOfLayer(id));
   element('scale').textContent = state.zoom.toFixed(2) + ' pixels a sample, ' + state.source.name + ', ' + state.component;
   element('dense').textContent = dense.length === 0 ? '' : 'zoom in for ' + dense.join(', ');
+  noteAddress();
+}
+
+const nameOfLayer = (id) => LAYERS.find((layer) => layer.id === id).name;
+
+// ---- The wipe: left of a line another source.
+
+const divideAt = () => state.divide * state.width;
+const sourceAcross = (x) => state.second && x < divideAt() ? state.second : state.source;
+
+function drawWipe(context) {
+  context.save();
+  context.beginPath();
+  context.rect(0, 0, divideAt(), state.height);
+  context.clip();
+  context.fillRect(0, 0, divideAt(), state.height);
+  drawOverFrame(context, secondPicture, state.zoom * state.scale < 1);
+  context.restore();
+  strokeTwice(context, '#ffffff', 2, [], [(c) => { c.moveTo(divideAt(), 0); c.lineTo(divideAt(), state.height); }]);
+  const aside = (text) => 4.2 * text.length + 6;
+  bar('wipe', state.second.name, divideAt() - aside(state.second.name), 14, '#ffffff');
+  bar('wipe', state.source.name, divideAt() + aside(state.source.name), 14, '#ffffff');
+}
+
+// The source left of the line, by its name, or none.
+function setSecond(name) {
+  state.second = sources.find((s) => s.name === name) || null;
+  element('second').value = state.second ? name : NO_WIPE;
+  element('divide').hidden = !state.second;
+  repaint();
+}
+
+function setDivide(share) {
+  state.divide = share;
+  element('divide').value = 100 * share;
+  redraw();
+}
+
+// What `w` chooses: the given samples of a trace, else what stands next among the sources.
+function switchWipe() {
+  const other = sources.find((s) => s.name === 'given' && s !== state.source) || next(sources, state.source);
+  setSecond(state.second || other === state.source ? NO_WIPE : other.name);
 }
 
 function drawCursor(context) {

@@ -53,24 +53,30 @@ function heldPlanes(frame) {
 // A slot by its number, and in a sequence the frame that it holds.
 const slotText = (slot) => 'slot ' + slot + (plan.held ? ', frame ' + plan.held[slot] : '');
 
-// The references of a frame that name a slot.
+// The references of a frame that name a slot, and these in words.
 const namesOf = (frame, slot) => REFERENCES.filter((name, i) => i > 0 && frame.slots[i - 1] === slot);
+
+function namesText(frame, slot) {
+  const names = namesOf(frame, slot);
+  const others = REFERENCES.filter((name) => name && !names.includes(name));
+  if (names.length > 4) return others.length === 0 ? 'all references' : 'all but ' + others.join(' ');
+  return names.join(' ') || 'no reference';
+}
 
 // What can be shown: samples, or numbers with a sign, which are drawn round grey. `less` is taken from `of`, where there is one.
 function sourcesOf(plan, held) {
   const source = (name, title, of, less = null) => ({ name, title, of, less, signed: less !== null, slot: -1, greatest: new Map() });
-  const sources = [source('reconstruction', 'what the plan comes to', held.planes)];
+  const sources = [source('reconstruction', 'the samples that the plan defines', held.planes)];
   if (held.predictions) {
-    sources.push(source('prediction', 'what each block is predicted as, before its residue is added', held.predictions));
-    sources.push(source('residue', 'what is added to the prediction: the reconstruction less the prediction', held.planes, held.predictions));
+    sources.push(source('prediction', 'what each block is predicted as, before its residual is added', held.predictions));
+    sources.push(source('residual', 'the reconstruction less the prediction', held.planes, held.predictions));
   }
   if (held.given) {
-    sources.push(source('given', 'what another encoder left', held.given));
+    sources.push(source('given', 'the samples of the other encoder or decoder', held.given));
     sources.push(source('given - defined', 'the given samples less the reconstruction', held.given, held.planes));
   }
   plan.slots.forEach((samples, slot) => {
-    const names = namesOf(plan.frame, slot).join(', ') || 'no reference';
-    if (samples) sources.push({ ...source('slot ' + slot, 'reference planes, of ' + names, samples), slot });
+    if (samples) sources.push({ ...source('slot ' + slot, 'reference planes: ' + namesText(plan.frame, slot), samples), slot });
   });
   return sources;
 }

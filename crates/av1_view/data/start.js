@@ -11,6 +11,9 @@ function listen() {
   element('search').addEventListener('keydown', (event) => { if (event.key === 'Enter' && foundCount() > 0) moveToLeaf(foundAt(0)); });
   element('list').addEventListener('scroll', showList);
   element('list').addEventListener('click', (event) => { if (event.target.dataset.leaf) moveToLeaf(Number(event.target.dataset.leaf)); });
+  element('help').addEventListener('click', showKeys);
+  element('copy').addEventListener('click', copyReport);
+  window.addEventListener('hashchange', takeAddress);
   new ResizeObserver(draw).observe(canvas);
   watchScale();
   window.matchMedia('(prefers-color-scheme: light)').addEventListener('change', takeScheme);
@@ -29,7 +32,7 @@ function takeScheme() {
 }
 
 function start() {
-  document.title = element('title').textContent = TITLES[file.kind];
+  document.title = element('title').textContent = TITLES[given ? 'trace' : file.kind];
   if (file.count === 0) {
     element('frame').textContent = 'This sequence has no frames.';
     return;
@@ -45,6 +48,7 @@ function start() {
   showClasses();
   followCursor();
   showList();
+  takeAddress();
   listen();
   element(file.kind === 'sequence' ? 'strip' : 'picture').focus();
 }
@@ -58,7 +62,8 @@ window.view = {
   get departures() { return departures; },
   get sources() { return sources; },
   file, marks, layers, layersHere: LAYERS_HERE, state, leafAt, draw, moveTo, moveToLeaf, fit, fitFrame, fitLeaf, zoomAt, setLayer, setSource, setComponent,
-  setGain, setProperty, chooseClass, setSearch, setLocked, setFrame, summaryOf,
+  setGain, setProperty, chooseClass, setSearch, setLocked, setFrame, summaryOf, setSecond, setDivide, blockAt, blockHere, edgeOf, readsOf, directed, gridsOf,
+  reportText, addressOf, sectionsOf, signalToNoise, modeColour,
   sample: (name, p, x, y) => valueAt(frame, sources.find((s) => s.name === name), p, x, y),
   coefficients: (number, p) => coefficientsOf(plan, leaves[number], p),
   transformSides: (leaf) => TRANSFORM_SIZES[leaf.transformSize],

@@ -14,7 +14,9 @@ const LAYERS = [
   { id: 'differences', key: '9', name: 'differences', colour: '#ff5a00', on: true },
   { id: 'departures', key: 'x', name: 'departs from AV1', colour: '#ff3b5c', on: true },
   { id: 'map', key: 'm', name: 'map of leaves', colour: '#b59cff', on: false },
-  { id: 'source', key: 'b', name: 'source of the block', colour: '#00d69b', on: false },
+  { id: 'source', key: 'b', name: 'block source', colour: '#00d69b', on: false },
+  { id: 'edge', key: 'i', name: 'intra edge', colour: '#ffd24a', on: false },
+  { id: 'block', key: 'k', name: 'block numbers', colour: '#d0e8ff', on: false },
 ];
 
 const element = (id) => document.getElementById(id);
@@ -58,9 +60,11 @@ const layers = Object.fromEntries(LAYERS.map((layer) => [layer.id, layer.on && H
 // Lengths are of CSS pixels, of which each has `scale` of the device's on a side. `left` and `top` are the luma place at the corner.
 const state = {
   frame: 0, source: sources && sources[0], component: 'RGB', matrix: MATRICES[0], gain: 'automatic', zoom: 1, left: 0, top: 0, width: 1, height: 1, scale: 1, ground: '',
-  x: 0, y: 0, unseen: null, locked: false, property: PROPERTIES[0], chosen: null, words: '', found: null, difference: -1,
+  x: 0, y: 0, unseen: null, locked: false, property: PROPERTIES[0], chosen: null, words: '', found: null, difference: -1, second: null, divide: 0.5, labels: [],
 };
 
+// Whether the page holds the samples of the frame that is shown; those of a frame that is never shown it lacks.
+const hasSamples = () => file.kind !== 'sequence' || file.isHeld(state.frame);
 const leafAt = (x, y) => leaves[cells.leaves[(y >> 2) * cells.columns + (x >> 2)]];
 // The leaf at the cursor, or the one that was gone to and lies past what is shown.
 const leafHere = () => state.unseen === null ? leafAt(state.x, state.y) : leaves[state.unseen];

@@ -92,11 +92,13 @@ function setFrame(number) {
   state.frame = number;
   state.unseen = null;
   state.source = sources.find((s) => s.name === state.source.name) || sources[0];
+  state.second = null;
   cellImages.clear();
   classLists.clear();
   linesKey = '';
   if (!classesHere().some((c) => c.number === state.chosen)) state.chosen = null;
   showSources();
+  element('divide').hidden = true;
   showFrame();
   repaint();
   showPlace();
