@@ -28,7 +28,8 @@ use Rattle.av1_intra.specs.Paeth.{paeth}
 use Rattle.av1_intra.specs.Predicted.{predicted as intra_predicted}
 use Rattle.av1_intra.specs.Smooth.{weights}
 use Rattle.av1_intra.specs.Upsampling.{upsampled}
-use Rattle.av1_itx.specs.Adst.{adst_with, adst_more_with, adst_in, adst_start_with, turned_with, adst_rounds_with, adst_sum_with, adst_turn_with, adst_out_with, out_place}
+use Rattle.av1_itx.specs.Adst.{adst_with, adst_more_with, adst_in, adst_start_with, turned_with, adst_rounds_with, adst_sum_with, adst_turn_with}
+use Rattle.av1_itx.specs.Adst.{adst_out_with, out_place}
 use Rattle.av1_itx.specs.Adst.{adst4_with, weighted_with}
 use Rattle.av1_itx.specs.Identity.{identity_with, scaled_with}
 use Rattle.av1_itx.specs.Networks.{network_with}
@@ -101,7 +102,8 @@ two_references = record {
       243 ∷ 81 ∷ 209 ∷ 115 ∷ 55 ∷ 29 ∷ 37 ∷ 79 ∷ []) ∷ (40 ∷ 57 ∷ 108 ∷ 193 ∷ 69 ∷ 97 ∷ 159 ∷ 255 ∷ 98 ∷ 137 ∷ 210 ∷ 61 ∷ 127 ∷ 177 ∷ 5 ∷ 123 ∷ []) ∷
       (40 ∷ 57 ∷ 108 ∷ 193 ∷ 69 ∷ 97 ∷ 159 ∷ 255 ∷ 98 ∷ 137 ∷ 210 ∷ 61 ∷ 127 ∷ 177 ∷ 5 ∷ 123 ∷ []) ∷ []) ∷ None ∷ None ∷ None ∷ None ∷ None ∷ None ∷ [];
   leaves =
-      leaf 0 0 BLOCK_8X8 TX_8X8 (Compound NEW_NEWMV (LAST_FRAME ∷ BWDREF_FRAME ∷ []) ((record { row = pos 3; col = negsuc 4 }) ∷ (record { row = negsuc 6; col = pos 10 }) ∷ [])) (Some DCT_DCT) [] ∷ [];
+      leaf 0 0 BLOCK_8X8 TX_8X8 (Compound NEW_NEWMV (LAST_FRAME ∷ BWDREF_FRAME ∷ [])
+      ((record { row = pos 3; col = negsuc 4 }) ∷ (record { row = negsuc 6; col = pos 10 }) ∷ [])) (Some DCT_DCT) [] ∷ [];
 }
 
 -- one leaf of 8x8 whose chroma follows its luma
@@ -110,7 +112,8 @@ from_luma_plan = record {
   header = header false 0 0;
   references = [];
   leaves =
-      leaf 0 0 BLOCK_8X8 TX_4X4 (Intra DC_PRED (pos 0) (Some (Cfl (pos 8) (negsuc 4)))) (Some DCT_DCT) (triple 0 0 (pos 800) ∷ triple 2 1 (pos 600) ∷ triple 3 0 (negsuc 499) ∷ []) ∷ [];
+      leaf 0 0 BLOCK_8X8 TX_4X4 (Intra DC_PRED (pos 0) (Some (Cfl (pos 8) (negsuc 4)))) (Some DCT_DCT)
+      (triple 0 0 (pos 800) ∷ triple 2 1 (pos 600) ∷ triple 3 0 (negsuc 499) ∷ []) ∷ [];
 }
 
 worked_planes :
