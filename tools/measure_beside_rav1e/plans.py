@@ -2,22 +2,28 @@
 """Counts the instructions of whole runs, from a plan to its planes, here and with rav1e's own functions.
 
     integrations/rav1e/source
-    tools/measure_beside_rav1e/plans.py PROGRAM PLAN..
+    tools/measure_beside_rav1e/plans.py [--time] PROGRAM PLAN..
 
 PROGRAM is the built av1_vectors. It is compared with `integrations/rav1e/answer`, which reads the same plan and calls rav1e 0.8.1's
 functions, built for x86-64-v2. PLAN is a plan, or a folder of `integrations/rav1e/record`: then the plans of all its frames. Each line has
 the plan, the instructions of a run here, those in rav1e, and the ratio of the two. A folder has one line more: the ratio of its first frame,
 the least and the greatest of the others, and that of the sums. If the planes differ, the script stops. It needs `valgrind`, and `cargo` for
 the first run.
+
+With `--time`, each line has the milliseconds of a run instead: processor time, the median of 21 runs of each program in turns.
 """
+import argparse
 import concurrent.futures
+import os
 import pathlib
 import re
+import statistics
 import subprocess
 import sys
 
 REPOSITORY = pathlib.Path(__file__).resolve().parent.parent.parent
 AT_ONCE = 3
+RUNS = 21
 
 
 def count(program, plan):
@@ -38,24 +44,45 @@ def compare(program, wrapper, plan):
     return here, there
 
 
+def milliseconds(program, plan):
+    """The processor time of a run."""
+    with open(plan, "rb") as file:
+        process = subprocess.Popen([program], stdin=file, stdout=subprocess.DEVNULL)
+    _, status, usage = os.wait4(process.pid, 0)
+    if status:
+        sys.exit(f"plans.py: `{program} < {plan}` failed: run it alone to see why")
+    return 1000 * (usage.ru_utime + usage.ru_stime)
+
+
+def compare_times(program, wrapper, plan):
+    """The milliseconds of a run here and in rav1e."""
+    pairs = [(milliseconds(program, plan), milliseconds(wrapper, plan)) for _ in range(RUNS)]
+    here, there = map(statistics.median, zip(*pairs))
+    print(f"{plan} {here:.1f} {there:.1f} {here / there:.2f}", flush=True)
+    return here, there
+
+
 def summary(name, counts):
     """A folder's line."""
     first, *others = (here / there for here, there in counts)
     here, there = map(sum, zip(*counts))
     between = f", others {min(others):.2f} to {max(others):.2f}" if others else ""
-    return f"{name}: {len(counts)} frames, {here:,} {there:,} {here / there:.2f} over all, first {first:.2f}{between}"
+    return f"{name}: {len(counts)} frames, {here:,.0f} {there:,.0f} {here / there:.2f} over all, first {first:.2f}{between}"
 
 
 def main():
-    if len(sys.argv) < 3:
-        sys.exit(__doc__)
-    program, *given = sys.argv[1:]
+    parser = argparse.ArgumentParser(usage=__doc__, add_help=False)
+    parser.add_argument("--time", action="store_true")
+    parser.add_argument("program")
+    parser.add_argument("plans", type=pathlib.Path, nargs="+")
+    given = parser.parse_args()
     answer = REPOSITORY / "integrations/rav1e/answer"
     wrapper = subprocess.run([answer, "--path"], stdout=subprocess.PIPE, text=True, check=True).stdout.strip()
-    with concurrent.futures.ThreadPoolExecutor(AT_ONCE) as pool:
-        for path in map(pathlib.Path, given):
+    measure, at_once = (compare_times, 1) if given.time else (compare, AT_ONCE)
+    with concurrent.futures.ThreadPoolExecutor(at_once) as pool:
+        for path in given.plans:
             plans = sorted(path.glob("*.plan")) if path.is_dir() else [path]
-            counts = list(pool.map(lambda plan: compare(program, wrapper, plan), plans))
+            counts = list(pool.map(lambda plan: measure(given.program, wrapper, plan), plans))
             if path.is_dir():
                 print(summary(path.name, counts), flush=True)
 
