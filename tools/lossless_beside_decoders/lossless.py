@@ -24,12 +24,13 @@ A line names each frame that differs, with the first sample that does. FOLDER ge
 all plans as rows (tools/record_rows/README.md) with dav1d's samples, except monochrome ones. The status is 1 if a frame differs that may not:
 PROGRAM or aomdec's plain code in any kind, vector code in the first three.
 
-On Debian 12: apt-get install --no-install-recommends dav1d aom-tools librust-rav1e-dev
-The last package has the source of rav1e 0.5.1, whose tables of default frequencies are read; SOURCE is another folder of it.
-300 frames take about 15 seconds.
+The decoders, and rav1e's source, whose tables of default frequencies are read, are those of `integrations/rav1e/source`: the oldest
+dav1d and aomdec. Without it they are those of the system (apt-get install --no-install-recommends dav1d aom-tools librust-rav1e-dev).
+SOURCE is another folder of rav1e. 300 frames take about 15 seconds.
 """
 import argparse
 import collections
+import functools
 import pathlib
 import shutil
 import subprocess
@@ -37,21 +38,30 @@ import sys
 import tempfile
 
 sys.dont_write_bytecode = True
-sys.path.append(str(pathlib.Path(__file__).resolve().parent.parent / "record_rows"))
+REPOSITORY = pathlib.Path(__file__).resolve().parent.parent.parent
+sys.path += [str(REPOSITORY / "tools/record_rows"), str(REPOSITORY / "integrations/rav1e")]
 import bits
 import frames
 import symbols
 import runs
+from parts import build
+from parts import decoders as installed
 
-RAV1E = pathlib.Path("/usr/share/cargo/registry/rav1e-0.5.1")
 REFERENCE = "dav1d"
-DAV1D, AOMDEC = ("dav1d", "-q", "--threads", "1", "--muxer", "yuv", "-o", "-"), ("aomdec", "--rawvideo", "-o", "-")
-DECODERS = {REFERENCE: (*DAV1D, "--cpumask", "0", "-i"), "aomdec": ("env", "AOM_SIMD_CAPS=0", *AOMDEC),
-            "dav1d's vectors": (*DAV1D, "-i"), "aomdec's vectors": AOMDEC}
 # Where the vector code of decoders may differ.
 OVERFLOWING = ("farther", "any")
 # How many bytes a source gives, and a sink takes, at once.
 PIECE = 4096
+
+
+@functools.cache
+def decoders():
+    """The command of each decoder, by its name."""
+    paths = installed.found()
+    dav1d, aomdec = (next(path for name, path in paths.items() if name.startswith(kind)) for kind in ("dav1d", "aomdec"))
+    dav1d, aomdec = (dav1d, "-q", "--threads", "1", "--muxer", "yuv", "-o", "-"), (aomdec, "--rawvideo", "-o", "-")
+    return {REFERENCE: (*dav1d, "--cpumask", "0", "-i"), "aomdec": ("env", "AOM_SIMD_CAPS=0", *aomdec),
+            "dav1d's vectors": (*dav1d, "-i"), "aomdec's vectors": aomdec}
 
 
 def answer(words, data=b""):
@@ -66,7 +76,7 @@ def outputs(frame, stream, plan, program, folder):
     """What the decoders and the program make of a frame, by their names."""
     file = pathlib.Path(folder) / "frame.obu"
     file.write_bytes(stream)
-    made = {name: answer((*words, str(file))) for name, words in DECODERS.items()}
+    made = {name: answer((*words, str(file))) for name, words in decoders().items()}
     made["program"] = answer((program,), plan)
     if frame.is_monochrome():
         size = frame.width * frame.height * (1 if frame.depth == 8 else 2)
@@ -134,7 +144,7 @@ class Comparison:
 
     def table(self):
         """How many frames were compared and differ, by depth and kind."""
-        names = ["program", *(it for it in DECODERS if it != REFERENCE)]
+        names = ["program", *(it for it in decoders() if it != REFERENCE)]
         lines = ["frames that differ from dav1d's plain code:", "depth  kind     frames  " + "  ".join(names)]
         for depth, kind in sorted(self.compared, key=lambda it: (it[0], frames.KINDS.index(it[1]))):
             counts = "  ".join(f"{self.differing[name, depth, kind]:{len(name)}}" for name in names)
@@ -150,17 +160,13 @@ def arguments():
     parser.add_argument("--most", type=int, choices=range(1, 65), default=24)
     parser.add_argument("--keep", type=pathlib.Path)
     parser.add_argument("--rows", type=pathlib.Path)
-    parser.add_argument("--rav1e", type=pathlib.Path, default=RAV1E)
+    parser.add_argument("--rav1e", type=pathlib.Path, default=build.default_source())
     parser.add_argument("program")
     given = parser.parse_args()
-    packages = {"dav1d": "dav1d", "aomdec": "aom-tools"}
     if not shutil.which(given.program):
         sys.exit(f"lossless.py: {given.program} is not a program; `rt run` in crates/av1_vectors builds out/av1_vectors")
-    lacking = [package for name, package in packages.items() if not shutil.which(name)]
     if not (given.rav1e / "src/token_cdfs.rs").is_file():
-        lacking.append("librust-rav1e-dev")
-    if lacking:
-        sys.exit(f"lossless.py: decoders are missing; run: apt-get install --no-install-recommends {' '.join(lacking)}")
+        sys.exit(f"lossless.py: {given.rav1e}, rav1e's source, is missing; run: integrations/rav1e/source")
     return given
 
 

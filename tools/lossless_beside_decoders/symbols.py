@@ -42,7 +42,7 @@ class Symbols:
 def lists_of(text, name):
     """All lists of cumulative frequencies of a table, in order."""
     body = re.search(rf"\b{name}:[^=]*=(.*?);\n", text, re.S).group(1)
-    lists = re.findall(r"cdf!\(([^)]*)\)", body)
+    lists = re.findall(r"[\[(]([\d\s,*]+)[\])]", body)
     return [[math.prod(map(int, it.split("*"))) for it in them.split(",") if it.strip()] for them in lists]
 
 

@@ -49,10 +49,17 @@ def listed(path, names):
                 yield words[0], words[1], words[2:]
 
 
-def encode(encoder, clip, bits, variables, words):
-    """Encodes a clip into the file `bits`, in one thread where the words of rav1e don't say in how many."""
+def command(encoder, clip, bits, words):
+    """The command that encodes a clip into the file `bits`, in one thread where the words of rav1e don't say in how many."""
     threads = [] if "--threads" in words else ["--threads", "1"]
-    run = subprocess.run([encoder, clip, "-o", bits, "-y", *threads, "--quiet", *words], env={**os.environ, **variables},
+    return [encoder, clip, "-o", bits, "-y", *threads, "--quiet", *words]
+
+
+def encode(encoder, clip, bits, variables, words, before=()):
+    """Encodes a clip into the file `bits`, by a command behind the words `before`; returns what it says on standard error."""
+    run = subprocess.run([*before, *command(encoder, clip, bits, words)], env={**os.environ, **variables},
                          capture_output=True, stdin=subprocess.DEVNULL)
+    said = run.stderr.decode(errors="replace")
     if run.returncode:
-        raise Failed("the encoder failed: " + run.stderr.decode(errors="replace").strip()[-600:])
+        raise Failed("the encoder failed: " + said.strip()[-600:])
+    return said

@@ -1,6 +1,6 @@
 //! Answers plans and this project's other files by rav1e's own functions.
 //!
-//! `wrapper/build` puts these files into a copy of rav1e 0.8.1 as its module `wrapper`, whose `main` is the program: it takes a
+//! `parts/wrapper.py` puts these files into a copy of rav1e 0.8.1 as its module `wrapper`, whose `main` is the program: it takes a
 //! plan as `av1_vectors` does, and with `tools WORD` what `av1_tools WORD` takes, with their lines and statuses.  Reading and
 //! judging a file is written here; each sample is rav1e's: `motion_compensate`, `predict_inter`, `get_intra_edges`,
 //! `predict_intra`, `luma_ac` and `inverse_transform_add`.

@@ -1,0 +1,143 @@
+#!/usr/bin/env python3
+"""Counts what the accepted rows of version 3 have, for the table of docs/TESTED.md.
+
+    tools/record_rows/coverage.py crates/av1_rows/stdin
+
+Rows before the last block call have results of rav1e's code, the others results of dav1d. `N in M` counts leaves, and the rows
+that have any. The traces of other encoders' streams aren't counted.
+"""
+import collections
+import pathlib
+import struct
+import sys
+
+HERE = pathlib.Path(__file__).resolve().parent
+sys.dont_write_bytecode = True
+sys.path += [str(HERE), str(HERE.parent.parent / "integrations/rav1e")]
+import runs
+from parts.plans import FILTERS, TYPES, Plan
+
+SHARP, LOSSLESS = FILTERS.index("sharp"), TYPES.index("WHT_WHT")
+LARGE = 1 << 14
+# The lines that stand first, in this order; the others are sorted.
+LINES = ("rows", "width or height not a multiple of 8", "hidden frames", "slots shown again",
+         "lossless frames with a coefficient of 2^14 or more at depth 10 or 12", "inter leaves with a dimension of 4", "of these with the sharp filter")
+UNSHARED = "not shared"
+FRONT_OF_SEQUENCE, FRONT_OF_TRACE, FRONT_OF_FRAME = 12, 8, 10
+HIDDEN, SHOWN, AGAIN = range(3)
+
+
+class Row(runs.Run):
+    """A stored run, with its status."""
+
+    def __init__(self, row):
+        super().__init__(row)
+        self.status, = self.fields("B")
+        self.entries = collections.Counter()
+
+    def plans(self):
+        """The plans and grids of version 3 in the input; `entries` then counts a sequence's kinds of entries."""
+        start = self.data[:4]
+        if start == b"RPL3" or start == b"RTL2":
+            yield Plan(self.data)
+        elif start == b"RTR1" and self.data[FRONT_OF_TRACE:FRONT_OF_TRACE + 4] == b"RPL3":
+            length, = struct.unpack_from("<I", self.data, 4)
+            yield Plan(self.data[FRONT_OF_TRACE:FRONT_OF_TRACE + length])
+        elif start == b"RSQ2":
+            yield from self.frames()
+
+    def frames(self):
+        """The plans of a sequence's frames, without references."""
+        at = FRONT_OF_SEQUENCE
+        while at < len(self.data):
+            kind = self.data[at]
+            self.entries[kind] += 1
+            at += 3 if kind == AGAIN else 1
+            if kind != AGAIN:
+                head, length = self.data[at:at + FRONT_OF_FRAME], struct.unpack_from("<I", self.data, at + FRONT_OF_FRAME)[0]
+                at += FRONT_OF_FRAME + 4 + length
+                yield Plan(b"RPL3" + self.data[4:10] + head[:9] + b"\0" + self.data[at - length:at])
+
+
+def leaves_of(plan):
+    """How many leaves of each kind a plan has."""
+    counts, cells = collections.Counter(), {}
+    for leaf in plan.leaves():
+        for y in range(leaf.y // 4, (leaf.y + leaf.h) // 4):
+            cells.update(((x, y), leaf) for x in range(leaf.x // 4, (leaf.x + leaf.w) // 4))
+        if leaf.references and min(leaf.w, leaf.h) == 4:
+            counts["inter leaves with a dimension of 4"] += 1
+            counts["of these with the sharp filter"] += plan.filter == SHARP
+            counts[shared(plan, leaf, cells)] += 1
+    return counts
+
+
+def shared(plan, leaf, cells):
+    """How the chroma is predicted that an inter leaf with a dimension of 4 carries for others too."""
+    narrow, low = plan.xdec and leaf.w == 4, plan.ydec and leaf.h == 4
+    if leaf.chroma_type is None or not (narrow or low):
+        return UNSHARED
+    sharing = [cells[leaf.x // 4 - dx, leaf.y // 4 - dy] for dx in range(narrow + 1) for dy in range(low + 1)]
+    if not all(it.references for it in sharing):
+        return "chroma shared whole, beside an intra leaf"
+    return f"chroma shared in parts: {leaf.w}x{leaf.h} of {'4:2:0' if plan.ydec else '4:2:2'}"
+
+
+def is_large(plan):
+    """Whether a frame is lossless throughout, of more than 8 bits, and has a very large coefficient."""
+    leaves = list(plan.leaves())
+    lossless = plan.depth > 8 and all(leaf.type == LOSSLESS for leaf in leaves)
+    return lossless and any(abs(value) >= LARGE for leaf in leaves for block in leaf.coefficients for _, _, value in block)
+
+
+def count(rows):
+    """The counts of these rows."""
+    total, having = collections.Counter(), collections.Counter()
+    for row in rows:
+        plans = list(row.plans())
+        total["rows"] += bool(plans) or row.data[:4] == b"RSQ2"
+        total["width or height not a multiple of 8"] += any(plan.width % 8 or plan.height % 8 for plan in plans)
+        total["lossless frames with a coefficient of 2^14 or more at depth 10 or 12"] += sum(map(is_large, plans))
+        total["hidden frames"] += row.entries[HIDDEN]
+        total["slots shown again"] += row.entries[AGAIN]
+        leaves = sum(map(leaves_of, plans), collections.Counter())
+        total.update(leaves)
+        having.update(leaves.keys())
+    return total, having
+
+
+def rows_of(path):
+    """The accepted runs of a file, with their numbers, and the number of its last block call."""
+    data, at, number, last, found = path.read_bytes(), 4, 0, 0, []
+    while at < len(data):
+        length, = struct.unpack_from("<I", data, at + 1)
+        if data[at] > runs.TOOLS:
+            last = number
+        else:
+            row = Row(data[at:at + 5 + length])
+            if row.status in (0, 7):
+                found.append((number, row))
+        at, number = at + 5 + length, number + 1
+    return found, last
+
+
+def table(groups):
+    """The table's lines."""
+    counts = [count(group) for group in groups]
+    for name in (*LINES, *sorted(set().union(*(total for total, _ in counts)) - set(LINES) - {UNSHARED})):
+        cells = (f"{total[name]:,} in {having[name]}" if having[name] else f"{total[name]:,}" for total, having in counts)
+        yield f"| {name} | {' | '.join(cells)} |"
+
+
+def main():
+    if len(sys.argv) != 2:
+        sys.exit(__doc__)
+    found, last = rows_of(pathlib.Path(sys.argv[1]))
+    grids = [row for number, row in found if row.words == ("tiles",) and number < last]
+    others = [(number, row) for number, row in found if row.words != ("tiles",)]
+    ours, clips = ([row for number, row in others if number < last], [row for number, row in others if number > last and row.words != ("trace",)])
+    print("\n".join(("| | from rav1e's code | from dav1d | grids, from rav1e's code |", "|---|---|---|---|", *table((ours, clips, grids)))))
+
+
+if __name__ == "__main__":
+    main()
