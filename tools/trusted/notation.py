@@ -1,6 +1,6 @@
 """How the pages print a definition: its file's words in their order, with a few signs, and in fewer lines.
 
-Each rule changes the look alone, and the head of the page names it. A definition of one equation has its types beside its arguments;
+The rules change only the look, and the head of the page names each rule. A definition of one equation has its types beside its arguments;
 `nat_lt a b` becomes `a < b`, `x ∷ y ∷ []` becomes `[x, y]`, `pos 3` becomes `3`, `at v i` becomes `v[i]`; operators between single words
 stand close (`2^k`, `a-1`). `alike.py` reads what is printed and compares it with the file."""
 import re

@@ -1,5 +1,5 @@
 #!/usr/bin/env python3
-"""Prints what the main theorem says: its contract, then each definition that it cites, in turn, above those that it cites itself.
+"""Prints what the main theorem says: its contract, then each definition that it cites. A definition stands above what it cites.
 
     trusted.py [--format | --check | --count] [--root ROOT]..
 

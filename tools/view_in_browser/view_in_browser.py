@@ -1,17 +1,17 @@
 #!/usr/bin/env python3
-"""Opens pages of `av1_view` in a headless Chromium, and checks what they show.
+"""Opens pages of `av1_view` in a headless Chromium, and checks their content.
 
     tools/view_in_browser/view_in_browser.py [--view PROGRAM] [--recon PROGRAM] [--tools PROGRAM] [--screenshots FOLDER] [--only WORD] [--small]
         [--frame PLAN]
 
-The default programs are those that `rt run` leaves in the folders `out` of `av1_view`, `av1_vectors` and `av1_tools`. Each page is opened. Before
+The default programs are what `rt run` builds in the folders `out` of `av1_view`, `av1_vectors` and `av1_tools`. Each page is opened. Before
 that, it is compared byte by byte with the page that `view_template` puts together from the planes of `av1_vectors` and the page's own
 predictions. The predictions are compared with what `av1_vectors` makes of plans without the coefficients that follow. What a page contains is
 compared with a second reader of plans, `plans.py`. What it shows is checked by keys, by the mouse, in windows of all sizes, in the light and the
 dark scheme, and at two device pixels for each CSS pixel.
 
 `--view none` puts the pages together here, with the frame without coefficients as predictions, and does not run av1_view. `--only` runs the groups
-of steps whose name has the word. `--small` leaves out the large frames: those of 2048x2048 and that of `--frame`. `--frame` is the plan of an intra
+of steps whose name has the word. `--small` leaves out the large frames: 2048x2048, and the frame of `--frame`. `--frame` is the plan of an intra
 frame from `integrations/rav1e/record`: its page must be small and open fast.
 
 It needs `chromium` (a Debian package) and no network. It ends with 'N passed, M failed'; the status is 1 if M is not 0. `--screenshots` leaves
