@@ -1,6 +1,7 @@
 """What somebody uses who hunts a mismatch: numbers of a block, the wipe, the worst leaves, the report, links; and what a page must look like."""
 import math
 import os
+import re
 import struct
 
 from checks import FRAMES, drawn, pixels, place_in_window
@@ -197,12 +198,12 @@ def look_at_address(browser, checks, path, frame=0):
 
 
 def look_at_definitions(browser, checks, path):
-    """Each section that a leaf rests on is one of TRUSTED, and a page in a folder `out` links to it."""
+    """TRUSTED prints each file of definitions that a leaf rests on, and a page in a folder `out` links to its chapter."""
     with open(os.path.join(DOCS, "TRUSTED.md"), encoding="utf8") as file:
         text = file.read()
     sections = browser.json("[...new Set(view.leaves.flatMap((l) => view.sectionsOf(l)))]")
     for section in sections:
-        checks.true(f"{section} is a section of TRUSTED", f"`{section}`" in text)
+        checks.true(f"TRUSTED prints {section}", f"[{section}]" in text)
     browser.value("view.moveToLeaf(0)")
     checks.true("the leaf names them", "TRUSTED: " in browser.text("fields"))
     checks.same("there is no link that leads nowhere", browser.value("document.querySelectorAll('#fields a').length"), 0)
@@ -213,5 +214,6 @@ def look_at_definitions(browser, checks, path):
         copy.write(page.read())
     browser.open(moved)
     links = browser.json("[...document.querySelectorAll('#fields a')].map((a) => a.getAttribute('href'))")
-    checks.true("in a clone it links", links and all(link.startswith("../docs/TRUSTED.md#av1_") for link in links))
+    chapters = {heading.lower().replace(".", "").replace(" ", "-") for heading in re.findall("^## (.*)", text, re.M)}
+    checks.true("in a clone it links to chapters", links and all(link in {"../docs/TRUSTED.md#" + it for it in chapters} for link in links))
     browser.open(path)

@@ -1,7 +1,12 @@
 // ---- Where a leaf's mode and transforms are defined: chapters and sections of docs/TRUSTED.md.
 
 const MODE_SECTIONS = ['Dc', 'Predicted', 'Predicted', ...new Array(6).fill('Directional'), 'Smooth', 'Smooth', 'Smooth', 'Paeth', 'ChromaFromLuma'];
-const CHAPTERS = { av1_intra: 'Intra modes', av1_inter: 'Motion', av1_dct: 'Transforms', av1_itx: 'Transforms' };
+const CHAPTERS = { av1_intra: '4. Intra modes', av1_inter: '6. Motion', av1_dct: '7. Transforms', av1_itx: '7. Transforms' };
+
+// Chroma from luma has a chapter of its own.
+function chapterOf(crate, name) {
+  return name === 'ChromaFromLuma' ? '5. Chroma from luma' : CHAPTERS[crate];
+}
 
 // V and H are directions too once they are turned.
 function intraSection(mode, step) {
@@ -30,10 +35,11 @@ const IN_CLONE = /\/out\/[^/]*$/.test(window.location.pathname);
 
 function definitionLink(section) {
   const [crate, name] = section.split('/');
-  const text = CHAPTERS[crate] + ' (' + name + ')';
+  const chapter = chapterOf(crate, name);
+  const text = chapter + ' (' + name + ')';
   if (!IN_CLONE) return text;
   const link = document.createElement('a');
-  link.href = '../docs/TRUSTED.md#' + section.toLowerCase().replace('/', '');
+  link.href = '../docs/TRUSTED.md#' + chapter.toLowerCase().replace('.', '').replaceAll(' ', '-');
   link.target = '_blank';
   link.rel = 'noreferrer';
   link.textContent = text;
