@@ -15,7 +15,6 @@ pub mod NoWrap
 pub mod Zero
 pub mod Folding
 pub mod Single
-pub mod EightValues
 pub mod Turned
 pub mod Fused
 pub mod Shorts

@@ -5,7 +5,7 @@
 //!
 //! - `av1_idct4` to `av1_idct64` give `cosine` of `specs/Cosine.antt` for their length, and leave the rest of `output`
 //!   as it was. `cosine_words` is the one function behind them, for every length and every `Word`: an `i32`, or four
-//!   or eight of them side by side. Only `av1_idct8` has a way of its own, whose sums go four at a time.
+//!   or eight of them side by side.
 //! - `cosine_lanes` runs eight transforms at a time over `i32x8`, with `cosine` in each lane, and counts them in a
 //!   `LaneCount`, which no other call raises. Where the range is 16 it cuts the words to lanes of 16 bits, and widens
 //!   what comes out. Zeros cost less there: where all inputs are zeros but the first, each output is the same product,
@@ -27,7 +27,6 @@ mod arithmetic;
 mod butterfly;
 mod columns;
 mod cosine;
-mod eight;
 mod inverse;
 mod lane_count;
 mod laws;
