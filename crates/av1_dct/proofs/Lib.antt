@@ -21,5 +21,4 @@ pub mod Shorts
 pub mod Pairs
 pub mod Joined
 pub mod CutWords
-pub mod InColumns
 pub mod Examples
