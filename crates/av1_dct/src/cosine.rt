@@ -1,4 +1,4 @@
-//! The inverse cosine transforms of 4 to 64 words, each over that of half as many.
+//! The inverse cosine transforms of 4 to 64 words. Each uses the transform of half as many words.
 
 ghost use Rattle.std.specs.Prelude.{◌≡◌, ℕ, ◌*◌, ◌^◌, ◌<◌, ◌≤◌, length, take, drop, suc};
 ghost use Rattle.std.specs.List.{All};

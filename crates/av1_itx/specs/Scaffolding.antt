@@ -41,7 +41,7 @@ AreTransformed columns old new = (r c : ℕ) → r < columns.height → c < colu
     at new (r * columns.width + c) ≡
     at (network columns.kind columns.range columns.power (column_of columns.height columns.width c old)) r
 
--- how many of so many groups are counted: all that take the cosine transform
+-- the number of groups that are counted: all of them, if they take the cosine transform
 abbrev pub cosine_groups : TxType1D → ℕ → ℕ
 cosine_groups kind groups = if is_cosine kind then groups else 0
 

@@ -225,9 +225,9 @@ pub(crate) fn run_columns(buffer: &mut [i32], count: &mut LaneCount, columns: &C
     }
 }
 
-/// Runs the groups of eight columns of which each column has `top` as its first value and zeros below it, for their
-/// count alone: what they become is one product. The transform of a value that stands alone is the same at every
-/// length, so that four values serve.
+/// Runs and counts groups of eight columns. Each column has `top` as its first value and zeros below it. Nothing reads
+/// what the columns become, since it is one product, `single_value`. The transform of a single value is the same at
+/// every length, so that four values serve.
 pub(crate) fn run_single(count: &mut LaneCount, top: i32, groups: usize, range: usize)
     requires range_in { (8 ≤ range) × (range ≤ 20) }
     requires fits { FitsBits range top }
