@@ -51,22 +51,3 @@ pub front_column : {W : Type 0} (lane : W → ℕ → ℤ) (i n m : ℕ) (new ol
 front_column {W} lane i n m new old len =
     let g = λ (x : W). lane x i in
     take-map g n (new ++ drop m old) ∙ ap (map g) (take_at new (drop m old) n len)
-
--- words of which the first alone has values, transformed
-pub level_is : (n k : ℕ) (xs ys : List ℤ) → n ≡ 2 * 2 ^ k → 8 ≤ n → length ys ≡ n → n ≤ length xs → ((p : ℕ) → 1 ≤ p → p < n → at xs p ≡ pos 0)
-    → ((p : ℕ) → p < n → at ys p ≡ clamp_value (half_btf (pos 2896) (at xs 0) (pos 0) (at xs 0)) 16) → ys ≡ cosine 16 k (take n xs)
-level_is n k xs ys e many len long zeros is =
-    let some : 1 ≤ k = elim (cases_lt 0 k) [
-      | inl lt ↦ omega (arith, lt)
-      | inr none ↦ (let k0 : k ≡ 0 = omega (arith, none) in let m : n ≡ 2 * 2 ^ 0 = e ∙ ap (λ j. 2 * 2 ^ j) k0 in absurd (omega (arith, m, many)))
-    ] in
-    let first : at (take n xs) 0 ≡ at xs 0 = get_or-take n xs 0 (pos 0) (omega (arith, many)) in
-    let alone : IsSingle (take n xs) = record {
-      rest = λ i more. elim (cases_lt i n) [
-        | inl lt ↦ get_or-take n xs i (pos 0) lt ∙ zeros i more lt
-        | inr past ↦ get_or_past (take n xs) i (pos 0) (omega (arith, length-take-le n xs long, past))
-      ];
-    } in
-    ext_get_or (pos 0) ys (cosine 16 k (take n xs)) (len ∙ e ∙ sym (cosine-length 16 k (take n xs)))
-    (λ p lt. is p (omega (arith, len, lt)) ∙ ap (λ (z : ℤ). clamp_value (half_btf (pos 2896) z (pos 0) z) 16) (sym first)
-    ∙ sym (single 16 k (take n xs) alone some p (omega (arith, e, len, lt))))

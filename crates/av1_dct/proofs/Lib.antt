@@ -15,12 +15,10 @@ pub mod NoWrap
 pub mod Zero
 pub mod Folding
 pub mod Single
-pub mod EightValues
 pub mod Turned
 pub mod Fused
 pub mod Shorts
 pub mod Pairs
 pub mod Joined
 pub mod CutWords
-pub mod InColumns
 pub mod Examples

@@ -1,3 +1,5 @@
+//! The arithmetic of every transform: half of a butterfly rotation, and clamps.
+
 ghost use Rattle.std.specs.Prelude.{◌≡◌, ◌-◌, ◌^◌, ◌≤◌, pos, neg_ℤ};
 ghost use Rattle.av1_dct.specs.Arithmetic.{clamp_value};
 ghost use Rattle.av1_dct.specs.Operations.{half_btf};

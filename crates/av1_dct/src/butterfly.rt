@@ -1,3 +1,5 @@
+//! What a cosine transform asks of lanes: butterfly rotations and Hadamard rotations.
+
 ghost use Rattle.std.specs.Prelude.{◌≡◌, ℕ, ◌<◌, ◌≤◌, ℤ, ◌+ℤ◌, ◌-ℤ◌};
 ghost use Rattle.av1_dct.specs.Arithmetic.{FitsBits, clamp_value};
 ghost use Rattle.av1_dct.specs.Operations.{half_btf};
@@ -26,7 +28,7 @@ pub(crate) trait Butterfly: Copy {
     fn rotate(w0: i32, a: Self, w1: i32, b: Self) -> Self::Wide
         ensures { (i : ℕ) → i < LANES → wide_lane_of result i ≡ half_btf w0 (lane_of a i) w1 (lane_of b i) };
 
-    /// The same numbers in wide lanes.
+    /// The lanes' numbers in wide lanes.
     fn widen(self) -> Self::Wide
         ensures { (i : ℕ) → i < LANES → wide_lane_of result i ≡ lane_of self i };
 

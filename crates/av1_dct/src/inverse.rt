@@ -1,11 +1,11 @@
+//! The inverse cosine transforms of one column, under rav1e's names.
+
 ghost use Rattle.std.specs.Prelude.{◌≡◌, ◌≤◌, length, take, drop};
 ghost use Rattle.std.specs.List.{All};
 ghost use Rattle.av1_dct.specs.Arithmetic.{FitsBits};
 ghost use Rattle.av1_dct.specs.Cosine.{cosine};
 
 use crate::cosine::cosine_words;
-use crate::eight::cosine_of_eight;
-use std::simd::prelude::*;
 
 /// The inverse cosine transform of 4 values (the inverse DCT process of the AV1 specification): the first 4 entries of
 /// `output` become that of the first 4 entries of `input`, and the rest of `output` stays. Sums are clamped to `range`
@@ -32,7 +32,7 @@ pub fn av1_idct8(input: &[i32], output: &mut [i32], range: usize)
     ensures value { take 8 output.new ≡ cosine range 2 (take 8 input.now) }
     ensures rest { drop 8 output.new ≡ drop 8 output.old }
 {
-    cosine_of_eight::<i32x4>(&input[..8], &mut output[..8], range);
+    cosine_words(8, input, &mut [], output, range);
 }
 
 /// The inverse cosine transform of 16 values (the inverse DCT process of the AV1 specification): the first 16 entries

@@ -5,13 +5,11 @@
 //!
 //! - `av1_idct4` to `av1_idct64` give `cosine` of `specs/Cosine.antt` for their length, and leave the rest of `output`
 //!   as it was. `cosine_words` is the one function behind them, for every length and every `Word`: an `i32`, or four
-//!   or eight of them side by side. Only `av1_idct8` has a way of its own, whose sums go four at a time.
+//!   or eight of them side by side.
 //! - `cosine_lanes` runs eight transforms at a time over `i32x8`, with `cosine` in each lane, and counts them in a
 //!   `LaneCount`, which no other call raises. Where the range is 16 it cuts the words to lanes of 16 bits, and widens
-//!   what comes out. Zeros cost less there: where all inputs are zeros but the first, each output is the same product,
-//!   and of 16 inputs or more that are zeros from the fifth on, rotations of two zeros are left out.
-//! - `cosine_columns` transforms eight neighbouring columns of a block in place, where values have 16 bits, and leaves
-//!   out such rotations, too. It counts nothing.
+//!   what comes out. If there are 16 inputs or more, and they are zeros from the fifth on, it leaves out rotations of
+//!   two zeros.
 //! - `half_btf` and `clamp_value`, the arithmetic of every network, are those of `specs/Operations.antt` and
 //!   `specs/Arithmetic.antt`.
 //! - Three laws, each on a function with an empty body: a transform adds and subtracts its two halves, zeros give
@@ -25,9 +23,7 @@
 
 mod arithmetic;
 mod butterfly;
-mod columns;
 mod cosine;
-mod eight;
 mod inverse;
 mod lane_count;
 mod laws;
@@ -38,7 +34,6 @@ mod weights;
 mod word;
 
 pub use arithmetic::{clamp_value, half_btf};
-pub use columns::cosine_columns;
 pub use cosine::cosine_words;
 pub use inverse::{av1_idct4, av1_idct8, av1_idct16, av1_idct32, av1_idct64};
 pub use lane_count::{LaneCount, cosine_lanes};

@@ -1,7 +1,7 @@
-//! Eight lanes of 16 bits, in which transforms run whose sums are clamped to 16 bits.
+//! Eight lanes of 16 bits: the numbers that transforms run over if their sums are clamped to 16 bits.
 
-ghost use Rattle.std.specs.Prelude.{◌≡◌, refl, true, ℕ, ◌+◌, ◌-◌, ◌*◌, ◌^◌, ◌<◌, ◌≤◌, nat_le, nat_lt, ◌&&◌, if◌then◌else◌, pos, neg_ℤ, length};
-ghost use Rattle.av1_dct.specs.Arithmetic.{at, clamp_value};
+ghost use Rattle.std.specs.Prelude.{◌≡◌, refl, true, ℕ, ◌+◌, ◌-◌, ◌*◌, ◌^◌, ◌<◌, ◌≤◌, pos, neg_ℤ};
+ghost use Rattle.av1_dct.specs.Arithmetic.{clamp_value};
 ghost use Rattle.av1_dct.specs.Operations.{half_btf};
 ghost use Rattle.av1_dct.specs.Word.{lane_of_pair, lane_of_short, lane_of_vector};
 
@@ -65,20 +65,7 @@ pub(crate) fn is_zero(word: i32x8) -> bool
     word.to_array() == [0; 8]
 }
 
-// The eight numbers from place `start` on.
-#[inline(always)]
-pub(crate) fn eight_numbers(values: &[i32], start: usize) -> i32x8
-    requires { start + 8 ≤ length values.now }
-    ensures { (i : ℕ) → i < 8 → lane_of_vector result i ≡ at values.now (start + i) }
-{
-    let mut lanes = [0; 8];
-    for k in 0..8 {
-        lanes[k] = values[start + k];
-    }
-    i32x8::from_array(lanes)
-}
-
-/// Eight narrow lanes, which are filled from words or from a block, and written to them.
+/// Eight narrow lanes, which are cut from words and widened to them.
 pub(crate) trait Short: Butterfly {
     /// Zeros.
     fn none() -> Self
@@ -88,19 +75,9 @@ pub(crate) trait Short: Butterfly {
     fn cut(word: i32x8) -> Self
         ensures { (i : ℕ) → i < 8 → Self.lane_of result i ≡ clamp_value (lane_of_vector word i) 16 };
 
-    /// The same numbers in lanes of 32 bits.
+    /// The lanes' numbers in lanes of 32 bits.
     fn spread(self) -> i32x8
         ensures { (i : ℕ) → i < 8 → lane_of_vector result i ≡ Self.lane_of self i };
-
-    /// The numbers from place `start` on, each clamped to 16 bits.
-    fn read(values: &[i32], start: usize) -> Self
-        requires { start + 8 ≤ length values.now }
-        ensures { (i : ℕ) → i < 8 → Self.lane_of result i ≡ clamp_value (at values.now (start + i)) 16 };
-
-    /// Writes the numbers to the places from `start` on. All others stay.
-    fn write(self, values: &mut [i32], start: usize)
-        requires { start + 8 ≤ length values.old }
-        ensures { (p : ℕ) → at values.new p ≡ (if nat_le start p && nat_lt p (start + 8) then Self.lane_of self (p - start) else at values.old p) };
 
     ghost eight: { Self.LANES ≡ 8 };
 
@@ -211,20 +188,6 @@ impl Short for ShortLanes {
     #[inline(always)]
     fn spread(self) -> i32x8 {
         self.lanes.cast::<i32>()
-    }
-
-    #[inline(always)]
-    fn read(values: &[i32], start: usize) -> ShortLanes {
-        let numbers = eight_numbers(values, start);
-        let _lanes = numbers.to_array();
-        ShortLanes {
-            lanes: clamp_wide(numbers, SHORT_BITS),
-        }
-    }
-
-    #[inline(always)]
-    fn write(self, values: &mut [i32], start: usize) {
-        self.lanes.cast::<i32>().copy_to_slice(&mut values[start..]);
     }
 
     ghost eight = { refl };

@@ -5,7 +5,6 @@ ghost use Rattle.std.specs.Prelude.{◌≡◌, true, ℕ, ◌+◌, ◌*◌, ◌^
 ghost use Rattle.std.specs.List.{All};
 ghost use Rattle.av1_dct.specs.Arithmetic.{at, clamp_value, FitsBits};
 ghost use Rattle.av1_dct.specs.Cosine.{cosine};
-ghost use Rattle.av1_dct.specs.Operations.{half_btf};
 ghost use Rattle.av1_dct.specs.InPlace.{cut_place};
 ghost use Rattle.av1_dct.specs.Word.{column, lane_of_vector};
 ghost use Rattle.av1_lists.specs.Lists.{by_index};
@@ -13,8 +12,7 @@ ghost use Rattle.av1_lists.specs.Sides.{IsTransformSide};
 
 use crate::cosine::run_network;
 use crate::narrow::{SHORT_BITS, Short, ShortLanes, is_zero};
-use crate::weights::{power, reversed_place, weight_of};
-use crate::word::Word;
+use crate::weights::{power, reversed_place};
 use std::simd::prelude::*;
 
 // The word at place p. A proof sees the result of a call, and not a vector that is read from a slice.
@@ -120,8 +118,9 @@ fn cosine_within<S: Short, const K: usize, const LIVE: usize>(
     spread_words(words, output);
 }
 
-// The same within the first N = 2^(K+1) words of `output`, over narrow words of its own. From place LIVE on all inputs
-// are zeros, so that the rotations of two of them fall away.
+// Eight transforms within the first N = 2^(K+1) words of `output`, over narrow words of its own. All inputs are zeros
+// from place LIVE on, so that rotations of two of them fall away.
+#[inline(always)]
 fn cosine_short_of<const K: usize, const N: usize, const LIVE: usize>(
     input: &[i32x8],
     output: &mut [i32x8],
@@ -160,7 +159,8 @@ fn are_zero(input: &[i32x8], first: usize, end: usize) -> bool
     true
 }
 
-// The same, in fewer steps where the inputs are zeros from place FEW on, as those of most blocks are.
+// Eight transforms, in fewer steps if the inputs are zeros from place FEW on, as in most blocks.
+#[inline(always)]
 fn cosine_of_few<const K: usize, const N: usize, const FEW: usize>(
     input: &[i32x8],
     output: &mut [i32x8],
@@ -182,50 +182,9 @@ fn cosine_of_few<const K: usize, const N: usize, const FEW: usize>(
     }
 }
 
-// Each place becomes the same word.
+/// Eight transforms of n values of 16 bits, 8 or more of them, each length by a function of its own.
 #[inline(always)]
-fn fill_words(word: i32x8, output: &mut [i32x8])
-    ensures { (i p : ℕ) → i < 8 → p < length output.old → at (column lane_of_vector i output.new) p ≡ lane_of_vector word i }
-{
-    let _lanes = word.to_array();
-    for p in 0..output.len() {
-        output[p] = word;
-    }
-}
-
-// Eight transforms of which the first value alone is none of zero: each place becomes the same product.
-#[inline(always)]
-fn cosine_of_first(input: &[i32x8], output: &mut [i32x8])
-    requires some { 0 < length input.now }
-    ensures { (i p : ℕ) → i < 8 → p < length output.old →
-        at (column lane_of_vector i output.new) p ≡
-        clamp_value (half_btf (pos 2896) (at (column lane_of_vector i input.now) 0) (pos 0) (at (column lane_of_vector i input.now) 0)) 16 }
-{
-    let first = taken(input, 0);
-    let _first = first.to_array();
-    let turned = i32x8::turn(weight_of(32), first, 0, first);
-    let _turned = turned.to_array();
-    let word = turned.clamp_to(SHORT_BITS);
-    let _word = word.to_array();
-    fill_words(word, output);
-}
-
-// Eight transforms of n values of 16 bits of which those behind the first are zeros.
-fn cosine_level(n: usize, input: &[i32x8], output: &mut [i32x8])
-    requires n_in { IsTransformSide n }
-    requires some { 8 ≤ n }
-    requires input_len { n ≤ length input.now }
-    requires output_len { n ≤ length output.old }
-    requires zeros { (i p : ℕ) → i < 8 → 1 ≤ p → p < n → at (column lane_of_vector i input.now) p ≡ pos 0 }
-    ensures value { (k i : ℕ) → i < 8 → n ≡ 2 * 2 ^ k → take n (column lane_of_vector i output.new) ≡ cosine 16 k (take n (column lane_of_vector i input.now)) }
-    ensures rest { drop n output.new ≡ drop n output.old }
-{
-    cosine_of_first(input, &mut output[..n]);
-}
-
-// Each length by a function of its own.
-#[inline(always)]
-fn cosine_full(n: usize, input: &[i32x8], output: &mut [i32x8])
+pub(crate) fn cosine_short(n: usize, input: &[i32x8], output: &mut [i32x8])
     requires n_in { IsTransformSide n }
     requires some { 8 ≤ n }
     requires input_len { n ≤ length input.now }
@@ -239,23 +198,5 @@ fn cosine_full(n: usize, input: &[i32x8], output: &mut [i32x8])
         16 => cosine_of_few::<3, 16, 4>(input, output),
         32 => cosine_of_few::<4, 32, 4>(input, output),
         _ => cosine_of_few::<5, 64, 4>(input, output),
-    }
-}
-
-/// Eight transforms of n values of 16 bits, 8 or more of them.
-#[inline(always)]
-pub(crate) fn cosine_short(n: usize, input: &[i32x8], output: &mut [i32x8])
-    requires n_in { IsTransformSide n }
-    requires some { 8 ≤ n }
-    requires input_len { n ≤ length input.now }
-    requires output_len { n ≤ length output.old }
-    requires fit { (i : ℕ) → i < 8 → All (FitsBits 16) (take n (column lane_of_vector i input.now)) }
-    ensures value { (k i : ℕ) → i < 8 → n ≡ 2 * 2 ^ k → take n (column lane_of_vector i output.new) ≡ cosine 16 k (take n (column lane_of_vector i input.now)) }
-    ensures rest { drop n output.new ≡ drop n output.old }
-{
-    if are_zero(input, 1, n) {
-        cosine_level(n, input, output);
-    } else {
-        cosine_full(n, input, output);
     }
 }

@@ -1,3 +1,5 @@
+//! The steps that make the transform of the odd inputs, in place.
+
 ghost use Rattle.std.specs.Prelude.{◌≡◌, ℕ, ◌+◌, ◌-◌, ◌*◌, ◌/◌, ◌^◌, ◌<◌, ◌≤◌, min, ℤ, List, length};
 ghost use Rattle.av1_dct.specs.Arithmetic.{AllFit, FitsBits, at};
 ghost use Rattle.av1_dct.specs.Word.{column};
@@ -52,7 +54,7 @@ fn word_at<W: Butterfly>(v: &[W], p: usize) -> W
     v[p]
 }
 
-// The same of the words that stand there.
+// As `put`, of the words that stand at places p and e.
 #[inline(always)]
 fn put_own<W: Butterfly>(odd: bool, v: &mut [W], p: usize, e: usize, range: usize)
     requires range_in { (8 ≤ range) × (range ≤ 20) }

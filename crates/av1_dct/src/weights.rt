@@ -1,3 +1,5 @@
+//! Weights, angles and places of the butterflies.
+
 ghost use Rattle.std.specs.Prelude.{◌≡◌, ◌+◌, ◌-◌, ◌*◌, ◌/◌, ◌%◌, ◌^◌, ◌<◌, ◌≤◌, ℤ, pos, neg_ℤ, suc, ◌≤ℤ◌};
 ghost use Rattle.av1_dct.specs.Cosine.{cos128, brev};
 
@@ -26,7 +28,7 @@ pub(crate) fn weight_of(a: usize) -> i32
     COSPI_INV[a]
 }
 
-// The same below zero.
+// The weight of an angle, below zero.
 #[inline(always)]
 pub(crate) fn minus_weight_of(a: usize) -> i32
     requires { a < 64 }

@@ -18,7 +18,7 @@ use Rattle.av1_dct.specs.Word.{column}
 use Rattle.av1_itx.specs.declared.kinds.TxType1D.{TxType1D}
 use Rattle.av1_itx.specs.declared.kinds.TxType1D.TheVariants.{DCT}
 use Rattle.av1_itx.specs.LaneGroups.{is_cosine}
-use Rattle.av1_itx.specs.declared.lane_columns.Columns.{Columns}
+use Rattle.av1_itx.specs.declared.columns.Columns.{Columns}
 use Rattle.av1_itx.specs.Networks.{HasNetwork, network, network_with}
 use Rattle.av1_itx.specs.Scaffolding.{AreColumns}
 use Rattle.av1_itx.proofs.Lines.{column_written}
@@ -154,22 +154,6 @@ groups_next w c d m h F G X old new ed before now here = λ r q hr hq.
       ]
     ]
 
--- a column of a buffer whose first row alone has values
-level_column : (h w c : ℕ) (old : List ℤ) → ((p : ℕ) → w ≤ p → at old p ≡ pos 0) → IsSingle (column_of h w c old)
-level_column h w c old none = record {
-  rest = λ i some. elim (cases_lt i h) [
-    | inl lt ↦ (let below = mul-le-mul_right w some in at-by_index h (λ r. at old (r * w + c)) i lt ∙ none (i * w + c) (omega (arith, below)))
-    | inr past ↦ get_or_past (column_of h w c old) i (pos 0) (omega (arith, length-by_index h (λ r. at old (r * w + c))))
-  ];
-}
-
-pub level_is : (kind : TxType1D) (range k h w c r : ℕ) (old : List ℤ) (z : ℤ) → is_cosine kind ≡ true → ((p : ℕ) → w ≤ p → at old p ≡ pos 0)
-    → h ≡ 2 * 2 ^ k → 1 ≤ k → r < h → z ≡ clamp_value (half_btf (pos 2896) (at old c) (pos 0) (at old c)) range
-    → z ≡ at (network kind range k (column_of h w c old)) r
-level_is kind range k h w c r old z told none power some lt is =
-    let xs = column_of h w c old in
-    let top : c ≡ 0 * w + c = omega arith in
-    let first : at old c ≡ at xs 0 = ap (at old) top ∙ sym (at-by_index h (λ y. at old (y * w + c)) 0 (omega arith)) in
-    cosine_value kind range k r xs z told
-    (is ∙ ap (λ v. clamp_value (half_btf (pos 2896) v (pos 0) v) range) first
-    ∙ sym (single range k xs (level_column h w c old none) some r (omega (arith, lt, power))))
+-- of no group so far
+pub none_done : (m q : ℕ) (x y : ℤ) → y ≡ cond (ltb q (m * 0)) x y
+none_done m q x y = let none : m * 0 ≡ 0 = omega arith in grind (arith, nat_tests)

@@ -25,3 +25,4 @@ pub mod Shifts
 pub mod NoWrap
 pub mod Lossless
 pub mod Examples
+pub mod Counted

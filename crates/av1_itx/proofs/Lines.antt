@@ -1,5 +1,6 @@
 -- Rows and columns of a list that stands row by row.
-use Rattle.std.proofs.Common.{ℕ, cond, ltb, ◌≡◌, ◌==◌, ◌+◌, ◌-◌, ◌*◌, ◌/◌, ◌<◌, ◌≤◌, ℤ, pos, List, map, length, set, get_or, arith, ap, sym, refl, ◌∙◌, inl}
+use Rattle.std.proofs.Common.{ℕ, cond, ltb, leb, ◌&&◌, ◌-◌, ◌≡◌, ◌==◌, ◌+◌, ◌-◌, ◌*◌, ◌/◌, ◌<◌, ◌≤◌, ℤ, pos, List, map, length, set, get_or, arith, ap, sym}
+use Rattle.std.proofs.Common.{refl, ◌∙◌, inl}
 use Rattle.std.proofs.Common.{inr, get_or-set_other, get_or-set_same}
 use Rattle.std.proofs.lemmas.Bool.{cases_lt, cases_eq, cases_order}
 use Rattle.std.proofs.lemmas.Bool.Decides.{nat_tests}
@@ -105,3 +106,33 @@ columns_hold n rows some =
     let less = mod-lt n some in
     let split = add-mul (n / rows) 1 rows in
     omega (arith, all, less, split)
+
+-- the end of a part of row r, in h rows of w places
+pub row_room : (r c w h : ℕ) → r < h → c ≤ w → r * w + c ≤ h * w
+row_room r c w h hr hc = grind arith
+
+-- one more row of l columns from c on
+pub lanes_row : (w c l n k : ℕ) (G H : ℕ → ℕ → ℤ) (v : ℕ → ℤ) (buf new : List ℤ) → c + l ≤ w → k < n
+    → ((p : ℕ) → at new p ≡ cond (leb (k * w + c) p && ltb p (k * w + c + l)) (v (p - (k * w + c))) (at buf p))
+    → ((r q : ℕ) → r < n → q < w → at buf (r * w + q) ≡ cond (ltb r k && (leb c q && ltb q (c + l))) (G r q) (H r q))
+    → ((q : ℕ) → c ≤ q → q < c + l → v (q - c) ≡ G k q)
+    → (r q : ℕ) → r < n → q < w → at new (r * w + q) ≡ cond (ltb r (k + 1) && (leb c q && ltb q (c + l))) (G r q) (H r q)
+lanes_row w c l n k G H v buf new room hk now before here = λ r q hr hq.
+    let a = before r q hr hq in
+    let b = now (r * w + q) in
+    elim (cases_order r k) [
+      | inl e ↦ (
+          let m : r * w ≡ k * w = ap (λ x. x * w) e in
+          let g : G r q ≡ G k q = ap (λ x. G x q) e in
+          elim (cases_lt q c) [
+            | inl lo ↦ grind (arith, nat_tests)
+            | inr lo ↦ elim (cases_lt q (c + l)) [
+              | inl hi ↦ (let d : r * w + q - (k * w + c) ≡ q - c = omega arith in let u : v (r * w + q - (k * w + c)) ≡ G k q = ap v d ∙ here q lo hi
+                  in grind (arith, nat_tests))
+              | inr hi ↦ grind (arith, nat_tests)
+            ]
+          ]
+          )
+      | inr (inl e) ↦ (let p = row_room r (q + 1) w k e (omega arith) in grind (arith, nat_tests))
+      | inr (inr e) ↦ (let p = row_room k (c + l) w r e room in grind (arith, nat_tests))
+    ]

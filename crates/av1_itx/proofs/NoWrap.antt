@@ -312,3 +312,13 @@ lossless_taken true depth cs r c fit =
 pub lossless_residue : (by_av1 : Bool) (depth : ℕ) (cs : List ℤ) (r c : ℕ) → All (FitsBits 17) cs →
     residue_by by_av1 TX_4X4 WHT_WHT depth cs r c ≡ residue TX_4X4 WHT_WHT depth cs r c
 lossless_residue by_av1 depth cs r c fit = columns_same by_av1 TX_4X4 WHT_WHT depth cs r c (λ y. lossless_taken by_av1 depth cs y c fit)
+
+-- residuals at depths up to 10 are the same by both rules
+pub shallow_same : (by_av1 : Bool) (size : TxSize) (type : TxType) (depth : ℕ) (cs : List ℤ) (r c : ℕ) → depth ≤ 10
+    → (type ≡ WHT_WHT → (size ≡ TX_4X4) × All (FitsBits 17) cs) → residue_by by_av1 size type depth cs r c ≡ residue size type depth cs r c
+shallow_same by_av1 size type depth cs r c shallow few =
+    (elim type as (λ t. (t ≡ WHT_WHT → (size ≡ TX_4X4) × All (FitsBits 17) cs) → residue_by by_av1 size t depth cs r c ≡ residue size t depth cs r c) [
+      | WHT_WHT ↦ (λ told. subst (λ s. residue_by by_av1 s WHT_WHT depth cs r c ≡ residue s WHT_WHT depth cs r c) (sym (told refl).0)
+          (lossless_residue by_av1 depth cs r c (told refl).1))
+      | _ ↦ (λ told. shallow_residue by_av1 size _ depth cs r c shallow (λ e. let absent : false ≡ true = ap is_lossless e in cc))
+    ]) few

@@ -10,7 +10,8 @@ use Rattle.av1_frame.specs.Areas.{AreRows}
 use Rattle.av1_frame.specs.Arithmetic.{round_shift}
 use Rattle.av1_itx.specs.declared.block.Block.{Block}
 use Rattle.av1_itx.specs.declared.inverse.Place.{Place}
-use Rattle.av1_itx.specs.declared.lane_columns.Columns.{Columns}
+use Rattle.av1_itx.specs.declared.kinds.TxType1D.{TxType1D}
+use Rattle.av1_itx.specs.declared.columns.Columns.{Columns}
 use Rattle.av1_itx.specs.Kinds.{column_kind, row_kind, row_kind_by}
 use Rattle.av1_itx.specs.Networks.{HasNetwork, network}
 use Rattle.av1_itx.specs.LaneGroups.{is_cosine}
@@ -19,7 +20,6 @@ use Rattle.av1_itx.specs.Residue.{row_power, row_range, row_shift, row_value, tr
 use Rattle.std.specs.Prelude.{map}
 use Rattle.std.specs.Borrow.{RattleType}
 use Rattle.std.specs.Mem.{type_size}
-use Rattle.av1_itx.specs.contracts.words.Held.{the_row}
 
 -- Columns of a buffer that can be transformed four at a time, or eight where the buffer has so many.
 pub record AreColumns (columns : Columns) (buffer : List ℤ) : Type 0 where
@@ -41,11 +41,9 @@ AreTransformed columns old new = (r c : ℕ) → r < columns.height → c < colu
     at new (r * columns.width + c) ≡
     at (network columns.kind columns.range columns.power (column_of columns.height columns.width c old)) r
 
--- after the cosine transform, where only the first row had values
-abbrev pub AreLevel : Columns → (old new : List ℤ) → Type 0
-AreLevel columns old new = (r c : ℕ) → r < columns.height → c < columns.count →
-    at new (r * columns.width + c) ≡
-    clamp_value (half_btf (pos 2896) (at old c) (pos 0) (at old c)) columns.range
+-- the number of groups that are counted: all of them, if they take the cosine transform
+abbrev pub cosine_groups : TxType1D → ℕ → ℕ
+cosine_groups kind groups = if is_cosine kind then groups else 0
 
 -- A block whose type has both of its transforms, with its first coefficients; all others are 0.
 pub record AreCoefficients {C : Type 0} (val : C → ℤ) (block : Block) (input : List C) : Type 0 where
@@ -95,7 +93,7 @@ pub record IsPlaceFor (block : Block) (place : Place) (count : ℕ) : Type 0 whe
 
 -- a word takes no more room in an array than 16 lanes of 32 bits
 abbrev pub IsSmallWord : RattleType → Type 0
-IsSmallWord W = type_size (the_row W) ≤ 64
+IsSmallWord W = type_size W ≤ 64
 
 -- A block that takes the cosine transform both ways and has no coefficient but its first.
 pub record IsSingleBlock {C : Type 0} (val : C → ℤ) (type : TxType) (input : List C) : Type 0 where

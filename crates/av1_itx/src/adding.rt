@@ -9,7 +9,7 @@ ghost use Rattle.av1_frame.specs.Areas.{AreRows};
 ghost use Rattle.av1_frame.specs.Arithmetic.{clip, round_shift};
 ghost use Rattle.av1_frame.specs.Samples.{paint, paint_row};
 
-use crate::lanes::LANES;
+use crate::columns::LANES;
 use crate::words::BlockWord;
 use av1_frame::{Pixel, StoredArea, clip};
 use std::simd::prelude::*;
@@ -213,35 +213,6 @@ fn raise_rows<T: Pixel, W: BlockWord>(
     }
 }
 
-// Adds one residue to the row's first w samples. A compiler makes of this more than eight at a time.
-#[tactic(auto, using(av1_frame::proofs::Paint::row_repainting))]
-fn raise_each<T: Pixel>(samples: &mut [T], residue: i32, w: usize, bd: usize)
-    requires row_long { w ≤ length samples.old }
-    requires depths { 8 ≤ bd }
-    requires depth { bd ≤ T.BITS }
-    requires fits { FitsBits 24 residue }
-    ensures { samples.new ≡ paint_row w (λ _ v. T.pixel (clip bd (pos (T.num v) +ℤ residue))) samples.old }
-{
-    for c in 0..w {
-        samples[c] = add_one(samples[c], residue, bd);
-    }
-}
-
-// Adds one residue to the samples of the rectangle, whose rows have more than one word.
-#[tactic(auto, using(av1_frame::proofs::Paint::rectangle_painting))]
-fn raise_wide<T: Pixel>(samples: &mut [T], stride: usize, area: StoredArea, residue: i32, bd: usize)
-    requires rows { AreRows stride area (length samples.old) }
-    requires depths { 8 ≤ bd }
-    requires depth { bd ≤ T.BITS }
-    requires fits { FitsBits 24 residue }
-    ensures { samples.new ≡ paint stride area (λ _ _ v. T.pixel (clip bd (pos (T.num v) +ℤ residue))) samples.old }
-{
-    for r in 0..area.height {
-        let (_, row) = samples.split_at_mut((area.y + r) * stride + area.x);
-        raise_each(row, residue, area.width, bd);
-    }
-}
-
 /// Adds one residue to the samples of the rectangle.
 #[inline(always)]
 pub(crate) fn raise_all<T: Pixel>(
@@ -261,9 +232,7 @@ pub(crate) fn raise_all<T: Pixel>(
 {
     if area.width < LANES {
         raise_rows::<T, i32x4>(samples, stride, area, residue, bd);
-    } else if area.width == LANES {
-        raise_rows::<T, i32x8>(samples, stride, area, residue, bd);
     } else {
-        raise_wide(samples, stride, area, residue, bd);
+        raise_rows::<T, i32x8>(samples, stride, area, residue, bd);
     }
 }

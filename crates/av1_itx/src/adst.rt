@@ -86,7 +86,7 @@ fn run_block<W: BlockWord>(v: &mut [W], weights: &[(i32, i32)], range: usize)
     turn_pairs(&mut v[s..], weights);
 }
 
-// The same in each block.
+// As `run_block`, in each block.
 #[inline(always)]
 fn run_blocks<W: BlockWord>(v: &mut [W], blocks: usize, weights: &[(i32, i32)], range: usize)
     requires range_in { (8 ≤ range) × (range ≤ 20) }
@@ -231,7 +231,7 @@ pub fn av1_iadst4(input: &[i32], output: &mut [i32], _range: usize)
     adst4_of(&input[..4], &mut output[..4]);
 }
 
-/// The same with its outputs in reverse order.
+/// As `av1_iadst4`, with its outputs in reverse order.
 pub fn av1_iflipadst4(input: &[i32], output: &mut [i32], range: usize)
     requires input_len { 4 ≤ length input.now }
     requires output_len { 4 ≤ length output.old }
@@ -256,7 +256,7 @@ pub fn av1_iadst8(input: &[i32], output: &mut [i32], range: usize)
     adst8_of(&input[..8], &mut v, &mut output[..8], range);
 }
 
-/// The same with its outputs in reverse order.
+/// As `av1_iadst8`, with its outputs in reverse order.
 pub fn av1_iflipadst8(input: &[i32], output: &mut [i32], range: usize)
     requires range_in { (8 ≤ range) × (range ≤ 20) }
     requires input_len { 8 ≤ length input.now }
@@ -282,7 +282,7 @@ pub fn av1_iadst16(input: &[i32], output: &mut [i32], range: usize)
     adst16_of(&input[..16], &mut v, &mut output[..16], range);
 }
 
-/// The same with its outputs in reverse order.
+/// As `av1_iadst16`, with its outputs in reverse order.
 pub fn av1_iflipadst16(input: &[i32], output: &mut [i32], range: usize)
     requires range_in { (8 ≤ range) × (range ≤ 20) }
     requires input_len { 16 ≤ length input.now }

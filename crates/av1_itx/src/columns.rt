@@ -1,95 +1,244 @@
-//! The second pass: an inverse transform down each column.
+//! Columns of a block, one in each lane, transformed in place side by side: eight at a time, or four where there are no
+//! more.
+//!
+//! Rows of coefficients go the same way, since they are the columns of the list that coefficients stand in.
 
-ghost use Rattle.std.specs.Prelude.{◌≡◌, ◌≤◌};
-ghost use Rattle.av1_itx.specs.LaneGroups.{lane_groups};
-ghost use Rattle.av1_itx.specs.Residue.{column_range, row_shift};
-ghost use Rattle.av1_itx.specs.Scaffolding.{AreColumns, AreTransformed, block_columns, column_bits};
+ghost use Rattle.std.specs.Prelude.{◌≡◌, ℕ, ◌+◌, ◌-◌, ◌*◌, ◌/◌, ◌<◌, ◌≤◌, nat_le, nat_lt, ◌&&◌, if◌then◌else◌, pos, length, ◌==◌};
+ghost use Rattle.av1_dct.specs.Arithmetic.{at, clamp_value, FitsBits};
+ghost use Rattle.av1_lists.specs.Counts.{raised};
+ghost use Rattle.av1_dct.specs.Operations.{half_btf};
+ghost use Rattle.av1_lists.specs.Lists.{by_index};
+ghost use Rattle.av1_dct.specs.Word.{column};
+ghost use Rattle.av1_itx.specs.Scaffolding.{AreColumns, AreTransformed, cosine_groups, IsSmallWord};
+ghost use Rattle.av1_itx.specs.LaneGroups.{is_cosine};
 
-use crate::block::Block;
-use crate::kinds::{get_1d_tx_types, is_lossless};
-use crate::lane_columns::Columns;
-use crate::lanes::{CosineColumns, LANES, is_cosine, run_columns};
-use av1_blocks::TxSize;
+use crate::kinds::TxType1D;
+use crate::networks::inverse_1d;
+use crate::words::BlockWord;
+use av1_blocks::INV_SQRT2;
+use av1_dct::{LaneCount, clamp_value, cosine_lanes, half_btf};
+use std::simd::prelude::*;
 
-/// By how many bits values are rounded between the passes.
-pub(crate) fn row_shift_of(tx_size: TxSize) -> usize
-    ensures value { result ≡ row_shift tx_size }
-    ensures small { result ≤ 2 }
-{
-    match tx_size {
-        TxSize::TX_4X4 | TxSize::TX_4X8 | TxSize::TX_8X4 => 0,
-        TxSize::TX_8X8
-        | TxSize::TX_8X16
-        | TxSize::TX_16X8
-        | TxSize::TX_16X32
-        | TxSize::TX_32X16
-        | TxSize::TX_32X64
-        | TxSize::TX_64X32
-        | TxSize::TX_4X16
-        | TxSize::TX_16X4 => 1,
-        TxSize::TX_16X16
-        | TxSize::TX_32X32
-        | TxSize::TX_64X64
-        | TxSize::TX_8X32
-        | TxSize::TX_32X8
-        | TxSize::TX_16X64
-        | TxSize::TX_64X16 => 2,
-    }
+/// Columns of a buffer that are transformed in place: the first `count` of `width`, of `height` rows. The buffer stands
+/// row by row, and the height is 2^(power + 1).
+#[derive(Clone, Copy)]
+pub(crate) struct Columns {
+    /// Which transform they take.
+    pub(crate) kind: TxType1D,
+    pub(crate) count: usize,
+    pub(crate) width: usize,
+    pub(crate) height: usize,
+    pub(crate) power: usize,
+    /// How many bits values within them are clamped to.
+    pub(crate) range: usize,
 }
 
-/// How many bits values are clamped to between the passes, and within the columns.
-pub(crate) fn column_range_of(bd: usize) -> usize
-    requires { (8 ≤ bd) × (bd ≤ 12) }
-    ensures value { result ≡ column_range bd }
-    ensures bounds { (16 ≤ result) × (result ≤ 18) }
-{
-    (bd + 6).max(16)
-}
-
-/// How many bits hold what the columns of a block take. In lossless blocks AV1 does not clamp between the passes, and
-/// their rows give no value of more than 20 bits.
-pub(crate) fn column_bits_of(block: Block) -> usize
-    requires { (8 ≤ block.bd) × (block.bd ≤ 12) }
-    ensures value { result ≡ column_bits block }
-    ensures bounds { (16 ≤ result) × (result ≤ 20) }
-{
-    if block.by_av1 && is_lossless(block.tx_type) {
-        return 20;
-    }
-    column_range_of(block.bd)
-}
-
-// All columns of a block.
+// The inputs of the columns from c on, one in each lane, of a buffer of w columns.
 #[inline(always)]
-fn columns_of(block: Block) -> Columns
-    requires { (8 ≤ block.bd) × (block.bd ≤ 12) }
-    ensures { result ≡ block_columns block }
+fn gather_words<W: BlockWord>(buffer: &[i32], line: &mut [W], c: usize, w: usize)
+    requires columns_in { c + W.LANES ≤ w }
+    requires few { w ≤ 64 }
+    requires lines { length line.old ≤ 64 }
+    requires buffer_len { length buffer.now ≡ length line.old * w }
+    ensures { (i : ℕ) → i < W.LANES → column W.lane_of i line.new ≡ by_index (length line.old) (λ r. at buffer.now (r * w + (c + i))) }
 {
-    let (kind, _) = get_1d_tx_types(block.tx_type);
-    Columns {
-        kind,
-        count: block.tx_size.width(),
-        width: block.tx_size.width(),
-        height: block.tx_size.height(),
-        power: block.tx_size.height_log2() - 1,
-        range: column_bits_of(block),
+    for r in 0..line.len() {
+        line[r] = W::read(buffer, r * w + c);
     }
 }
 
-/// Each column of a block, transformed in place: `buffer` has the block row by row, as the rows leave it. Where the
-/// columns take the cosine transform and there are eight or more, `lanes` runs them, and counts the groups of eight if
-/// it counts at all.
-pub(crate) fn column_pass<R: CosineColumns>(buffer: &mut [i32], lanes: &mut R, block: Block)
-    requires depth { (8 ≤ block.bd) × (block.bd ≤ 12) }
-    requires columns { AreColumns (block_columns block) buffer.old }
-    ensures value { AreTransformed (block_columns block) buffer.old buffer.new }
-    ensures counts { R.tally lanes.new ≡ R.raised_by (R.tally lanes.old) (lane_groups block.tx_size block.tx_type) }
+// Writes the lanes of a line into the columns from c on, of a buffer of w columns.
+#[inline(always)]
+fn scatter_words<W: BlockWord>(buffer: &mut [i32], line: &[W], c: usize, w: usize)
+    requires columns_in { c + W.LANES ≤ w }
+    requires few { w ≤ 64 }
+    requires lines { length line.now ≤ 64 }
+    requires buffer_len { length buffer.old ≡ length line.now * w }
+    ensures { (r q : ℕ) → r < length line.now → q < w →
+        at buffer.new (r * w + q) ≡ (if nat_le c q && nat_lt q (c + W.LANES) then at (column W.lane_of (q - c) line.now) r else at buffer.old (r * w + q)) }
 {
-    let columns = columns_of(block);
-    if columns.width < LANES || !is_cosine(columns.kind) {
-        lanes.none_more();
-        run_columns(buffer, &columns);
+    for r in 0..line.len() {
+        let lanes = line[r];
+        lanes.write(buffer, r * w + c);
+    }
+}
+
+/// Columns, one in each lane, transformed in place by any kind. `count` counts the groups of eight that take the cosine
+/// transform.
+#[inline(always)]
+#[tactic(auto, using(crate::proofs::Eights::group_within))]
+pub(crate) fn run_words<W: BlockWord>(
+    buffer: &mut [i32],
+    line: &mut [W],
+    transformed: &mut [W],
+    count: &mut LaneCount,
+    columns: Columns,
+)
+    requires some { 0 < W.LANES }
+    requires whole { W.LANES * (columns.count / W.LANES) ≡ columns.count }
+    requires columns { AreColumns columns buffer.old }
+    requires line_len { columns.height ≤ length line.old }
+    requires transformed_len { columns.height ≤ length transformed.old }
+    ensures value { AreTransformed columns buffer.old buffer.new }
+    ensures counts { count.new.groups ≡ raised count.old.groups (cosine_groups columns.kind (columns.count / W.LANES * W.COUNTED)) }
+{
+    // This tells the proof that the count is a u64.
+    let _count = count.groups();
+    let m = W::LANES;
+    let (w, h) = (columns.width, columns.height);
+    for g in 0..columns.count / m {
+        let c = m * g;
+        gather_words(buffer, &mut line[..h], c, w);
+        inverse_1d(
+            columns.kind,
+            columns.power,
+            count,
+            &line[..h],
+            &mut transformed[..h],
+            columns.range,
+        );
+        scatter_words(buffer, &transformed[..h], c, w);
+    }
+}
+
+/// What a column becomes by the cosine transform whose only value is its first.
+pub(crate) fn single_value(top: i32, range: usize) -> i32
+    requires range_in { (8 ≤ range) × (range ≤ 20) }
+    ensures { result ≡ clamp_value (half_btf (pos 2896) top (pos 0) top) range }
+{
+    clamp_value(half_btf(INV_SQRT2, top, 0, top, 12), range)
+}
+
+/// Runs and counts groups of eight columns of four values, of which the first is `top` and the others are 0.
+#[inline(always)]
+pub(crate) fn run_single_groups(
+    line: &mut [i32x8],
+    transformed: &mut [i32x8],
+    count: &mut LaneCount,
+    top: i32,
+    groups: usize,
+    range: usize,
+)
+    requires line_len { length line.old ≡ 4 }
+    requires transformed_len { length transformed.old ≡ 4 }
+    requires range_in { (8 ≤ range) × (range ≤ 20) }
+    requires fits { FitsBits range top }
+    ensures { count.new.groups ≡ raised count.old.groups groups }
+{
+    // This tells the proof that the count is a u64.
+    let _count = count.groups();
+    fill_single::<i32x8>(line, top);
+    for _g in 0..groups {
+        cosine_lanes(count, 4, line, &mut [], transformed, range);
+    }
+}
+
+// The value at place r of a line whose first is `top` and whose others are 0.
+#[inline(always)]
+fn single_at(top: i32, r: usize) -> i32
+    ensures { result ≡ (if r == 0 then top else pos 0) }
+{
+    if r == 0 { top } else { 0 }
+}
+
+// Words of which the first alone has values, the same in each lane.
+#[inline(always)]
+fn fill_single<W: BlockWord>(line: &mut [W], top: i32)
+    ensures { (i : ℕ) → i < W.LANES → column W.lane_of i line.new ≡ by_index (length line.old) (λ r. if r == 0 then top else pos 0) }
+{
+    for r in 0..line.len() {
+        line[r] = W::splat(single_at(top, r));
+    }
+}
+
+/// How many columns are transformed at a time.
+pub(crate) const LANES: usize = 8;
+
+/// Whether a kind is the cosine transform.
+pub(crate) fn is_cosine(kind: TxType1D) -> bool
+    ensures { result ≡ is_cosine kind }
+{
+    matches!(kind, TxType1D::DCT)
+}
+
+// An array of equal items. A proof covers an array of vectors only where a call has made it.
+#[inline(always)]
+fn filled<T: Copy, const N: usize>(item: T) -> [T; N] {
+    [item; N]
+}
+
+// Columns of N = 2^(K+1) rows, one in each lane, over lines of its own. Both numbers are constants of each instance, so
+// that the compiler knows all places of a transform as numbers.
+fn words_of<W: BlockWord, const K: usize, const N: usize>(
+    buffer: &mut [i32],
+    count: &mut LaneCount,
+    columns: &Columns,
+)
+    requires some { 0 < W.LANES }
+    requires small { IsSmallWord W.row }
+    requires whole { W.LANES * (columns.now.count / W.LANES) ≡ columns.now.count }
+    requires columns { AreColumns columns.now buffer.old }
+    requires height { columns.now.height ≡ N }
+    requires power { columns.now.power ≡ K }
+    ensures value { AreTransformed columns.now buffer.old buffer.new }
+    ensures counts { count.new.groups ≡ raised count.old.groups (cosine_groups columns.now.kind (columns.now.count / W.LANES * W.COUNTED)) }
+{
+    let zero = W::splat(0);
+    let (mut line, mut transformed) = (filled::<W, N>(zero), filled::<W, N>(zero));
+    let known = Columns {
+        height: N,
+        power: K,
+        ..*columns
+    };
+    run_words(buffer, &mut line, &mut transformed, count, known);
+}
+
+// Columns, as many at a time as a word has lanes, each height by a function of its own.
+fn word_columns<W: BlockWord>(buffer: &mut [i32], count: &mut LaneCount, columns: &Columns)
+    requires some { 0 < W.LANES }
+    requires small { IsSmallWord W.row }
+    requires whole { W.LANES * (columns.now.count / W.LANES) ≡ columns.now.count }
+    requires columns { AreColumns columns.now buffer.old }
+    ensures value { AreTransformed columns.now buffer.old buffer.new }
+    ensures counts { count.new.groups ≡ raised count.old.groups (cosine_groups columns.now.kind (columns.now.count / W.LANES * W.COUNTED)) }
+{
+    match columns.height {
+        4 => words_of::<W, 1, 4>(buffer, count, columns),
+        8 => words_of::<W, 2, 8>(buffer, count, columns),
+        16 => words_of::<W, 3, 16>(buffer, count, columns),
+        32 => words_of::<W, 4, 32>(buffer, count, columns),
+        _ => words_of::<W, 5, 64>(buffer, count, columns),
+    }
+}
+
+/// Transforms columns in place: eight at a time, or four if the buffer has no more. If eight at a time take the cosine
+/// transform, `count` counts each group of eight.
+pub(crate) fn run_columns(buffer: &mut [i32], count: &mut LaneCount, columns: &Columns)
+    requires columns { AreColumns columns.now buffer.old }
+    ensures value { AreTransformed columns.now buffer.old buffer.new }
+    ensures counts { count.new.groups ≡ raised count.old.groups (cosine_groups columns.now.kind (columns.now.count / 8)) }
+{
+    if columns.width < LANES {
+        word_columns::<i32x4>(buffer, count, columns);
+    } else {
+        word_columns::<i32x8>(buffer, count, columns);
+    }
+}
+
+/// Runs and counts groups of eight columns. Each column has `top` as its first value and zeros below it. Nothing reads
+/// what the columns become, since it is one product, `single_value`. The transform of a single value is the same at
+/// every length, so that four values serve.
+pub(crate) fn run_single(count: &mut LaneCount, top: i32, groups: usize, range: usize)
+    requires range_in { (8 ≤ range) × (range ≤ 20) }
+    requires fits { FitsBits range top }
+    ensures { count.new.groups ≡ raised count.old.groups groups }
+{
+    // This tells the proof that the count is a u64.
+    let _count = count.groups();
+    if groups == 0 {
         return;
     }
-    lanes.run_cosine(buffer, &columns);
+    let zero = i32x8::splat(0);
+    let (mut line, mut out) = (filled::<i32x8, 4>(zero), filled::<i32x8, 4>(zero));
+    run_single_groups(&mut line, &mut out, count, top, groups, range);
 }

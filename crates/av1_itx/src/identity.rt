@@ -53,7 +53,7 @@ fn by_root<W: BlockWord>(z: W) -> W
     z.plus(W::turn(SQRT2 - 4096, z, 0, z))
 }
 
-// The same by twice the square root of 2, of which what is past 2 is rounded.
+// A value by twice the square root of 2, never wrapped: what is rounded is what the weight has past 2.
 #[inline(always)]
 fn by_two_roots<W: BlockWord>(z: W) -> W
     requires { (i : ℕ) → i < W.LANES → FitsBits 20 (W.lane_of z i) }
@@ -105,7 +105,7 @@ pub fn av1_iidentity4(input: &[i32], output: &mut [i32], _range: usize)
     identity_of(1, &input[..4], &mut output[..4]);
 }
 
-/// The same of 8 values, scaled by 2.
+/// The inverse identity transform of 8 values: each is scaled by 2. The rest of `output` stays.
 pub fn av1_iidentity8(input: &[i32], output: &mut [i32], _range: usize)
     requires input_len { 8 ≤ length input.now }
     requires output_len { 8 ≤ length output.old }
@@ -116,7 +116,8 @@ pub fn av1_iidentity8(input: &[i32], output: &mut [i32], _range: usize)
     identity_of(2, &input[..8], &mut output[..8]);
 }
 
-/// The same of 16 values, scaled by twice the square root of 2.
+/// The inverse identity transform of 16 values: each is scaled by twice the square root of 2. The rest of `output`
+/// stays.
 pub fn av1_iidentity16(input: &[i32], output: &mut [i32], _range: usize)
     requires input_len { 16 ≤ length input.now }
     requires output_len { 16 ≤ length output.old }
@@ -127,7 +128,7 @@ pub fn av1_iidentity16(input: &[i32], output: &mut [i32], _range: usize)
     identity_of(3, &input[..16], &mut output[..16]);
 }
 
-/// The same of 32 values, scaled by 4.
+/// The inverse identity transform of 32 values: each is scaled by 4. The rest of `output` stays.
 pub fn av1_iidentity32(input: &[i32], output: &mut [i32], _range: usize)
     requires input_len { 32 ≤ length input.now }
     requires output_len { 32 ≤ length output.old }

@@ -17,21 +17,22 @@ ghost use Rattle.av1_itx.specs.Scaffolding.{AreCoefficients, IsPlaceFor, IsSingl
 
 use crate::adding::{add_all, raise_all};
 use crate::block::Block;
-use crate::columns::{column_pass, column_range_of};
+use crate::column_pass::{column_pass, column_range_of};
+use crate::columns::{LANES, run_single, single_value};
 use crate::kinds::is_lossless;
-use crate::lanes::{CosineColumns, LANES, Lanes, Uncounted};
-use crate::rows::row_pass;
+use crate::row_pass::row_pass;
 use crate::single::{first_of, is_single, top_value};
 use av1_blocks::{OutOfMemory, TxSize, TxType};
+use av1_dct::LaneCount;
 use av1_frame::{Pixel, PlaneRegionMut, StoredArea, repeated, round_shift};
 use std::alloc::Global;
 
-/// The values of one block between its passes, its scaled coefficients, and lines of eight columns.
+/// The values of one block between its passes, its scaled coefficients, and the count of groups of eight columns.
 #[derive(Drop)]
 pub struct TxScratch {
     buffer: Vec<i32>,
     scaled: Vec<i32>,
-    lanes: Lanes,
+    count: LaneCount,
     /// Whether blocks go by AV1's rule: identities along rows never wrap, and in lossless blocks (`WHT_WHT`) nothing is
     /// clamped between the passes. New scratch goes by rav1e's: identities wrap at 32 bits, and all blocks are clamped.
     pub by_av1: bool,
@@ -41,25 +42,24 @@ pub struct TxScratch {
 impl TxScratch {
     /// Room for every size, 64x64 included.
     pub fn new(alloc: Global) -> Result<TxScratch, OutOfMemory>
-        ensures groups { IfOk result (λ scratch. scratch.lanes.count.groups ≡ 0) }
+        ensures groups { IfOk result (λ scratch. scratch.count.groups ≡ 0) }
         ensures rule { IfOk result (λ scratch. scratch.by_av1 ≡ false) }
     {
         let buffer = repeated(alloc, 0, 4096)?;
         let scaled = repeated(alloc, 0, 2048)?;
-        let lanes = Lanes::new(alloc)?;
         Ok(TxScratch {
             buffer,
             scaled,
-            lanes,
+            count: LaneCount::new(),
             by_av1: false,
         })
     }
 
     /// How many groups of eight columns went through the lanes. It stays at the last value of a `u64`.
     pub fn lane_groups(&self) -> u64
-        ensures { result ≡ self.now.lanes.count.groups }
+        ensures { result ≡ self.now.count.groups }
     {
-        self.lanes.groups()
+        self.count.groups()
     }
 }
 
@@ -99,8 +99,8 @@ struct Place {
 
 // The inverse transform of a block by the cosine transforms whose only coefficient is its first: each sample takes the
 // same.
-fn add_single<T: Pixel, R: CosineColumns>(
-    lanes: &mut R,
+fn add_single<T: Pixel>(
+    count: &mut LaneCount,
     input: &[T::Coeff],
     samples: &mut [T],
     place: Place,
@@ -113,20 +113,22 @@ fn add_single<T: Pixel, R: CosineColumns>(
     ensures painted { samples.new ≡ paint place.stride place.area
         (λ r c v. T.pixel (clip block.bd (pos (T.num v) +ℤ residue_by block.by_av1 block.tx_size block.tx_type block.bd (map T.Coeff.val input.now) r c)))
         samples.old }
-    ensures counts { R.tally lanes.new ≡ R.raised_by (R.tally lanes.old) (lane_groups block.tx_size block.tx_type) }
+    ensures counts { count.new.groups ≡ raised count.old.groups (lane_groups block.tx_size block.tx_type) }
 {
     let top = top_value(first_of(input), block);
     let groups = block.tx_size.width() / LANES;
-    let value = lanes.run_single(top, groups, column_range_of(block.bd));
+    let range = column_range_of(block.bd);
+    run_single(count, top, groups, range);
+    let value = single_value(top, range);
     let residue = round_shift(value, column_shift_of(block.tx_type));
     raise_all(samples, place.stride, place.area, residue, block.bd);
 }
 
 // The inverse transform over a buffer of just the block's size.
-fn add_block<T: Pixel, R: CosineColumns>(
+fn add_block<T: Pixel>(
     buffer: &mut [i32],
     scaled: &mut [i32],
-    lanes: &mut R,
+    count: &mut LaneCount,
     input: &[T::Coeff],
     samples: &mut [T],
     place: Place,
@@ -140,19 +142,19 @@ fn add_block<T: Pixel, R: CosineColumns>(
     ensures painted { samples.new ≡ paint place.stride place.area
         (λ r c v. T.pixel (clip block.bd (pos (T.num v) +ℤ residue_by block.by_av1 block.tx_size block.tx_type block.bd (map T.Coeff.val input.now) r c)))
         samples.old }
-    ensures counts { R.tally lanes.new ≡ R.raised_by (R.tally lanes.old) (lane_groups block.tx_size block.tx_type) }
+    ensures counts { count.new.groups ≡ raised count.old.groups (lane_groups block.tx_size block.tx_type) }
 {
     row_pass(input, scaled, buffer, block);
-    column_pass(buffer, lanes, block);
+    column_pass(buffer, count, block);
     let shift = column_shift_of(block.tx_type);
     add_all(samples, place.stride, place.area, buffer, shift, block.bd);
 }
 
-// The same over a whole buffer, which a block with no coefficient but its first doesn't need.
-fn add_over<T: Pixel, R: CosineColumns>(
+// The inverse transform of a block over a whole buffer, which a block with no coefficient but its first doesn't need.
+fn add_over<T: Pixel>(
     buffer: &mut [i32],
     scaled: &mut [i32],
-    lanes: &mut R,
+    count: &mut LaneCount,
     input: &[T::Coeff],
     samples: &mut [T],
     place: Place,
@@ -166,10 +168,10 @@ fn add_over<T: Pixel, R: CosineColumns>(
     ensures painted { samples.new ≡ paint place.stride place.area
         (λ r c v. T.pixel (clip block.bd (pos (T.num v) +ℤ residue_by block.by_av1 block.tx_size block.tx_type block.bd (map T.Coeff.val input.now) r c)))
         samples.old }
-    ensures counts { R.tally lanes.new ≡ R.raised_by (R.tally lanes.old) (lane_groups block.tx_size block.tx_type) }
+    ensures counts { count.new.groups ≡ raised count.old.groups (lane_groups block.tx_size block.tx_type) }
 {
     if is_single(input, block.tx_type) {
-        add_single(lanes, input, samples, place, block);
+        add_single(count, input, samples, place, block);
         return;
     }
     let places = block.tx_size.height() * block.tx_size.width();
@@ -177,7 +179,7 @@ fn add_over<T: Pixel, R: CosineColumns>(
     add_block(
         &mut buffer[..places],
         &mut scaled[..inputs],
-        lanes,
+        count,
         input,
         samples,
         place,
@@ -214,12 +216,12 @@ pub fn inverse_transform_add_to<T: Pixel>(
     ensures painted { samples.new ≡
         paint stride area (λ r c v. T.pixel (clip bd (pos (T.num v) +ℤ residue_by scratch.old.by_av1 tx_size tx_type bd (map T.Coeff.val input.now) r c)))
         samples.old }
-    ensures lanes { scratch.new.lanes.count.groups ≡ raised scratch.old.lanes.count.groups (lane_groups tx_size tx_type) }
+    ensures lanes { scratch.new.count.groups ≡ raised scratch.old.count.groups (lane_groups tx_size tx_type) }
 {
     add_over(
         scratch.buffer.as_mut_slice(),
         scratch.scaled.as_mut_slice(),
-        &mut scratch.lanes,
+        &mut scratch.count,
         input,
         samples,
         Place { stride, area },
@@ -232,7 +234,8 @@ pub fn inverse_transform_add_to<T: Pixel>(
     );
 }
 
-/// The same over room of any owner, as of C, by the rule that `block` names. Nothing is counted.
+/// As `inverse_transform_add_to`, over room of any owner, such as C, by the rule that `block` names. Nobody reads the
+/// count of groups.
 pub fn inverse_transform_add_in<T: Pixel>(
     room: &mut TxRoom,
     input: &[T::Coeff],
@@ -256,7 +259,7 @@ pub fn inverse_transform_add_in<T: Pixel>(
     add_over(
         &mut room.buffer,
         &mut room.scaled,
-        &mut Uncounted,
+        &mut LaneCount::new(),
         input,
         samples,
         Place { stride, area },
@@ -264,7 +267,8 @@ pub fn inverse_transform_add_in<T: Pixel>(
     );
 }
 
-/// The same to the first rows and columns of `output`, as many as the transform has. All samples outside them stay.
+/// As `inverse_transform_add_to`, to the first rows and columns of `output`, as many as the transform has. All samples
+/// outside them stay.
 #[tactic(auto, using(av1_frame::proofs::Regions::region_lending))]
 pub fn inverse_transform_add_with<T: Pixel>(
     scratch: &mut TxScratch,
@@ -285,7 +289,7 @@ pub fn inverse_transform_add_with<T: Pixel>(
     ensures painted { output.new ≡ painted output.old (tx_width tx_size) (tx_height tx_size)
         (λ r c v. T.pixel (clip bd (pos (T.num v) +ℤ residue_by scratch.old.by_av1 tx_size tx_type bd (map T.Coeff.val input.now) r c))) }
     ensures fits { InStorage output.new }
-    ensures lanes { scratch.new.lanes.count.groups ≡ raised scratch.old.lanes.count.groups (lane_groups tx_size tx_type) }
+    ensures lanes { scratch.new.count.groups ≡ raised scratch.old.count.groups (lane_groups tx_size tx_type) }
 {
     let stride = output.plane_cfg.stride;
     let area = output.corner(tx_size.width(), tx_size.height());
@@ -301,7 +305,7 @@ pub fn inverse_transform_add_with<T: Pixel>(
     );
 }
 
-/// The same over scratch of its own. Where memory is refused, no sample changes.
+/// As `inverse_transform_add_with`, over scratch of its own. If memory is refused, no sample changes.
 pub fn inverse_transform_add<T: Pixel>(
     alloc: Global,
     input: &[T::Coeff],

@@ -14,11 +14,11 @@ pub enum TxType1D {
     DCT,
     /// The asymmetric sine transform, of 4, 8 and 16 values.
     ADST,
-    /// The same, its outputs in reverse order.
+    /// The asymmetric sine transform with its outputs in reverse order.
     FLIPADST,
     /// The identity, scaled, of 4 to 32 values.
     IDENTITY,
-    /// The same over whole numbers that never wrap, as AV1 has it. No type is made of it.
+    /// The identity over whole numbers that never wrap, as AV1 has it. No type is made of it.
     EXACT_IDENTITY,
     /// The Walsh-Hadamard transform, of 4 values.
     WHT,

@@ -11,13 +11,12 @@
 //!   that is made once, allocate nothing and always succeed. `inverse_transform_add_in` does the former over a
 //!   `TxRoom`, a plain struct of arrays that C may own, too. `inverse_transform_add` makes its own scratch; where
 //!   memory is refused it changes nothing.
-//! - Columns that take the cosine transform, where there are eight or more, go eight at a time: over a scratch through
-//!   `cosine_lanes`, and the scratch counts these groups (`TxScratch::lane_groups`, which each call raises by
-//!   `lane_groups` of `specs/LaneGroups.antt`); over a `TxRoom` by `cosine_columns`, in place, or in lanes of 32 bits
-//!   where samples have 12. All others, and all rows, go eight or four at a time. Where a cosine transform has but one
-//!   value each, its first, it is one product: in rows, and over a `TxRoom` in columns. A block that takes the cosine
-//!   transform both ways and has no coefficient but its first adds one value to each of its samples; over a scratch its
-//!   groups of eight go through `cosine_lanes` as four values, which serve for a value that stands alone at any length.
+//! - Rows and columns go the same way: eight at a time, or four if there are no more. Eight cosine transforms go
+//!   through `cosine_lanes`. A `TxScratch` counts those of columns (`TxScratch::lane_groups`, which each call raises by
+//!   `lane_groups` of `specs/LaneGroups.antt`).
+//! - A block that takes the cosine transform both ways, and has no coefficient but its first, adds one value to each of
+//!   its samples. Over a scratch its groups of eight columns go through `cosine_lanes` as four values, for their count:
+//!   four serve for a value that stands alone at any length.
 //! - `av1_iadst4`, `av1_iflipadst16`, `av1_iidentity32`, `av1_iwht4` and their like give the definitions of
 //!   `specs/Adst.antt`, `specs/Identity.antt` and `specs/Walsh.antt` on the first values of a slice, and leave the rest
 //!   of `output`.
@@ -37,15 +36,14 @@
 mod adding;
 mod adst;
 mod block;
+mod column_pass;
 mod columns;
 mod identity;
 mod inverse;
 mod kinds;
-mod lane_columns;
-mod lanes;
 mod laws;
 mod networks;
-mod rows;
+mod row_pass;
 mod shift;
 mod single;
 mod walsh;

@@ -6,11 +6,10 @@ ghost use Rattle.av1_frame.specs.Arithmetic.{round_shift};
 ghost use Rattle.av1_itx.specs.Scaffolding.{IsSingleBlock, top_of};
 
 use crate::block::Block;
-use crate::columns::{column_range_of, row_shift_of};
+use crate::column_pass::{column_range_of, row_shift_of};
+use crate::columns::{is_cosine, single_value};
 use crate::kinds::get_1d_tx_types;
-use crate::lane_columns::single_value;
-use crate::lanes::is_cosine;
-use crate::rows::{row_value_of, scaling_of};
+use crate::row_pass::{row_value_of, scaling_of};
 use av1_blocks::TxType;
 use av1_dct::clamp_value;
 use av1_frame::{Coefficient, round_shift};

@@ -1,14 +1,33 @@
-//! What the passes ask of words, beside what every word does, and words that stand in arrays.
+//! What the passes ask of words, beside what every word does.
 
-ghost use Rattle.std.specs.Prelude.{◌≡◌, true, ℕ, ◌+◌, ◌-◌, ◌<◌, ◌≤◌, nat_le, nat_lt, ◌&&◌, if◌then◌else◌, pos, length, ◌+ℤ◌, ◌*ℤ◌};
+ghost use Rattle.std.specs.Prelude.{◌≡◌, true, ℕ, ◌+◌, ◌-◌, ◌*◌, ◌^◌, ◌<◌, ◌≤◌, nat_le, nat_lt, ◌&&◌, if◌then◌else◌, pos, length, take, ◌+ℤ◌, ◌*ℤ◌};
+ghost use Rattle.std.specs.List.{All};
 ghost use Rattle.std.specs.Int.{int_shr};
-ghost use Rattle.av1_dct.specs.Arithmetic.{at, round12, wrap32};
+ghost use Rattle.av1_dct.specs.Arithmetic.{at, round12, wrap32, FitsBits};
+ghost use Rattle.av1_dct.specs.Cosine.{cosine};
+ghost use Rattle.av1_dct.specs.Word.{column};
+ghost use Rattle.av1_lists.specs.Counts.{raised};
+ghost use Rattle.av1_lists.specs.Sides.{IsTransformSide};
 
-use av1_dct::Word;
+use av1_dct::{LaneCount, Word, cosine_lanes, cosine_words};
 use std::simd::prelude::*;
 
 /// Words that are read from a block and written to it, with the arithmetic of the transforms of 4 values.
 pub(crate) trait BlockWord: Word {
+    // how many groups of eight a cosine transform in all lanes counts for
+    ghost COUNTED: { ℕ };
+
+    /// The cosine transform of `n` words, in each lane. `count` counts it if words have eight lanes.
+    fn cosine(count: &mut LaneCount, n: usize, input: &[Self], output: &mut [Self], range: usize)
+        requires range_in { (8 ≤ range) × (range ≤ 20) }
+        requires n_in { IsTransformSide n }
+        requires input_len { n ≤ length input.now }
+        requires output_len { n ≤ length output.old }
+        requires fit { (i : ℕ) → i < Self.LANES → All (FitsBits range) (take n (column Self.lane_of i input.now)) }
+        ensures value { (k i : ℕ) → i < Self.LANES → n ≡ 2 * 2 ^ k →
+            take n (column Self.lane_of i output.new) ≡ cosine range k (take n (column Self.lane_of i input.now)) }
+        ensures counts { count.new.groups ≡ raised count.old.groups COUNTED };
+
     /// Adds a multiple in each lane, and wraps at 32 bits.
     fn add_product(self, weight: i32, o: Self) -> Self
         ensures { (i : ℕ) → i < Self.LANES → Self.lane_of result i ≡ wrap32 (Self.lane_of self i +ℤ weight *ℤ Self.lane_of o i) };
@@ -38,6 +57,15 @@ pub(crate) trait BlockWord: Word {
 }
 
 impl BlockWord for i32 {
+    ghost COUNTED = { 0 };
+
+    #[inline(always)]
+    fn cosine(count: &mut LaneCount, n: usize, input: &[i32], output: &mut [i32], range: usize) {
+        // This tells the proof that the count is a u64.
+        let _count = count.groups();
+        cosine_words(n, input, &mut [], output, range);
+    }
+
     #[inline(always)]
     fn add_product(self, weight: i32, o: i32) -> i32 {
         self.wrapping_add(weight.wrapping_mul(o))
@@ -70,6 +98,21 @@ impl BlockWord for i32 {
 }
 
 impl BlockWord for i32x4 {
+    ghost COUNTED = { 0 };
+
+    #[inline(always)]
+    fn cosine(
+        count: &mut LaneCount,
+        n: usize,
+        input: &[i32x4],
+        output: &mut [i32x4],
+        range: usize,
+    ) {
+        // This tells the proof that the count is a u64.
+        let _count = count.groups();
+        cosine_words(n, input, &mut [], output, range);
+    }
+
     #[inline(always)]
     fn add_product(self, weight: i32, o: i32x4) -> i32x4 {
         let (_a, _b) = (self.to_array(), o.to_array());
@@ -112,6 +155,19 @@ impl BlockWord for i32x4 {
 }
 
 impl BlockWord for i32x8 {
+    ghost COUNTED = { 1 };
+
+    #[inline(always)]
+    fn cosine(
+        count: &mut LaneCount,
+        n: usize,
+        input: &[i32x8],
+        output: &mut [i32x8],
+        range: usize,
+    ) {
+        cosine_lanes(count, n, input, &mut [], output, range);
+    }
+
     #[inline(always)]
     fn add_product(self, weight: i32, o: i32x8) -> i32x8 {
         let (_a, _b) = (self.to_array(), o.to_array());
@@ -150,97 +206,5 @@ impl BlockWord for i32x8 {
         for k in 0..8 {
             values[start + k] = lanes[k];
         }
-    }
-}
-
-/// A word that stands in an array. A proof covers an array of structs that have one vector each, and none of vectors.
-#[derive(Clone, Copy)]
-pub(crate) struct Held<V> {
-    pub(crate) word: V,
-}
-
-impl<V: BlockWord> Word for Held<V> {
-    const LANES: usize = V::LANES;
-
-    ghost LANES = { V.LANES };
-
-    ghost lane_of = { λ held i. V.lane_of held.word i };
-
-    #[inline(always)]
-    fn splat(v: i32) -> Held<V> {
-        Held { word: V::splat(v) }
-    }
-
-    #[inline(always)]
-    fn lane(self, i: usize) -> i32 {
-        self.word.lane(i)
-    }
-
-    #[inline(always)]
-    fn plus(self, o: Held<V>) -> Held<V> {
-        Held {
-            word: self.word.plus(o.word),
-        }
-    }
-
-    #[inline(always)]
-    fn minus(self, o: Held<V>) -> Held<V> {
-        Held {
-            word: self.word.minus(o.word),
-        }
-    }
-
-    #[inline(always)]
-    fn turn(w0: i32, a: Held<V>, w1: i32, b: Held<V>) -> Held<V> {
-        Held {
-            word: V::turn(w0, a.word, w1, b.word),
-        }
-    }
-
-    #[inline(always)]
-    fn clamp_to(self, range: usize) -> Held<V> {
-        Held {
-            word: self.word.clamp_to(range),
-        }
-    }
-}
-
-impl<V: BlockWord> BlockWord for Held<V> {
-    #[inline(always)]
-    fn add_product(self, weight: i32, o: Held<V>) -> Held<V> {
-        Held {
-            word: self.word.add_product(weight, o.word),
-        }
-    }
-
-    #[inline(always)]
-    fn round12(self) -> Held<V> {
-        Held {
-            word: self.word.round12(),
-        }
-    }
-
-    #[inline(always)]
-    fn halve(self) -> Held<V> {
-        Held {
-            word: self.word.halve(),
-        }
-    }
-
-    #[inline(always)]
-    fn is_zero(self) -> bool {
-        self.word.is_zero()
-    }
-
-    #[inline(always)]
-    fn read(values: &[i32], start: usize) -> Held<V> {
-        Held {
-            word: V::read(values, start),
-        }
-    }
-
-    #[inline(always)]
-    fn write(self, values: &mut [i32], start: usize) {
-        self.word.write(values, start);
     }
 }

@@ -4,6 +4,7 @@ use Rattle.av1_blocks.specs.Transforms.{tx_width, tx_height}
 use Rattle.av1_dct.specs.Arithmetic.{at, clamp_value, FitsBits}
 use Rattle.av1_dct.specs.Operations.{half_btf}
 use Rattle.av1_dct.proofs.Fits.{clamp_value-fits, fits_wider}
+use Rattle.av1_lists.specs.Counts.{raised}
 use Rattle.av1_frame.specs.Arithmetic.{clip, round_shift}
 use Rattle.av1_frame.proofs.Paint.{paint_same}
 use Rattle.av1_itx.specs.Residue.{column_range}
@@ -13,18 +14,18 @@ use Rattle.av1_itx.proofs.Handed.{groups}
 use Rattle.av1_itx.proofs.Singles.{single_residue}
 use Rattle.av1_itx.proofs.inverse.add_single.Goals as goal
 
-pub run_single-value-requires-clause-fits : goal.run_single-value-requires-clause-fits
-run_single-value-requires-clause-fits g c =
-    let n = c.column_range_of.result in
+pub run_single-requires-clause-fits : goal.run_single-requires-clause-fits
+run_single-requires-clause-fits g c =
+    let n = c.column_range_of-range.result in
     let top : to_z w32 (of_z w32 c.top_value-top.result) ≡ c.top_value-top.result = omega (arith, ints) in
     subst (λ z. FitsBits n z) (sym (top ∙ c.top_value-top.ensures))
-    (clamp_value-fits {w = n} _ (column_range c.args.block.bd) (omega (arith, c.column_range_of.ensures.value)))
+    (clamp_value-fits {w = n} _ (column_range c.args.block.bd) (omega (arith, c.column_range_of-range.ensures.value)))
 
 pub round_shift-residue-requires-clause-fits : goal.round_shift-residue-requires-clause-fits
 round_shift-residue-requires-clause-fits g c =
-    let whole : to_z w32 (of_z w32 c.run_single-value.result) ≡ c.run_single-value.result = omega (arith, ints) in
-    sum_small _ c.column_shift_of.result c.column_shift_of.ensures.one_of (subst (λ z. FitsBits 24 z) (sym (whole ∙ c.run_single-value.ensures.value))
-    (fits_wider c.column_range_of.result 24 _ (omega arith) (clamp_value-fits _ c.column_range_of.result (omega arith))))
+    let whole : to_z w32 (of_z w32 c.single_value-value.result) ≡ c.single_value-value.result = omega (arith, ints) in
+    sum_small _ c.column_shift_of.result c.column_shift_of.ensures.one_of (subst (λ z. FitsBits 24 z) (sym (whole ∙ c.single_value-value.ensures))
+    (fits_wider c.column_range_of-range.result 24 _ (omega arith) (clamp_value-fits _ c.column_range_of-range.result (omega arith))))
 
 pub raise_all-requires-clause-fours : goal.raise_all-requires-clause-fours
 raise_all-requires-clause-fours g c = subst (λ n. 4 * (n / 4) ≡ n) (sym c.requires.place.width) (groups c.args.block.tx_size).0
@@ -38,27 +39,27 @@ raise_all-requires-clause-depths g c = c.requires.block.depth.0
 pub raise_all-requires-clause-fits : goal.raise_all-requires-clause-fits
 raise_all-requires-clause-fits g c =
     let P : ℤ → Type 0 = λ z. FitsBits 24 z in
-    let whole : to_z w32 (of_z w32 c.run_single-value.result) ≡ c.run_single-value.result = omega (arith, ints) in
+    let whole : to_z w32 (of_z w32 c.single_value-value.result) ≡ c.single_value-value.result = omega (arith, ints) in
     let kept : to_z w32 (of_z w32 c.round_shift-residue.result) ≡ c.round_shift-residue.result = omega (arith, ints) in
     subst P (sym (kept ∙ c.round_shift-residue.ensures))
-    (rounded_fits _ c.column_shift_of.result c.column_shift_of.ensures.one_of (subst P (sym (whole ∙ c.run_single-value.ensures.value))
-    (fits_wider c.column_range_of.result 24 _ (omega arith) (clamp_value-fits _ c.column_range_of.result (omega arith)))))
+    (rounded_fits _ c.column_shift_of.result c.column_shift_of.ensures.one_of (subst P (sym (whole ∙ c.single_value-value.ensures))
+    (fits_wider c.column_range_of-range.result 24 _ (omega arith) (clamp_value-fits _ c.column_range_of-range.result (omega arith)))))
 
 pub returns-clause-painted : goal.returns-clause-painted
 returns-clause-painted g c =
     let a = c.args.place.area in
     let block = c.args.block in
     let cs = map g.T.Coeff.Coefficient.val c.args.input.now in
-    let z = c.run_single-value.result in
+    let z = c.single_value-value.result in
     let whole : to_z w32 (of_z w32 z) ≡ z = omega (arith, ints) in
     let first : to_z w32 (of_z w32 c.first_of.result) ≡ c.first_of.result = omega (arith, ints) in
     let put_on = λ (z : ℤ) (v : _). g.T.Pixel.pixel (clip block.bd (pos (g.T.Pixel.num v) +ℤ z)) in
     let level = λ (v : ℤ) (n : _). clamp_value (half_btf (pos 2896) v (pos 0) v) n in
     let top : to_z w32 (of_z w32 c.top_value-top.result) ≡ c.top_value-top.result = omega (arith, ints) in
     let kept : to_z w32 (of_z w32 c.round_shift-residue.result) ≡ c.round_shift-residue.result = omega (arith, ints) in
-    let is = c.run_single-value.ensures.value ∙ ap (λ v. level v c.column_range_of.result) (top ∙ c.top_value-top.ensures)
-    ∙ ap (λ v. level (top_of block v) c.column_range_of.result) (first ∙ c.first_of.ensures)
-    ∙ ap (level (top_of block (at cs 0))) c.column_range_of.ensures.value in
+    let is = c.single_value-value.ensures ∙ ap (λ v. level v c.column_range_of-range.result) (top ∙ c.top_value-top.ensures)
+    ∙ ap (λ v. level (top_of block v) c.column_range_of-range.result) (first ∙ c.first_of.ensures)
+    ∙ ap (level (top_of block (at cs 0))) c.column_range_of-range.ensures.value in
     c.raise_all.ensures
     ∙ paint_same c.args.place.stride a _ _ c.args.samples.now (λ r q v hr hq.
     let h : r < tx_height block.tx_size = omega (arith, c.requires.place.height) in
@@ -71,7 +72,6 @@ returns-clause-painted g c =
 pub returns-clause-counts : goal.returns-clause-counts
 returns-clause-counts g c =
     let w = tx_width c.args.block.tx_size in
-    let groups = c.width-groups.ensures.value in
-    c.run_single-value.ensures.counts
-    ∙ ap (λ n. g.R.CosineColumns.raised_by (g.R.CosineColumns.tally c.args.lanes.now) (n / 8)) groups
-    ∙ ap (λ b. g.R.CosineColumns.raised_by (g.R.CosineColumns.tally c.args.lanes.now) (cond b (w / 8) 0)) (sym c.requires.single.columns)
+    c.run_single.ensures
+    ∙ ap (λ n. raised c.args.count.now.groups (n / 8)) c.width-groups.ensures.value
+    ∙ ap (λ b. raised c.args.count.now.groups (cond b (w / 8) 0)) (sym c.requires.single.columns)

@@ -1,6 +1,0 @@
-use Rattle.std.proofs.Common.{◌≡◌, ℕ, ◌<◌, pos}
-use Rattle.av1_dct.specs.Arithmetic.{at}
-use Rattle.av1_itx.proofs.rows.clear_piece.Given as goal
-
-abbrev pub invariant-loop-v : goal.invariant-loop-v
-invariant-loop-v l = (k : ℕ) → k < l.v-index → at l.line k ≡ pos 0
