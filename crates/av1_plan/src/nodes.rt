@@ -26,7 +26,7 @@ impl<'a> Parser<'a> {
     ghost use Rattle.av1_plan.specs.Values.{leaves_value};
     ghost use Rattle.av1_plan.specs.Format.{add, ended, read};
     ghost use Rattle.av1_plan.specs.Grammar.{leaf_part, wide_stripes, tall_stripes, block, parts, superblock_row, superblocks};
-    ghost use Rattle.av1_plan.specs.Reading.{Gives, Fits, input};
+    ghost use Rattle.av1_plan.specs.Reading.{Gives, input};
     ghost use Rattle.av1_plan.specs.Parsing.{state, IsSound};
 
     /// The leaf at this place, if that lies in the frame.
@@ -208,7 +208,6 @@ impl<'a> Parser<'a> {
 
     /// No leaves yet.
     fn new(alloc: Global, reader: Reader<'a>) -> Parser<'a>
-        requires { Fits reader }
         ensures sound { IsSound result }
         ensures state { state result ≡ ([], input reader.entry) }
     {
@@ -226,7 +225,6 @@ impl<'a> Parser<'a> {
         reader: Reader<'a>,
         header: &Header,
     ) -> Result<Parser<'a>, PlanError>
-        requires fits { Fits reader }
         requires width { header.now.width ≤ 2048 }
         requires height { header.now.height ≤ 2048 }
         ensures read { Gives (λ p. state p) result (read (superblocks header.now) (input reader.entry)) }

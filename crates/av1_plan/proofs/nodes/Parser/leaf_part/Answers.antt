@@ -13,7 +13,6 @@ returns-clause-read c =
 
 pub returns-clause-sound : goal.returns-clause-sound
 returns-clause-sound c = record {
-  fits = omega arith;
   follow =
       rw (c.in_ok-push.ensures.items, c.in_ok-leaf.ensures.extends.count)
       (Follow-push 0 c.args.self.now.leaves.items (length c.args.self.now.triples.items) c.in_ok-leaf.leaf c.requires.follow c.in_ok-leaf.ensures.first);

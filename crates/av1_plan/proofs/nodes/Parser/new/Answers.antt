@@ -5,7 +5,6 @@ use Rattle.av1_plan.proofs.nodes.Parser.new.Goals as goal
 pub returns-clause-sound : goal.returns-clause-sound
 unfolding Follow
 returns-clause-sound c = record {
-  fits = c.requires;
   follow = rw (c.new.ensures.items, c.new-2.ensures.items) refl;
   room = rw c.new-2.ensures.items (omega arith);
   few = rw c.new.ensures.items (omega arith);
