@@ -3,7 +3,7 @@ use Rattle.std.specs.Prelude.{◌≤◌, List, length}
 use Rattle.av1_plan.specs.Format.{Input}
 use Rattle.av1_plan.specs.Plan.{LeafValue, leaf_values, Follow}
 use Rattle.av1_plan.specs.Reading.{input}
-use Rattle.av1_plan.specs.declared.nodes.Parser.{Parser}
+use Rattle.av1_plan.specs.declared.parser.Parser.{Parser}
 
 -- the leaves so far, and what is left
 abbrev pub state : Parser → List LeafValue × Input

@@ -6,7 +6,7 @@ use crate::reader::Reader;
 use av1_blocks::FilterMode;
 
 impl<'a> Reader<'a> {
-    ghost use Rattle.std.specs.Prelude.{◌≡◌, ◌≤◌, true, IfOk, IfErr};
+    ghost use Rattle.std.specs.Prelude.{◌≡◌, ◌<◌, ◌≤◌, true, IfOk, IfErr};
     ghost use Rattle.av1_plan.specs.Format.{one, two, four, read_field, read};
     ghost use Rattle.av1_plan.specs.Grammar.{where_, is_magic, version, is_side, is_depth, slots, frame, header};
     ghost use Rattle.av1_plan.specs.ReadPlans.{AreSlots, IsSide};
@@ -54,6 +54,7 @@ impl<'a> Reader<'a> {
         ensures read { Gives (λ x. (x, input self.new)) result (read_field (where_ two (is_side version)) (input self.old)) }
         ensures told { IfErr result IsAtByte }
         ensures moves { Moves self.old self.new }
+        ensures some { IfOk result (λ x. 0 < x) }
         ensures small { IfOk result (λ x. x ≤ 2048) }
         ensures side { IfOk result (λ x. version ≤ 2 → IsSide x) }
     {
@@ -116,6 +117,7 @@ impl<'a> Reader<'a> {
         ensures read { Gives (λ x. (x, input self.new)) result (read (frame version) (input self.old)) }
         ensures told { IfErr result IsAtByte }
         ensures moves { Moves self.old self.new }
+        ensures some { IfOk result (λ h. (0 < h.width) × (0 < h.height)) }
         ensures small { IfOk result (λ h. (h.width ≤ 2048) × (h.height ≤ 2048) × (h.depth ≤ 12)) }
     {
         let width = self.side(version)?;
@@ -146,6 +148,7 @@ impl<'a> Reader<'a> {
         ensures read { Gives (λ x. (x, input self.new)) result (read header (input self.old)) }
         ensures told { IfErr result IsAtByte }
         ensures moves { Moves self.old self.new }
+        ensures some { IfOk result (λ h. (0 < h.width) × (0 < h.height)) }
         ensures small { IfOk result (λ h. (h.width ≤ 2048) × (h.height ≤ 2048) × (h.depth ≤ 12)) }
     {
         let version = self.version()?;
