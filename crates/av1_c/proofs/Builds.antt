@@ -45,7 +45,7 @@ pub held : (h : PlanHeader) (b : Builder) (written end : ℕ) (room room' more :
     → built p plan.bytes ≡ plan → plan.header ≡ header_of h → plan.bytes ≡ take written room ++ more → Hold b room' room plan
 held h b written end room room' more p state plan same stored count parts a stop valid whole header bytes =
     let (kept, (behind, len)) = front_is room room' more written end a in
-    let at : p.header ≡ header_of b.header = ap (λ (d : Building). d.header) whole ∙ header ∙ sym (ap header_of same) in
+    let at : p.walk.header ≡ header_of b.header = ap (λ (d : Building). d.header) whole ∙ header ∙ sym (ap header_of same) in
     let valid_here : is_state (header_of b.header) (state_of b) ≡ true =
     subst (λ (s : State). is_state (header_of b.header) s ≡ true) (sym stored) (subst (λ (g : Header). is_state g state ≡ true) at valid) in
     let stop_here : stopped (header_of b.header) (state_of b) ≡ built p [] =

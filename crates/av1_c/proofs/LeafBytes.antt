@@ -9,7 +9,7 @@ use Rattle.av1_blocks.specs.declared.transform.TxType.{TxType}
 use Rattle.av1_plan.specs.declared.header.Header.{Header}
 use Rattle.av1_plan.specs.declared.leaf.LeafKind.{LeafKind}
 use Rattle.av1_plan.specs.declared.leaf.Triple.{Triple}
-use Rattle.av1_planwrite.specs.declared.parts.Part.{Part}
+use Rattle.av1_plan.specs.declared.nodes.Part.{Part}
 use Rattle.av1_planwrite.specs.Building.{admits_leaf, admits_leaf_fields}
 use Rattle.av1_planwrite.specs.Given.{FitsTriple}
 use Rattle.av1_planwrite.specs.Text.{chroma_triples_text, fields_text, leading_text, pair, triple_text, triples_text}

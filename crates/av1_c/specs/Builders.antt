@@ -6,8 +6,8 @@ use Rattle.av1_blocks.specs.declared.partition.BlockSize.TheVariants.{BLOCK_4X4}
 use Rattle.av1_blocks.specs.declared.partition.TheConstants.BlockSize as sizes
 use Rattle.av1_plan.specs.declared.header.Header.{Header}
 use Rattle.av1_planwrite.specs.declared.error.BuildError.TheVariants.{TooLong}
-use Rattle.av1_planwrite.specs.declared.parts.Part.{Part}
-use Rattle.av1_planwrite.specs.declared.parts.Part.TheVariants.{Node, Leaf}
+use Rattle.av1_plan.specs.declared.nodes.Part.{Part}
+use Rattle.av1_plan.specs.declared.nodes.Part.TheVariants.{Node, Leaf}
 use Rattle.av1_planwrite.specs.declared.state.State.{State}
 use Rattle.av1_planwrite.specs.Building.{Building}
 use Rattle.av1_planwrite.specs.States.{is_state, stopped}

@@ -4,7 +4,11 @@ pub mod Fields
 pub mod Parts
 pub mod Lists
 pub mod Triples
-pub mod Blocks
+pub mod FormatLaws
+pub mod LeftSuperblocks
+pub mod Stacks
+pub mod Walks
+pub mod RemainingParts
 pub mod Answers
 pub mod Narrow
 pub mod Spans

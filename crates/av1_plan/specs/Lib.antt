@@ -8,6 +8,9 @@ pub mod CodingOrder
 pub mod ReadPlans
 pub mod Validity
 pub mod Grammar
+pub mod Remaining
+pub mod Stacks
+pub mod Walk
 pub mod Reading
 pub mod Parsing
 pub mod Values

@@ -2,8 +2,8 @@
 use Rattle.std.specs.Prelude.{◌≤◌, List, length}
 use Rattle.av1_plan.specs.Format.{Input}
 use Rattle.av1_plan.specs.Plan.{LeafValue, leaf_values, Follow}
-use Rattle.av1_plan.specs.Reading.{input, Fits}
-use Rattle.av1_plan.specs.declared.nodes.Parser.{Parser}
+use Rattle.av1_plan.specs.Reading.{input}
+use Rattle.av1_plan.specs.declared.parser.Parser.{Parser}
 
 -- the leaves so far, and what is left
 abbrev pub state : Parser → List LeafValue × Input
@@ -11,7 +11,6 @@ state p = (leaf_values p.triples.items p.leaves.items, input p.reader)
 
 -- the leaves' triples follow one another, and there are no more leaves or triples than bytes
 pub record IsSound (p : Parser) : Type 0 where
-  pub fits : Fits p.reader
   pub follow : Follow 0 p.leaves.items (length p.triples.items)
   pub room : length p.triples.items ≤ p.reader.at
   pub few : length p.leaves.items ≤ p.reader.at

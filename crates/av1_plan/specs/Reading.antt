@@ -1,5 +1,5 @@
 -- What the functions that read give: words of private contracts.
-use Rattle.std.specs.Prelude.{◌≡◌, ℕ, ◌+◌, ◌≤◌, ◌^◌, List, length, take, drop, Result, Ok, Err, ⊤}
+use Rattle.std.specs.Prelude.{◌≡◌, ℕ, ◌+◌, ◌≤◌, List, length, take, drop, Result, Ok, Err, ⊤}
 use Rattle.av1_plan.specs.declared.error.PlanError.{PlanError}
 use Rattle.av1_plan.specs.declared.error.PlanError.TheVariants as errors
 use Rattle.av1_plan.specs.declared.reader.Reader.{Reader}
@@ -24,10 +24,6 @@ Gives view (Err e) reading = Fails e reading
 -- where a reader stands
 abbrev pub input : Reader → Input
 input r = record { at = r.at; rest = r.rest.now }
-
--- every place from here to the end fits
-abbrev pub Fits : Reader → Type 0
-Fits r = r.at + length r.rest.now ≤ 2 ^ 26
 
 -- the place went on, and the end is where it was
 abbrev pub Moves : Reader → Reader → Type 0

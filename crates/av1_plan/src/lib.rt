@@ -7,6 +7,9 @@
 //! - `parse_plan` reads exactly the bytes that the plan grammar (`specs/Grammar.antt`) spells, and of any others names
 //!   the first field that is cut, not admitted or left over (`Malformed`). It is linear in the bytes and takes no
 //!   memory for a leaf of its own: leaves lie in one list, and their coefficients in another.
+//! - A `TreeWalk` gives the parts of a frame in coding order: the nodes of the partition tree, each before its own
+//!   parts, and the leaves. Whoever walks says how a node is cut. Plans are read by it, and written by it in
+//!   `av1_planwrite`.
 //! - `parse_leaves` reads the leaves alone, which are a type of their own, `Leaves`: for callers that keep the header
 //!   and the references of a plan in another form. `check_leaves` judges them by the header that it is given.
 //!   `parse_plan_behind` puts them into a plan with a header and references that stand elsewhere: what its bytes spell
@@ -43,9 +46,13 @@ mod leaf;
 mod leaves;
 mod nodes;
 mod parse;
+mod parser;
+mod part_stack;
 mod plan;
 mod planes;
 mod reader;
+mod superblocks;
+mod tree_walk;
 
 pub use check::{admits_references, check_leaves, check_plan, is_inter_size};
 pub use error::{Invalid, InvalidKind, PlanError};
@@ -59,8 +66,11 @@ pub use laws::{
 };
 pub use leaf::{ChromaMode, Leaf, LeafKind, Triple};
 pub use leaves::Leaves;
-pub use nodes::{cut_by, half_side, part_size, whole_size};
+pub use nodes::{Part, cut_by};
 pub use parse::{parse_leaves, parse_plan, parse_plan_behind};
+pub use part_stack::Stacked;
 pub use plan::Plan;
 pub use planes::SlotPlanes;
 pub use reader::Reader;
+pub use superblocks::Superblocks;
+pub use tree_walk::TreeWalk;

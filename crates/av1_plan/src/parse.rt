@@ -13,7 +13,7 @@ ghost use Rattle.av1_plan.specs.Spelling.{AreText, AreRefused};
 use crate::error::PlanError;
 use crate::header::Header;
 use crate::leaves::Leaves;
-use crate::nodes::Parser;
+use crate::parser::Parser;
 use crate::plan::Plan;
 use crate::planes::SlotPlanes;
 use crate::reader::Reader;

@@ -1,5 +1,7 @@
 //! Reading fields from the front of the bytes.
 
+ghost use Rattle.std.specs.Prelude.{◌+◌, ◌≤◌, ◌^◌, length};
+
 mod header;
 mod leaf;
 mod mark;
@@ -13,13 +15,14 @@ pub struct Reader<'a> {
     pub rest: &'a [u8],
     /// The place of the next byte.
     pub at: u32,
+    ghost fits: { at + length rest.now ≤ 2 ^ 26 },
 }
 
 impl<'a> Reader<'a> {
     ghost use Rattle.std.specs.Prelude.{◌≡◌, ◌+◌, ◌<◌, ◌≤◌, ◌^◌, length, IfOk, IfErr, OnOk, OnErr};
     ghost use Rattle.av1_plan.specs.Format.{one, two, four, any, read_field, read_part};
     ghost use Rattle.av1_plan.specs.Grammar.{byte_from};
-    ghost use Rattle.av1_plan.specs.Reading.{Gives, IsAtByte, input, Fits, Moves};
+    ghost use Rattle.av1_plan.specs.Reading.{Gives, IsAtByte, input, Moves};
 
     fn malformed<T>(&self) -> Result<T, PlanError>
         ensures { result ≡ Err (PlanError.Malformed self.now.at) }
@@ -42,7 +45,6 @@ impl<'a> Reader<'a> {
     /// Any byte.
     #[tactic(auto, unfolding(crate::specs::Format::read_field))]
     pub fn any_byte(&mut self) -> Result<u8, PlanError>
-        requires { Fits self.old }
         ensures read { Gives (λ x. (x, input self.new)) result (read_field (any one) (input self.old)) }
         ensures told { IfErr result IsAtByte }
         ensures takes { OnOk result (self.old.at < self.new.at) }
@@ -61,7 +63,6 @@ impl<'a> Reader<'a> {
     /// Any number of two bytes.
     #[tactic(auto, unfolding(crate::specs::Format::read_field))]
     pub fn any_u16(&mut self) -> Result<u16, PlanError>
-        requires { Fits self.old }
         ensures read { Gives (λ x. (x, input self.new)) result (read_field (any two) (input self.old)) }
         ensures told { IfErr result IsAtByte }
         ensures takes { OnOk result (self.old.at < self.new.at) }
@@ -81,7 +82,6 @@ impl<'a> Reader<'a> {
     /// Any number of four bytes.
     #[tactic(auto, unfolding(crate::specs::Format::read_field))]
     pub fn any_u32(&mut self) -> Result<u32, PlanError>
-        requires { Fits self.old }
         ensures read { Gives (λ x. (x, input self.new)) result (read_field (any four) (input self.old)) }
         ensures told { IfErr result IsAtByte }
         ensures takes { OnOk result (self.old.at < self.new.at) }
@@ -101,7 +101,6 @@ impl<'a> Reader<'a> {
     /// A part of any length: a number of four bytes, and so many bytes, which are one field.
     #[tactic(auto, unfolding(crate::specs::Format::read_part))]
     pub fn part(&mut self) -> Result<&'a [u8], PlanError>
-        requires { Fits self.old }
         ensures read { Gives (λ x. (x.now, input self.new)) result (read_part (input self.old)) }
         ensures moves { Moves self.old self.new }
         ensures short { IfOk result (λ x. length x.now ≤ 2 ^ 26) }
@@ -119,7 +118,6 @@ impl<'a> Reader<'a> {
     /// A byte from `first` to `last`.
     #[tactic(auto, using(crate::proofs::Narrow::narrow))]
     pub fn byte(&mut self, first: u8, last: u8) -> Result<u8, PlanError>
-        requires { Fits self.old }
         ensures read { Gives (λ x. (x, input self.new)) result (read_field (byte_from first last) (input self.old)) }
         ensures told { IfErr result IsAtByte }
         ensures takes { OnOk result (self.old.at < self.new.at) }

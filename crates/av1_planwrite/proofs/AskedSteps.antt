@@ -7,16 +7,18 @@ use Rattle.av1_blocks.specs.declared.partition.PartitionType.{PartitionType}
 use Rattle.av1_plan.specs.declared.header.Header.{Header}
 use Rattle.av1_plan.specs.Format.{Format, done, ◌>>=◌, lone, nothing, ◌++>◌, in_turn}
 use Rattle.av1_plan.specs.Geometry.{has_slot}
-use Rattle.av1_plan.specs.Grammar.{mark, parts, block, superblocks}
+use Rattle.av1_plan.specs.Grammar.{mark, superblocks}
 use Rattle.av1_plan.specs.Grammar as grammar
 use Rattle.av1_plan.specs.Plan.{LeafValue, PlanValue}
 use Rattle.av1_plan.specs.Spelling.{Spells, text}
-use Rattle.av1_planwrite.specs.declared.parts.Part.{Part}
-use Rattle.av1_planwrite.specs.declared.parts.Part.TheVariants.{Node, Leaf}
-use Rattle.av1_planwrite.specs.Asked.{part_format, parts_format, cut_before, down, rows_of, asked_for, After}
+use Rattle.av1_plan.specs.declared.nodes.Part.{Part}
+use Rattle.av1_plan.specs.declared.nodes.Part.TheVariants.{Node, Leaf}
+use Rattle.av1_plan.specs.Remaining.{part_format, parts_format, cut_before, down, rows_of}
+use Rattle.av1_planwrite.specs.Asked.{asked_for, After}
 use Rattle.av1_planwrite.specs.Building.{slot_from, slots_without}
-use Rattle.av1_planwrite.proofs.FormatLaws.{bind_assoc, bind_same, after_spelled}
-use Rattle.av1_planwrite.proofs.AskedParts.{node_asked, cut_asked, superblocks_asked}
+use Rattle.av1_plan.proofs.FormatLaws.{bind_assoc, bind_same}
+use Rattle.av1_planwrite.proofs.After.{after_spelled}
+use Rattle.av1_plan.proofs.RemainingParts.{node_first, superblocks_asked}
 
 abbrev Slots : Type 0
 Slots = List (Option (List (List ℕ)))
@@ -158,20 +160,16 @@ module _ (h : Header) where
   parts_asked ps stored leaves = left_is 8 0 ps stored leaves refl ∙ ap (λ (f : Format Slots). f >>= λ more. behind ps leaves (stored ++ more)) (no_slots 8)
 
   -- the mark of a node, and then the parts into which it is cut
-  pub mark_asked : (k x y : ℕ) (ps : List Part) (stored : Slots) (leaves : List LeafValue)
-      → asked_for h 8 (Node (suc k) x y ∷ ps) stored leaves ≡ (mark h (suc k) x y >>= λ cut. asked_for h 8 (cut_before h (suc k) x y cut ps) stored leaves)
-  unfolding parts_format
-  mark_asked k x y ps stored leaves =
+  pub mark_asked : (level x y : ℕ) (ps : List Part) (stored : Slots) (leaves : List LeafValue)
+      → asked_for h 8 (Node level x y ∷ ps) stored leaves ≡ (mark h level x y >>= λ cut. asked_for h 8 (cut_before h level x y cut ps) stored leaves)
+  mark_asked level x y ps stored leaves =
       let end : List LeafValue → Format PlanValue = λ later. done (plan_is h (stored ++ []) (leaves ++ later)) in
-      let node = mark h (suc k) x y in
-      let cut_format : PartitionType → Format (List LeafValue) = parts h (suc k) (block h k) x y in
-      parts_asked (Node (suc k) x y ∷ ps) stored leaves
-      ∙ ap (λ (f : Format (List LeafValue)). (f ++> parts_format h ps) >>= end) (node_asked h k x y)
-      ∙ ap (λ (f : Format (List LeafValue)). f >>= end) (bind_assoc node cut_format (λ xs. parts_format h ps >>= λ ys. done (xs ++ ys)))
-      ∙ bind_assoc node (λ cut. cut_format cut ++> parts_format h ps) end
-      ∙ bind_same node (λ cut. (cut_format cut ++> parts_format h ps) >>= end) (λ cut. asked_for h 8 (cut_before h (suc k) x y cut ps) stored leaves)
-      (λ cut. ap (λ (f : Format (List LeafValue)). f >>= end) (sym (cut_asked h k x y cut ps))
-      ∙ sym (parts_asked (cut_before h (suc k) x y cut ps) stored leaves))
+      let node = mark h level x y in
+      parts_asked (Node level x y ∷ ps) stored leaves
+      ∙ ap (λ (f : Format (List LeafValue)). f >>= end) (node_first h level x y ps)
+      ∙ bind_assoc node (λ cut. parts_format h (cut_before h level x y cut ps)) end
+      ∙ bind_same node (λ cut. parts_format h (cut_before h level x y cut ps) >>= end) (λ cut. asked_for h 8 (cut_before h level x y cut ps) stored leaves)
+      (λ cut. sym (parts_asked (cut_before h level x y cut ps) stored leaves))
 
   -- the fields of a leaf
   pub leaf_asked : (size : BlockSize) (x y : ℕ) (ps : List Part) (stored : Slots) (leaves : List LeafValue)

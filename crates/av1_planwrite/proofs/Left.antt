@@ -7,8 +7,6 @@ use Rattle.std.proofs.lemmas.Bool.{cases_lt}
 use Rattle.std.proofs.lemmas.List.{length-map, length-take}
 use Rattle.std.proofs.lemmas.Option.{slice_get_within, get_or_from_slice_get, slice_get-map}
 use Rattle.av1_blocks.specs.declared.partition.PartitionType.TheVariants.{PARTITION_NONE}
-use Rattle.av1_plan.specs.declared.header.Header.{Header}
-use Rattle.av1_plan.specs.Geometry.{is_inside}
 use Rattle.av1_plan.specs.declared.leaf.Leaf.{Leaf}
 use Rattle.av1_plan.specs.declared.leaf.Triple.{Triple}
 use Rattle.av1_plan.specs.declared.plan.Plan.{Plan}
@@ -16,7 +14,7 @@ use Rattle.av1_plan.specs.Values.{plan_value, stored_leaves, stored_triples}
 use Rattle.av1_plan.specs.Plan.{LeafValue, leaf_value, leaf_values, triples_of, cut}
 use Rattle.av1_plan.proofs.Spans.{stored_leaf, triples_of_leaf, length-leaf_values, stored_triples_at}
 use Rattle.av1_planwrite.specs.Bare.{none_of, bare_leaf}
-use Rattle.av1_planwrite.specs.Text.{byte, Draft, fields_text, leaf_text, cut_of, mark_of, leaf_written, part_written, next_cut, parts_written, block_written}
+use Rattle.av1_planwrite.specs.Text.{Draft, fields_text, leaf_text, cut_of, leaf_written, next_cut}
 use Rattle.av1_planwrite.specs.Writing.{told, told_triples}
 use Rattle.av1_planwrite.specs.declared.nodes.Coefficients.{Coefficients}
 use Rattle.av1_planwrite.specs.declared.nodes.Coefficients.TheVariants.{Kept, LeftOut}
@@ -118,14 +116,6 @@ past_end p i e = elim (cases_lt i (length (stored_leaves p))) [
     clash (l ∷ ls) zero lt e = absurd cc
     clash (l ∷ ls) (suc i) lt e = clash ls i (omega (arith, lt)) e
 
-pub part_inside : (h : Header) (x y : ℕ) (d : Draft) → is_inside h x y ≡ true → part_written h x y d ≡ leaf_written d.0 d.1
-unfolding part_written
-part_inside h x y d e = rw e refl
-
-pub part_outside : (h : Header) (x y : ℕ) (d : Draft) → is_inside h x y ≡ false → part_written h x y d ≡ d
-unfolding part_written
-part_outside h x y d e = rw e refl
-
 pub no_leaf : (c : Coefficients) (p : Plan) (i : ℕ) (bytes : List ℕ) → slice_get (stored_leaves p) i ≡ None
     → leaf_written (drop i (told c (plan_value p)).leaves) bytes ≡ (drop i (told c (plan_value p)).leaves, bytes)
 unfolding leaf_written
@@ -145,27 +135,4 @@ pub cut_none : (c : Coefficients) (p : Plan) (i level : ℕ) → slice_get (stor
 unfolding next_cut
 cut_none c p i level e = ap (next_cut level) (none_left c p i (past_end p i e))
 
-pub ruleset leaves_left = (part_inside, part_outside, no_leaf, cut_some, cut_none)
-
--- ---- a block is a leaf or a node
-
-pub block_leaf : (h : Header) (level x y : ℕ) (d : Draft) → level ≡ 0 → block_written h level x y d ≡ part_written h x y d
-unfolding block_written
-block_leaf h zero x y d e = refl
-block_leaf h (suc level) x y d e = absurd (omega arith)
-
-pub block_outside : (h : Header) (level x y : ℕ) (d : Draft) → 0 < level → is_inside h x y ≡ false → block_written h level x y d ≡ d
-unfolding block_written
-block_outside h zero x y d lt e = absurd (omega arith)
-block_outside h (suc level) x y d lt e = rw e refl
-
-pub block_inside : (h : Header) (level x y : ℕ) (d : Draft) → 0 < level → is_inside h x y ≡ true
-    → block_written h level x y d ≡ parts_written h level (block_written h (level - 1)) x y (next_cut level d.0)
-    (d.0, d.1 ++ byte (mark_of (next_cut level d.0)))
-unfolding block_written
-block_inside h zero x y d lt e = absurd (omega arith)
-block_inside h (suc level) x y d lt e =
-    let k : suc level - 1 ≡ level = omega arith in
-    rw (e, k) refl
-
-pub ruleset blocks = (block_leaf, block_outside, block_inside)
+pub ruleset leaves_left = (no_leaf, cut_some, cut_none)

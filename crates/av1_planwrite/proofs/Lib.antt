@@ -2,9 +2,9 @@ pub mod Told
 pub mod LeafTexts
 pub mod NodeTexts
 pub mod PlanTexts
-pub mod Turns
 pub mod TripleBytes
 pub mod Left
+pub mod WrittenParts
 pub mod References
 pub mod Rests
 pub mod BarePlans
@@ -12,12 +12,9 @@ pub mod Spelled
 pub mod Packed
 pub mod MarkTrees
 pub mod Fronts
-pub mod Stacks
 pub mod States
 pub mod Items
-pub mod LeftSuperblocks
-pub mod FormatLaws
-pub mod AskedParts
+pub mod After
 pub mod NextSlots
 pub mod AskedSteps
 pub mod BuilderParts

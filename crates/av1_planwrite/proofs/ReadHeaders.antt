@@ -10,7 +10,6 @@ use Rattle.av1_plan.specs.Grammar.{is_side, is_depth}
 use Rattle.av1_plan.specs.ReadPlans.{IsSide, IsShown, IsReadFrame}
 use Rattle.std.specs.Int.{is_in_range}
 use Rattle.av1_plan.proofs.ReadFrames.{coded_is, shown_is, depth_is}
-use Rattle.av1_planwrite.specs.Asked.{across, down, row_before, rows_of, superblocks_from}
 use Rattle.av1_planwrite.specs.Building.{admits_header}
 
 slots_are : (slots : List ℕ) → list_all (λ slot. nat_le slot 7) slots ≡ true → All (λ slot. slot < 8) slots
@@ -70,11 +69,9 @@ header_read h e mask count =
 
 -- the ranges of an admitted header
 pub record HasRanges (h : Header) : Type 0 where
-  pub width : h.width ≤ 2048
-  pub height : h.height ≤ 2048
+  pub width : (0 < h.width) × (h.width ≤ 2048)
+  pub height : (0 < h.height) × (h.height ≤ 2048)
   pub depth : h.depth ≤ 12
-  pub rows : 0 < down h
-  pub cols : 0 < across h
 
 pub ranges_of : (h : Header) → admits_header h ≡ true → h.mask < 256 → length h.slots ≡ 7 → HasRanges h
 ranges_of h e mask count =
@@ -82,22 +79,12 @@ ranges_of h e mask count =
     let w = r.shown_width in
     let t = r.shown_height in
     record {
-      width = omega (arith, w.within, r.width.most);
-      height = omega (arith, t.within, r.height.most);
+      width = (omega (arith, w.some), omega (arith, w.within, r.width.most));
+      height = (omega (arith, t.some), omega (arith, t.within, r.height.most));
       depth = few r.depth;
-      rows = omega (arith, t.some);
-      cols = omega (arith, w.some);
     }
   where
     few : (h.depth ≡ 8) ⊎ (h.depth ≡ 10) ⊎ (h.depth ≡ 12) → h.depth ≤ 12
     few (inl e) = omega (arith, e)
     few (inr (inl e)) = omega (arith, e)
     few (inr (inr e)) = omega (arith, e)
-
--- from the first superblock on they are all of them
-pub all_left : (h : Header) → 0 < down h → superblocks_from h 0 0 ≡ rows_of h 0 (down h)
-unfolding rows_of
-all_left h some =
-    let n : down h ≡ suc (down h - 1) = omega (arith, some) in
-    let m : across h - 0 ≡ across h = omega arith in
-    sym (ap (rows_of h 0) n ∙ ap (λ (k : ℕ). row_before h 0 0 k (rows_of h 1 (down h - 1))) (sym m))

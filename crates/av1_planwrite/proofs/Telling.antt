@@ -16,18 +16,20 @@ use Rattle.av1_plan.specs.Plan.{LeafValue, PlanValue}
 use Rattle.av1_plan.specs.ReadPlans.{IsReadFrame, ArePlane}
 use Rattle.av1_plan.specs.Spelling.{IsSpelled, AreText, text}
 use Rattle.av1_plan.proofs.Composed.{done_spelled, bind_spelled, header_spelled, plane_spelled}
-use Rattle.av1_planwrite.specs.declared.parts.Part.{Part}
-use Rattle.av1_planwrite.specs.declared.parts.Part.TheVariants.{Node, Leaf}
-use Rattle.av1_planwrite.specs.Asked.{After, asked_for, cut_before, down, rows_of}
-use Rattle.av1_planwrite.specs.Building.{Building, LeafFields, Tells, admits_leaf, asks_leaf, asks_reference, first_part, later_parts, asked_part, cut_first}
+use Rattle.av1_plan.specs.declared.nodes.Part.{Part}
+use Rattle.av1_plan.specs.declared.nodes.Part.TheVariants.{Node, Leaf}
+use Rattle.av1_plan.specs.Remaining.{cut_before, cut_first, down, first_part, later_parts, rows_of}
+use Rattle.av1_plan.proofs.Walks.{cut_first_is, parts_are}
+use Rattle.av1_planwrite.specs.Asked.{After, asked_for}
+use Rattle.av1_planwrite.specs.Building.{Building, LeafFields, Tells, admits_leaf, admits_mark, asks_leaf, asks_reference, asked_part}
 use Rattle.av1_planwrite.specs.Building.{slot_from, next_slot, slots_without, asks_more}
 use Rattle.av1_planwrite.specs.Building.{begun, plan_begun, admits_plane, admits_reference, with_reference, plan_with_reference, with_mark, admits_fields}
 use Rattle.av1_planwrite.specs.Building.{with_leaf, leaf_of, plan_with_leaf}
 use Rattle.av1_planwrite.specs.Given.{FitsKind, FitsTriple}
 use Rattle.av1_planwrite.specs.Text.{byte, header_text, plane_text, fields_text, leaf_text}
 use Rattle.av1_planwrite.proofs.AskedSteps.{header_asked, asked_next, counted, carries_planes, reference_asked, mark_asked, leaf_asked, nothing_asked}
-use Rattle.av1_planwrite.proofs.BuilderParts.{asked_first, cut_first_is}
-use Rattle.av1_planwrite.proofs.FormatLaws.{after_both, after_spelled, after_proper, after_complete}
+use Rattle.av1_planwrite.proofs.BuilderParts.{asked_first}
+use Rattle.av1_planwrite.proofs.After.{after_both, after_spelled, after_proper, after_complete}
 use Rattle.av1_planwrite.proofs.GivenLeaves.{FitsFields, fits_fields, given_leaf}
 use Rattle.av1_planwrite.proofs.LeafTexts.{leaf_told}
 use Rattle.av1_planwrite.proofs.PlanTexts.{header_told, reference_told}
@@ -169,40 +171,39 @@ mark_given : (h : Header) (level x y v : ℕ) → v < 256 → is_mark h level x 
 unfolding mark
 mark_given h level x y v small e = (record { values = v ∷ []; spells = (record { fits = small; admitted = e }, refl) }, append-nil (byte v))
 
--- some parts begin with this one
-parts_are : (ps : List Part) (p : Part) → first_part ps ≡ Some p → ps ≡ p ∷ later_parts ps
-parts_are [] p e = absurd cc
-parts_are (q ∷ ps) p e = ap (λ (o : Option Part). by o) e
-  where
-    by : Option Part → List Part
-    by None = q ∷ ps
-    by (Some r) = r ∷ ps
-
 slot_past : (b : Building) (p : PlanValue) → Tells b p → asks_reference b ≡ false → b.slot ≡ 8
 slot_past b p t e = past b.slot t.most e
   where
     past : (n : ℕ) → n ≤ 8 → nat_lt n 8 ≡ false → n ≡ 8
     past n le e = grind arith
 
-pub tells_mark : (b : Building) (p : PlanValue) (level x y v : ℕ) → Tells b p → asked_part b ≡ Some (Node level x y) → 0 < level → v < 256 →
+tells_mark : (b : Building) (p : PlanValue) (level x y v : ℕ) → Tells b p → asked_part b ≡ Some (Node level x y) → v < 256 →
     is_mark b.header level x y v ≡ true → Tells (with_mark b v) p
-tells_mark b p zero x y v t asked some small e = absurd (omega (arith, some))
-tells_mark b p (suc k) x y v t asked some small e =
+tells_mark b p level x y v t asked small e =
     let h = b.header in
-    let (none, first) = asked_first b (Node (suc k) x y) asked in
+    let (none, first) = asked_first b (Node level x y) asked in
     let slot = slot_past b p t none in
     let others = later_parts b.parts in
-    let g : PartitionType → Format PlanValue = λ cut. asked_for h 8 (cut_before h (suc k) x y cut others) p.references p.leaves in
-    let asks : asked_for h b.slot b.parts p.references p.leaves ≡ (mark h (suc k) x y >>= g) =
+    let g : PartitionType → Format PlanValue = λ cut. asked_for h 8 (cut_before h level x y cut others) p.references p.leaves in
+    let asks : asked_for h b.slot b.parts p.references p.leaves ≡ (mark h level x y >>= g) =
     ap (λ (n : ℕ). asked_for h n b.parts p.references p.leaves) slot
-    ∙ ap (λ (ps : List Part). asked_for h 8 ps p.references p.leaves) (parts_are b.parts (Node (suc k) x y) first)
-    ∙ mark_asked h k x y others p.references p.leaves in
-    let (s, given) = mark_given h (suc k) x y v small e in
-    let on = goes_on b.bytes (byte v) (asked_for h b.slot b.parts p.references p.leaves) (mark h (suc k) x y) g (cut_by v) (goes_of b p t) asks s given in
-    let so_far = goes_as (b.bytes ++ byte v) (g (cut_by v)) (asked_for h b.slot (cut_first h b.parts v) p.references p.leaves) on
-    (ap (λ (ps : List Part). asked_for h 8 ps p.references p.leaves) (sym (cut_first_is h b.parts (suc k) x y v first))
-    ∙ ap (λ (n : ℕ). asked_for h n (cut_first h b.parts v) p.references p.leaves) (sym slot)) in
+    ∙ ap (λ (ps : List Part). asked_for h 8 ps p.references p.leaves) (parts_are b.parts (Node level x y) first)
+    ∙ mark_asked h level x y others p.references p.leaves in
+    let (s, given) = mark_given h level x y v small e in
+    let on = goes_on b.bytes (byte v) (asked_for h b.slot b.parts p.references p.leaves) (mark h level x y) g (cut_by v) (goes_of b p t) asks s given in
+    let so_far = goes_as (b.bytes ++ byte v) (g (cut_by v)) (asked_for h b.slot (cut_first h b.parts (cut_by v)) p.references p.leaves) on
+    (ap (λ (ps : List Part). asked_for h 8 ps p.references p.leaves) (sym (cut_first_is h b.parts level x y (cut_by v) first))
+    ∙ ap (λ (n : ℕ). asked_for h n (cut_first h b.parts (cut_by v)) p.references p.leaves) (sym slot)) in
     told (with_mark b v) p so_far t.header_is t.slots t.carries t.most
+
+-- whichever node is asked for
+pub mark_tells : (b : Building) (p : PlanValue) (v : ℕ) → Tells b p → v < 256 → admits_mark b.header (asked_part b) v ≡ true → Tells (with_mark b v) p
+mark_tells b p v t small admitted = by (asked_part b) refl admitted
+  where
+    by : (o : Option Part) → asked_part b ≡ o → admits_mark b.header o v ≡ true → Tells (with_mark b v) p
+    by None e f = absurd cc
+    by (Some (Node level x y)) e f = tells_mark b p level x y v t e small f
+    by (Some (Leaf size x y)) e f = absurd cc
 
 -- ---- leaves
 

@@ -24,9 +24,10 @@ use Rattle.av1_plan.specs.Plan.{LeafValue, PlanValue}
 use Rattle.av1_plan.specs.Spelling.{IsProper, text}
 use Rattle.av1_planwrite.specs.declared.error.BuildError.{BuildError}
 use Rattle.av1_planwrite.specs.declared.error.BuildError.TheVariants.{NotNow, NotAdmitted, TooLong, Memory}
-use Rattle.av1_planwrite.specs.declared.parts.Part.{Part}
-use Rattle.av1_planwrite.specs.declared.parts.Part.TheVariants.{Node, Leaf}
-use Rattle.av1_planwrite.specs.Asked.{cut_before, down, rows_of, asked_for, After}
+use Rattle.av1_plan.specs.declared.nodes.Part.{Part}
+use Rattle.av1_plan.specs.declared.nodes.Part.TheVariants.{Node, Leaf}
+use Rattle.av1_plan.specs.Remaining.{first_part, later_parts, cut_first, down, rows_of}
+use Rattle.av1_planwrite.specs.Asked.{asked_for, After}
 use Rattle.av1_planwrite.specs.Text.{byte, header_text, plane_text, fields_text}
 
 -- ---- plans in the making
@@ -51,16 +52,6 @@ next_slot h slot = slot_from h slot (8 - slot)
 -- whether the planes of a slot are asked for
 abbrev pub asks_reference : Building → Bool
 asks_reference b = nat_lt b.slot 8
-
--- the first of some parts
-abbrev pub first_part : List Part → Option Part
-first_part [] = None
-first_part (p ∷ parts) = Some p
-
--- those behind it
-abbrev pub later_parts : List Part → List Part
-later_parts [] = []
-later_parts (p ∷ parts) = parts
 
 -- the part that is asked for: none while planes are
 abbrev pub asked_part : Building → Option Part
@@ -146,27 +137,18 @@ abbrev pub admits_mark : Header → Option Part → ℕ → Bool
 admits_mark h (Some (Node level x y)) mark = is_mark h level x y mark
 admits_mark h _ mark = false
 
--- the parts of the first, which is cut so, before the others
-abbrev pub cut_first : Header → List Part → ℕ → List Part
-cut_first h (Node level x y ∷ others) mark = cut_before h level x y (cut_by mark) others
-cut_first h parts mark = parts
-
 -- the same with the mark of a node
 abbrev pub with_mark : Building → ℕ → Building
 with_mark b mark = record {
   header = b.header;
   slot = b.slot;
-  parts = cut_first b.header b.parts mark;
+  parts = cut_first b.header b.parts (cut_by mark);
   bytes = b.bytes ++ byte mark;
 }
 
 abbrev pub mark_refusal : Building → ℕ → Option BuildError
 mark_refusal b mark =
     refusal (asks_mark (asked_part b)) (admits_mark b.header (asked_part b) mark) (with_mark b mark).bytes
-
--- the same behind its first part
-abbrev pub passed : Building → Building
-passed b = record { header = b.header; slot = b.slot; parts = later_parts b.parts; bytes = b.bytes }
 
 -- ---- leaves
 

@@ -6,7 +6,6 @@ pub mod Asked
 pub mod Building
 pub mod Builder
 pub mod Held
-pub mod Stacks
 pub mod States
 pub mod Samples
 pub mod Fronts

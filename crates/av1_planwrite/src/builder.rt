@@ -92,7 +92,7 @@ impl PlanBuilder {
     {
         self.progress.check_reference(y, u, v)?;
         let kept = self.text.bytes.len();
-        let written = self.text.planes(self.progress.header.depth, y, u, v);
+        let written = self.text.planes(self.progress.depth(), y, u, v);
         self.text.settle(kept, written)?;
         self.progress.pass_reference();
         Ok(())

@@ -30,15 +30,14 @@ mod header;
 mod laws;
 mod leaf;
 mod nodes;
-mod parts;
 mod pieces;
 mod progress;
 mod samples;
 mod state;
-mod superblocks;
 mod text;
 mod write;
 
+pub use av1_plan::{Part, Stacked, Superblocks};
 pub use bare::bare_plan;
 pub use builder::PlanBuilder;
 pub use error::BuildError;
@@ -47,10 +46,8 @@ pub use laws::{
     a_bare_plan_is_a_plan, a_bare_plan_is_valid, a_plan_has_one_text, the_first_leaf_fixes_the_mark,
 };
 pub use leaf::{MOST_LEADING, put_leading, triple_fields};
-pub use parts::{Part, Stacked};
 pub use pieces::{put, put_byte, put_pair};
 pub use progress::Progress;
 pub use samples::{put_planes, slot_len};
 pub use state::State;
-pub use superblocks::Superblocks;
 pub use write::{write_bare, write_plan};

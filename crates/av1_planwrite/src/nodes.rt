@@ -1,8 +1,7 @@
-//! The nodes of superblocks, down to their leaves.
+//! Writing the leaves of a plan, part by part, with the marks that the sizes of the leaves fix.
 
 ghost use Rattle.std.specs.Prelude.{◌≡◌, ◌<◌, ◌≤◌, ◌^◌, length};
 ghost use Rattle.av1_plan.specs.Values.{plan_value, stored_leaves};
-ghost use Rattle.av1_plan.specs.Grammar.{quarter_side};
 ghost use Rattle.av1_plan.specs.Plan.{triples_of};
 ghost use Rattle.av1_planwrite.specs.Text.{cut_of, mark_of};
 ghost use Rattle.av1_planwrite.specs.Writing.{told_triples};
@@ -10,7 +9,7 @@ ghost use Rattle.av1_planwrite.specs.Writing.{told_triples};
 use crate::text::Text;
 use av1_blocks::PartitionType::{self, *};
 use av1_blocks::{BlockSize, OutOfMemory};
-use av1_plan::{Header, Leaf, Plan, Triple, half_side};
+use av1_plan::{Header, Leaf, Part, Plan, TreeWalk, Triple};
 
 /// Whether the coefficients of leaves are written, or none.
 #[derive(Copy, Clone, Debug, PartialEq, Eq)]
@@ -55,15 +54,6 @@ fn cut_of(level: u8, size: BlockSize) -> PartitionType
     }
 }
 
-/// A quarter of the side of a node of side `4 << level`.
-fn quarter_side(level: u8) -> u16
-    requires { level ≤ 4 }
-    ensures value { result ≡ quarter_side level }
-    ensures small { result ≤ 16 }
-{
-    half_side(level) / 2
-}
-
 /// The mark of a cut.
 #[tactic(auto, unfolding(crate::specs::Text::mark_of))]
 fn mark_of(cut: PartitionType) -> u8
@@ -101,10 +91,11 @@ fn told_triples<'a>(
 }
 
 impl<'a> Writer<'a> {
-    ghost use Rattle.std.specs.Prelude.{◌≡◌, ◌+◌, ◌-◌, ◌*◌, ◌<◌, ◌≤◌, length, OnOk, Some, slice_get};
+    ghost use Rattle.std.specs.Prelude.{◌≡◌, ◌<◌, ◌≤◌, true, false, [], IfOk, OnOk, Some, slice_get};
     ghost use Rattle.av1_plan.specs.Values.{stored_leaves};
-    ghost use Rattle.av1_planwrite.specs.Text.{leaf_written, part_written, next_cut, parts_written, block_written, row_written, superblocks_written};
-    ghost use Rattle.av1_planwrite.specs.Writing.{draft};
+    ghost use Rattle.av1_plan.specs.Walk.{remaining, weight};
+    ghost use Rattle.av1_planwrite.specs.Text.{leaf_written, next_cut, superblocks_written};
+    ghost use Rattle.av1_planwrite.specs.Writing.{draft, remaining_written};
 
     /// The next leaf, where one is left.
     fn next_leaf(&self) -> Option<Leaf>
@@ -127,14 +118,11 @@ impl<'a> Writer<'a> {
         Ok(())
     }
 
-    /// Writes a part that is a leaf, where it lies in the frame and a leaf is left.
+    /// Writes the next leaf, if one is left.
     #[tactic(auto, using(crate::proofs::Left::leaves_left))]
-    fn leaf_part(&mut self, header: &Header, x: u16, y: u16) -> Result<(), OutOfMemory>
-        ensures { OnOk result (draft self.new ≡ part_written header.now x y (draft self.old)) }
+    fn leaf_part(&mut self) -> Result<(), OutOfMemory>
+        ensures text { OnOk result (draft self.new ≡ leaf_written (draft self.old).0 (draft self.old).1) }
     {
-        if !header.holds(x, y) {
-            return Ok(());
-        }
         match self.next_leaf() {
             Some(leaf) => self.leaf(leaf),
             None => Ok(()),
@@ -153,98 +141,40 @@ impl<'a> Writer<'a> {
         }
     }
 
-    /// Writes the part of side `4 << level` at this place: a leaf at level 0, else a node.
-    #[cycle(blocks)]
-    #[tactic(auto, using(crate::proofs::Left::blocks))]
-    fn block(&mut self, header: &Header, level: u8, x: u16, y: u16) -> Result<(), OutOfMemory>
-        requires level { level ≤ 4 }
-        requires x { x + 128 * level ≤ 4096 }
-        requires y { y + 128 * level ≤ 4096 }
-        ensures { OnOk result (draft self.new ≡ block_written header.now level x y (draft self.old)) }
+    /// Writes the next part of the walk, if one remains: the mark of a node, or a leaf.
+    fn next_part(&mut self, walk: &mut TreeWalk) -> Result<bool, OutOfMemory>
+        // What is written of the parts that remain is the same before and after.
+        ensures text { OnOk result
+            (remaining_written walk.old.header (remaining walk.new) (draft self.new) ≡ remaining_written walk.old.header (remaining walk.old)
+            (draft self.old)) }
+        ensures end { IfOk result (λ more. more ≡ false → remaining walk.new ≡ []) }
+        ensures less { IfOk result (λ more. more ≡ true → weight (remaining walk.new) < weight (remaining walk.old)) }
+        ensures frame { walk.new.header ≡ walk.old.header }
     {
-        if level == 0 {
-            return self.leaf_part(header, x, y);
-        }
-        if !header.holds(x, y) {
-            return Ok(());
-        }
-        let cut = self.next_cut(level);
-        self.text.byte(mark_of(cut))?;
-        self.parts(header, level, cut, x, y)
-    }
-
-    /// Writes the parts of a node of side `4 << level` that is cut so.
-    #[cycle(blocks)]
-    #[tactic(auto, unfolding(crate::specs::Text::parts_written))]
-    fn parts(
-        &mut self,
-        header: &Header,
-        level: u8,
-        cut: PartitionType,
-        x: u16,
-        y: u16,
-    ) -> Result<(), OutOfMemory>
-        requires level { (0 < level) × (level ≤ 4) }
-        requires x { x + 128 * level ≤ 4096 }
-        requires y { y + 128 * level ≤ 4096 }
-        ensures { OnOk result (draft self.new ≡ parts_written header.now level (block_written header.now (level - 1)) x y cut (draft self.old)) }
-    {
-        let half = half_side(level);
-        let quarter = quarter_side(level);
-        match cut {
-            PARTITION_NONE => self.leaf_part(header, x, y),
-            PARTITION_HORZ => {
-                self.leaf_part(header, x, y)?;
-                self.leaf_part(header, x, y + half)
+        match walk.first() {
+            None => Ok(false),
+            Some(Part::Node { level, .. }) => {
+                let cut = self.next_cut(level);
+                self.text.byte(mark_of(cut))?;
+                walk.cut(cut);
+                Ok(true)
             }
-            PARTITION_VERT => {
-                self.leaf_part(header, x, y)?;
-                self.leaf_part(header, x + half, y)
-            }
-            PARTITION_HORZ_4 => {
-                self.leaf_part(header, x, y)?;
-                self.leaf_part(header, x, y + quarter)?;
-                self.leaf_part(header, x, y + 2 * quarter)?;
-                self.leaf_part(header, x, y + 3 * quarter)
-            }
-            PARTITION_VERT_4 => {
-                self.leaf_part(header, x, y)?;
-                self.leaf_part(header, x + quarter, y)?;
-                self.leaf_part(header, x + 2 * quarter, y)?;
-                self.leaf_part(header, x + 3 * quarter, y)
-            }
-            _ => {
-                self.block(header, level - 1, x, y)?;
-                self.block(header, level - 1, x + half, y)?;
-                self.block(header, level - 1, x, y + half)?;
-                self.block(header, level - 1, x + half, y + half)
+            Some(Part::Leaf { .. }) => {
+                self.leaf_part()?;
+                walk.pass();
+                Ok(true)
             }
         }
-    }
-
-    /// Writes the superblocks of a row.
-    #[tactic(auto, using(crate::proofs::Turns::turns), unfolding(crate::specs::Text::row_written))]
-    fn superblock_row(&mut self, header: &Header, row: u16) -> Result<(), OutOfMemory>
-        requires width { header.now.width ≤ 2048 }
-        requires row { 64 * row ≤ 2048 }
-        ensures { OnOk result (draft self.new ≡ row_written header.now row (draft self.old)) }
-    {
-        for col in 0..(header.width + 63) / 64 {
-            self.block(header, 4, 64 * col, 64 * row)?;
-        }
-        Ok(())
     }
 
     /// Writes the superblocks of a frame.
-    #[tactic(auto, using(crate::proofs::Turns::turns), unfolding(crate::specs::Text::superblocks_written))]
     pub fn superblocks(&mut self, header: &Header) -> Result<(), OutOfMemory>
-        requires width { header.now.width ≤ 2048 }
-        requires height { header.now.height ≤ 2048 }
+        requires width { (0 < header.now.width) × (header.now.width ≤ 2048) }
+        requires height { (0 < header.now.height) × (header.now.height ≤ 2048) }
         ensures { OnOk result (draft self.new ≡ superblocks_written header.now (draft self.old)) }
     {
-        for row in 0..(header.height + 63) / 64 {
-            self.superblock_row(header, row)?;
-        }
+        let mut walk = TreeWalk::new(header);
+        'parts: while self.next_part(&mut walk)? {}
         Ok(())
     }
 }

@@ -1,16 +1,13 @@
 //! How far a plan in the making has come, wherever its bytes go.
 
-ghost use Rattle.std.specs.Prelude.{◌≡◌, ◌+◌, ◌<◌, ◌≤◌, true, length};
-ghost use Rattle.av1_planwrite.specs.Asked.{across, down};
+ghost use Rattle.std.specs.Prelude.{◌≡◌, ◌<◌, ◌≤◌, true, length};
 ghost use Rattle.av1_planwrite.specs.Building.{admits_header, next_slot};
 
 use crate::admitted::{admits_fields, admits_header, admits_reference};
 use crate::error::BuildError;
-use crate::parts::{Part, PartStack};
 use crate::state::State;
-use crate::superblocks::Superblocks;
 use av1_blocks::TxType;
-use av1_plan::{Header, LeafKind, carries_chroma, cut_by};
+use av1_plan::{Header, LeafKind, Part, TreeWalk, carries_chroma, cut_by};
 
 /// What a plan in the making asks for next, by its header and the fields behind it: the planes of a slot, the mark of a
 /// node, a leaf, or nothing more. It keeps none of the bytes.
@@ -19,23 +16,15 @@ use av1_plan::{Header, LeafKind, carries_chroma, cut_by};
 /// that isn't refused stand, the second goes past it.
 #[derive(Drop)]
 pub struct Progress {
-    pub(crate) header: Header,
     // The slot whose planes are asked for next, or 8.
     slot: usize,
-    // What is asked for of the superblock that is begun.
-    parts: PartStack,
-    // The superblocks behind that one.
-    left: Superblocks,
-    ghost admitted: { admits_header header ≡ true },
-    ghost mask: { header.mask < 256 },
-    ghost seven: { length header.slots ≡ 7 },
-    ghost width: { header.width ≤ 2048 },
-    ghost height: { header.height ≤ 2048 },
-    ghost depth: { header.depth ≤ 12 },
+    // The header, and the parts that are asked for behind the planes.
+    walk: TreeWalk,
+    ghost admitted: { admits_header walk.header ≡ true },
+    ghost mask: { walk.header.mask < 256 },
+    ghost seven: { length walk.header.slots ≡ 7 },
+    ghost depth: { walk.header.depth ≤ 12 },
     ghost slots: { slot ≤ 8 },
-    ghost rows: { left.row < down header },
-    ghost cols: { left.col ≤ across header },
-    ghost last: { left.col ≡ across header → down header ≤ left.row + 1 },
 }
 
 /// The first slot from this one on that carries planes, or 8.
@@ -71,9 +60,6 @@ impl Progress {
       asks_more,
       asks_reference,
       begun,
-      first_part,
-      later_parts,
-      passed,
       plan_begun,
       plan_with_reference,
       with_leaf,
@@ -81,7 +67,8 @@ impl Progress {
       with_reference,
     };
     ghost use Rattle.av1_planwrite.specs.Given.{FitsKind};
-    ghost use Rattle.av1_planwrite.specs.Stacks.{has_room};
+    ghost use Rattle.av1_plan.specs.Remaining.{later_parts};
+    ghost use Rattle.av1_plan.specs.Stacks.{has_room};
     ghost use Rattle.av1_planwrite.specs.States.{is_state, stopped};
     ghost use Rattle.av1_planwrite.specs.Text.{header_text};
 
@@ -98,10 +85,8 @@ impl Progress {
             return None;
         }
         Some(Progress {
-            header: *header,
             slot: next_slot(header, 0),
-            parts: PartStack::new(),
-            left: Superblocks { row: 0, col: 0 },
+            walk: TreeWalk::new(header),
         })
     }
 
@@ -119,17 +104,12 @@ impl Progress {
         if state.slot > 8 {
             return None;
         }
-        if !state.left.are_of(header) {
-            return None;
-        }
-        let Some(parts) = PartStack::from_stacked(&state.parts) else {
+        let Some(walk) = TreeWalk::resume(header, &state.parts, state.left) else {
             return None;
         };
         Some(Progress {
-            header: *header,
             slot: state.slot,
-            parts,
-            left: state.left,
+            walk,
         })
     }
 
@@ -140,45 +120,34 @@ impl Progress {
     {
         State {
             slot: self.slot,
-            parts: self.parts.stacked(),
-            left: self.left,
+            parts: self.walk.stacked(),
+            left: self.walk.superblocks_left(),
         }
     }
 
-    /// The part that is asked for next, behind the planes.
-    fn first_part(&self) -> Option<Part>
-        ensures value { result ≡ first_part (built self.now []).parts }
-        ensures room { IfSome result (λ p. has_room p (length (later_parts self.now.parts)) ≡ true) }
+    /// The header of the plan.
+    pub fn header(&self) -> &Header
+        ensures { result.now ≡ (built self.now []).header }
     {
-        match self.parts.first() {
-            Some(part) => Some(part),
-            None => self.left.first(&self.header),
-        }
+        self.walk.header()
+    }
+
+    /// The bits of a sample of the plan.
+    pub fn depth(&self) -> u8
+        ensures { result ≡ (built self.now []).header.depth }
+    {
+        self.walk.header().depth
     }
 
     /// The part that is asked for next: none while planes are.
     pub fn asked_part(&self) -> Option<Part>
         ensures value { result ≡ asked_part (built self.now []) }
-        ensures room { IfSome result (λ p. has_room p (length (later_parts self.now.parts)) ≡ true) }
+        ensures room { IfSome result (λ p. has_room p (length (later_parts self.now.walk.parts)) ≡ true) }
     {
         if self.slot < 8 {
             None
         } else {
-            self.first_part()
-        }
-    }
-
-    /// Goes past the part that is asked for next.
-    #[tactic(auto, using(crate::proofs::BuilderParts::some_left))]
-    fn pass_part(&mut self)
-        requires { IsSome (first_part (built self.old []).parts) }
-        ensures value { built self.new [] ≡ passed (built self.old []) }
-        ensures stack { self.new.parts ≡ later_parts self.old.parts }
-    {
-        if self.parts.first().is_some() {
-            self.parts.take_first();
-        } else {
-            self.left = self.left.later(&self.header);
+            self.walk.first()
         }
     }
 
@@ -199,7 +168,7 @@ impl Progress {
         if self.slot >= 8 {
             return Err(BuildError::NotNow);
         }
-        if !admits_reference(&self.header, y, u, v) {
+        if !admits_reference(self.header(), y, u, v) {
             return Err(BuildError::NotAdmitted);
         }
         Ok(())
@@ -214,7 +183,7 @@ impl Progress {
         ensures told { (bytes y u v : List ℕ) (p : PlanValue) → Tells (built self.old bytes) p → admits_reference (built self.old []).header y u v ≡ true
             → Tells (built self.new (with_reference (built self.old bytes) y u v).bytes) (plan_with_reference p y u v) }
     {
-        self.slot = next_slot(&self.header, self.slot + 1);
+        self.slot = next_slot(self.walk.header(), self.slot + 1);
     }
 
     /// Whether this mark may come next.
@@ -231,7 +200,7 @@ impl Progress {
         let Some(Part::Node { level, x, y }) = self.asked_part() else {
             return Err(BuildError::NotNow);
         };
-        if !self.header.is_mark(level, x, y, mark) {
+        if !self.header().is_mark(level, x, y, mark) {
             return Err(BuildError::NotAdmitted);
         }
         Ok(())
@@ -245,11 +214,7 @@ impl Progress {
         ensures told { (bytes : List ℕ) (p : PlanValue) → Tells (built self.old bytes) p →
             Tells (built self.new (with_mark (built self.old bytes) mark).bytes) p }
     {
-        let Some(Part::Node { level, x, y }) = self.asked_part() else {
-            return;
-        };
-        self.pass_part();
-        self.parts.cut(&self.header, level, x, y, cut_by(mark));
+        self.walk.cut(cut_by(mark));
     }
 
     /// Whether a leaf may come next that is predicted so and has so many triples in Y, U and V.
@@ -278,7 +243,7 @@ impl Progress {
         let Some(Part::Leaf { size, x, y: row }) = self.asked_part() else {
             return Err(BuildError::NotNow);
         };
-        let carried = carries_chroma(&self.header, x, row, size);
+        let carried = carries_chroma(self.header(), x, row, size);
         if !admits_fields(carried, *kind, uv_type, y, u, v) {
             return Err(BuildError::NotAdmitted);
         }
@@ -290,13 +255,13 @@ impl Progress {
         requires { asks_leaf (asked_part (built self.old [])) ≡ true }
         ensures { (bytes : List ℕ) (l : LeafFields) → built self.new (with_leaf (built self.old bytes) l).bytes ≡ with_leaf (built self.old bytes) l }
     {
-        self.pass_part();
+        self.walk.pass();
     }
 
     /// Whether a field is still asked for.
     pub fn asks_more(&self) -> bool
         ensures { result ≡ asks_more (built self.now []) }
     {
-        self.slot < 8 || self.first_part().is_some()
+        self.slot < 8 || self.walk.first().is_some()
     }
 }

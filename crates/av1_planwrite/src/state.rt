@@ -1,7 +1,6 @@
 //! How far a plan in the making has come, as plain data.
 
-use crate::parts::Stacked;
-use crate::superblocks::Superblocks;
+use av1_plan::{Stacked, Superblocks};
 
 /// What a plan in the making asks for next, in a form that can be kept anywhere: [`crate::Progress::state`] gives it,
 /// and [`crate::Progress::resume`] takes it back.

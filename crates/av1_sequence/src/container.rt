@@ -6,7 +6,7 @@ ghost use Rattle.av1_blocks.specs.declared.mc.FilterMode.TheVariants.{REGULAR};
 ghost use Rattle.av1_blocks.specs.declared.mc.TheConstants.FilterMode as filter_modes;
 ghost use Rattle.av1_plan.specs.Format.{four, read_field, read};
 ghost use Rattle.av1_plan.specs.Grammar.{where_};
-ghost use Rattle.av1_plan.specs.Reading.{Gives, input, Fits, Moves};
+ghost use Rattle.av1_plan.specs.Reading.{Gives, input, Moves};
 ghost use Rattle.av1_sequence.specs.File.{IsReadEntry, IsReadFile, IsReadHead, entry_value, file_value, front_value};
 ghost use Rattle.av1_sequence.specs.Frames.{IsHead};
 ghost use Rattle.av1_sequence.specs.Grammar.{again_head, coded_head, entry_head, front, head, is_magic, kind, read_entries, read_entry, plan_version};
@@ -34,7 +34,6 @@ pub(crate) struct FileFront {
 /// The four letters at the front.
 #[tactic(auto, using(av1_plan::proofs::Narrow::narrow))]
 fn magic(reader: &mut Reader<'_>) -> Result<u32, PlanError>
-    requires { Fits reader.old }
     ensures read { Gives (λ x. (x, input reader.new)) result (read_field (where_ four is_magic) (input reader.old)) }
     ensures moves { Moves reader.old reader.new }
 {
@@ -50,7 +49,6 @@ fn magic(reader: &mut Reader<'_>) -> Result<u32, PlanError>
 /// The version of plans that the frames have, by the four letters at the front.
 #[tactic(auto, unfolding(crate::specs::Grammar::plan_version))]
 fn plan_version(reader: &mut Reader<'_>) -> Result<u8, PlanError>
-    requires { Fits reader.old }
     ensures read { Gives (λ x. (x, input reader.new)) result (read plan_version (input reader.old)) }
     ensures range { IfOk result (λ x. (2 ≤ x) × (x ≤ 3)) }
     ensures moves { Moves reader.old reader.new }
@@ -66,7 +64,6 @@ fn plan_version(reader: &mut Reader<'_>) -> Result<u8, PlanError>
 /// What stands before the entries.
 #[tactic(auto, using(av1_plan::proofs::Formats::read_bind), unfolding(crate::specs::Grammar::front))]
 fn front(reader: &mut Reader<'_>) -> Result<FileFront, PlanError>
-    requires { Fits reader.old }
     ensures read { Gives (λ x. (front_value x, input reader.new)) result (read front (input reader.old)) }
     ensures frames { IfOk result (λ x. AreFrames (frames_of x.version x.width x.height x.depth x.sampling)) }
     ensures moves { Moves reader.old reader.new }
@@ -98,7 +95,6 @@ fn filter_mode(number: u8) -> FilterMode
 /// The head of a frame.
 #[tactic(auto, using(av1_plan::proofs::Formats::read_bind), unfolding(crate::specs::Grammar::head))]
 fn head(reader: &mut Reader<'_>) -> Result<FrameHead, PlanError>
-    requires { Fits reader.old }
     ensures read { Gives (λ x. (x, input reader.new)) result (read head (input reader.old)) }
     ensures head { IfOk result IsHead }
     ensures moves { Moves reader.old reader.new }
@@ -119,7 +115,6 @@ fn head(reader: &mut Reader<'_>) -> Result<FrameHead, PlanError>
 /// What stands at the front of an entry that is a frame, shown or not.
 #[tactic(auto, using(av1_plan::proofs::Formats::read_bind), unfolding(crate::specs::Grammar::coded_head))]
 fn coded_head(reader: &mut Reader<'_>, shown: bool) -> Result<EntryHead, PlanError>
-    requires { Fits reader.old }
     ensures read { Gives (λ x. (x, input reader.new)) result (read (coded_head shown) (input reader.old)) }
     ensures head { IfOk result IsReadHead }
     ensures moves { Moves reader.old reader.new }
@@ -131,7 +126,6 @@ fn coded_head(reader: &mut Reader<'_>, shown: bool) -> Result<EntryHead, PlanErr
 /// What stands at the front of an entry that shows the frame of a slot again.
 #[tactic(auto, using(av1_plan::proofs::Formats::read_bind), unfolding(crate::specs::Grammar::again_head))]
 fn again_head(reader: &mut Reader<'_>) -> Result<EntryHead, PlanError>
-    requires { Fits reader.old }
     ensures read { Gives (λ x. (x, input reader.new)) result (read again_head (input reader.old)) }
     ensures head { IfOk result IsReadHead }
     ensures moves { Moves reader.old reader.new }
@@ -145,7 +139,6 @@ fn again_head(reader: &mut Reader<'_>) -> Result<EntryHead, PlanError>
 /// is, and 2 for the frame of a slot, shown again.
 #[tactic(auto, unfolding(crate::specs::Grammar::kind))]
 fn kind(reader: &mut Reader<'_>, version: u8) -> Result<u8, PlanError>
-    requires { Fits reader.old }
     ensures read { Gives (λ x. (x, input reader.new)) result (read (kind version) (input reader.old)) }
     ensures moves { Moves reader.old reader.new }
 {
@@ -159,7 +152,6 @@ fn kind(reader: &mut Reader<'_>, version: u8) -> Result<u8, PlanError>
 /// What stands at the front of an entry, in a sequence whose plans are of this version.
 #[tactic(auto, using(av1_plan::proofs::Formats::read_bind), unfolding(crate::specs::Grammar::entry_head))]
 fn entry_head(reader: &mut Reader<'_>, version: u8) -> Result<EntryHead, PlanError>
-    requires { Fits reader.old }
     ensures read { Gives (λ x. (x, input reader.new)) result (read (entry_head version) (input reader.old)) }
     ensures head { IfOk result IsReadHead }
     ensures moves { Moves reader.old reader.new }
@@ -175,7 +167,6 @@ fn entry_head(reader: &mut Reader<'_>, version: u8) -> Result<EntryHead, PlanErr
 /// An entry, in a sequence whose plans are of this version.
 #[tactic(auto, unfolding(crate::specs::Grammar::read_entry, crate::specs::Grammar::read_behind))]
 fn entry<'a>(reader: &mut Reader<'a>, version: u8) -> Result<Entry<'a>, PlanError>
-    requires { Fits reader.old }
     ensures read { Gives (λ x. (entry_value x, input reader.new)) result (read_entry version (input reader.old)) }
     ensures text { IfOk result IsReadEntry }
     ensures moves { Moves reader.old reader.new }
@@ -198,7 +189,6 @@ fn entries<'a>(
     version: u8,
     count: u16,
 ) -> Result<Vec<Entry<'a>>, PlanError>
-    requires { Fits reader.old }
     ensures read { Gives (λ x. (map entry_value x.items, input reader.new)) result (read_entries version count ([], input reader.old)) }
     ensures count { IfOk result (λ x. vec_len x ≡ count) }
     ensures texts { IfOk result (λ x. All IsReadEntry x.items) }

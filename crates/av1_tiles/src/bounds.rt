@@ -1,7 +1,7 @@
 //! Where the columns and the rows of tiles begin.
 
 ghost use Rattle.av1_plan.specs.Format.{read_field, read, add};
-ghost use Rattle.av1_plan.specs.Reading.{Gives, input, Fits, Moves};
+ghost use Rattle.av1_plan.specs.Reading.{Gives, input, Moves};
 ghost use Rattle.av1_tiles.specs.Grammar.{start_after, starts, bounds};
 
 use av1_plan::{PlanError, Reader};
@@ -10,7 +10,6 @@ use std::alloc::Global;
 /// The start of a column or row of tiles, behind the one before.
 #[tactic(auto, using(av1_plan::proofs::Narrow::narrow))]
 fn start(reader: &mut Reader<'_>, side: u16, previous: u16) -> Result<u16, PlanError>
-    requires { Fits reader.old }
     ensures read { Gives (λ x. (x, input reader.new)) result (read_field (start_after side previous) (input reader.old)) }
     ensures moves { Moves reader.old reader.new }
 {
@@ -32,7 +31,6 @@ fn starts(
     previous: u16,
     count: u8,
 ) -> Result<(), PlanError>
-    requires { Fits reader.old }
     ensures read { Gives (λ _. (into.new.items, input reader.new)) result (add (starts side previous count) (into.old.items, input reader.old)) }
     ensures moves { Moves reader.old reader.new }
 {
@@ -48,7 +46,6 @@ fn starts(
 /// Where the columns or rows of tiles begin, and the side of the frame behind them.
 #[tactic(auto, using(crate::proofs::Starts::reading))]
 pub fn bounds(alloc: Global, reader: &mut Reader<'_>, side: u16) -> Result<Vec<u16>, PlanError>
-    requires { Fits reader.old }
     ensures read { Gives (λ x. (x.items, input reader.new)) result (read (bounds side) (input reader.old)) }
     ensures moves { Moves reader.old reader.new }
 {

@@ -3,7 +3,7 @@
 ghost use Rattle.std.specs.Prelude.{◌≡◌, ◌≤◌, ◌^◌, length, map, [], IfOk, vec_len, All};
 ghost use Rattle.av1_plan.specs.Format.{four, read_field, read};
 ghost use Rattle.av1_plan.specs.Grammar.{where_};
-ghost use Rattle.av1_plan.specs.Reading.{Gives, input, Fits, Moves};
+ghost use Rattle.av1_plan.specs.Reading.{Gives, input, Moves};
 ghost use Rattle.av1_tiles.specs.Bounds.{IsReadFile};
 ghost use Rattle.av1_tiles.specs.File.{front_value, file_value};
 ghost use Rattle.av1_tiles.specs.Grammar.{is_magic, plan_version, front, read_parts, read_file};
@@ -16,7 +16,6 @@ use std::alloc::Global;
 /// The four letters at the front.
 #[tactic(auto, using(av1_plan::proofs::Narrow::narrow))]
 fn magic(reader: &mut Reader<'_>) -> Result<u32, PlanError>
-    requires { Fits reader.old }
     ensures read { Gives (λ x. (x, input reader.new)) result (read_field (where_ four is_magic) (input reader.old)) }
     ensures moves { Moves reader.old reader.new }
 {
@@ -32,7 +31,6 @@ fn magic(reader: &mut Reader<'_>) -> Result<u32, PlanError>
 /// The version of plans that the tiles have, by the four letters at the front.
 #[tactic(auto, unfolding(crate::specs::Grammar::plan_version))]
 fn plan_version(reader: &mut Reader<'_>) -> Result<u8, PlanError>
-    requires { Fits reader.old }
     ensures read { Gives (λ x. (x, input reader.new)) result (read plan_version (input reader.old)) }
     ensures moves { Moves reader.old reader.new }
 {
@@ -47,7 +45,6 @@ fn plan_version(reader: &mut Reader<'_>) -> Result<u8, PlanError>
 /// What stands before the parts of the tiles.
 #[tactic(auto, using(av1_plan::proofs::Formats::read_bind), unfolding(crate::specs::Grammar::front))]
 fn front(alloc: Global, reader: &mut Reader<'_>) -> Result<Front, PlanError>
-    requires { Fits reader.old }
     ensures read { Gives (λ x. (front_value x, input reader.new)) result (read front (input reader.old)) }
     ensures eight { IfOk result (λ x. vec_len x.references ≡ 8) }
     ensures moves { Moves reader.old reader.new }
@@ -72,7 +69,6 @@ fn parts<'a>(
     reader: &mut Reader<'a>,
     count: usize,
 ) -> Result<Vec<&'a [u8]>, PlanError>
-    requires { Fits reader.old }
     ensures read { Gives (λ x. (map (λ part. part.now) x.items, input reader.new)) result (read_parts count ([], input reader.old)) }
     ensures count { IfOk result (λ x. vec_len x ≡ count) }
     ensures short { IfOk result (λ x. All (λ part. length part.now ≤ 2 ^ 26) x.items) }

@@ -1,7 +1,8 @@
 //! The nodes of superblocks, down to their leaves.
 
 use crate::generate::maker::Maker;
-use crate::{Header, carries_chroma, half_side, part_size, whole_size};
+use crate::nodes::{half_side, part_size, whole_size};
+use crate::{Header, carries_chroma};
 use av1_blocks::{BlockSize, OutOfMemory, PartitionType};
 
 impl Maker {

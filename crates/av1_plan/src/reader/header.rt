@@ -6,16 +6,15 @@ use crate::reader::Reader;
 use av1_blocks::FilterMode;
 
 impl<'a> Reader<'a> {
-    ghost use Rattle.std.specs.Prelude.{◌≡◌, ◌≤◌, true, IfOk, IfErr};
+    ghost use Rattle.std.specs.Prelude.{◌≡◌, ◌<◌, ◌≤◌, true, IfOk, IfErr};
     ghost use Rattle.av1_plan.specs.Format.{one, two, four, read_field, read};
     ghost use Rattle.av1_plan.specs.Grammar.{where_, is_magic, version, is_side, is_depth, slots, frame, header};
     ghost use Rattle.av1_plan.specs.ReadPlans.{AreSlots, IsSide};
-    ghost use Rattle.av1_plan.specs.Reading.{Gives, IsAtByte, input, Fits, Moves};
+    ghost use Rattle.av1_plan.specs.Reading.{Gives, IsAtByte, input, Moves};
 
     /// The four letters at the front.
     #[tactic(auto, using(crate::proofs::Narrow::narrow))]
     fn magic(&mut self) -> Result<u32, PlanError>
-        requires { Fits self.old }
         ensures read { Gives (λ x. (x, input self.new)) result (read_field (where_ four is_magic) (input self.old)) }
         ensures told { IfErr result IsAtByte }
         ensures moves { Moves self.old self.new }
@@ -35,7 +34,6 @@ impl<'a> Reader<'a> {
     /// The version of the grammar, by the four letters at the front.
     #[tactic(auto, unfolding(crate::specs::Grammar::version))]
     fn version(&mut self) -> Result<u8, PlanError>
-        requires { Fits self.old }
         ensures read { Gives (λ x. (x, input self.new)) result (read version (input self.old)) }
         ensures told { IfErr result IsAtByte }
         ensures moves { Moves self.old self.new }
@@ -53,10 +51,10 @@ impl<'a> Reader<'a> {
     /// A side of the frame that is shown, in this version of the grammar.
     #[tactic(auto, using(crate::proofs::Narrow::narrow))]
     pub fn side(&mut self, version: u8) -> Result<u16, PlanError>
-        requires { Fits self.old }
         ensures read { Gives (λ x. (x, input self.new)) result (read_field (where_ two (is_side version)) (input self.old)) }
         ensures told { IfErr result IsAtByte }
         ensures moves { Moves self.old self.new }
+        ensures some { IfOk result (λ x. 0 < x) }
         ensures small { IfOk result (λ x. x ≤ 2048) }
         ensures side { IfOk result (λ x. version ≤ 2 → IsSide x) }
     {
@@ -72,7 +70,6 @@ impl<'a> Reader<'a> {
     /// The bits of a sample.
     #[tactic(auto, using(crate::proofs::Narrow::narrow))]
     pub fn depth(&mut self) -> Result<u8, PlanError>
-        requires { Fits self.old }
         ensures read { Gives (λ x. (x, input self.new)) result (read_field (where_ one is_depth) (input self.old)) }
         ensures told { IfErr result IsAtByte }
         ensures moves { Moves self.old self.new }
@@ -91,7 +88,6 @@ impl<'a> Reader<'a> {
     /// The slots of the seven references.
     #[tactic(auto, unfolding(crate::specs::Grammar::slots))]
     pub fn slots(&mut self) -> Result<[u8; 7], PlanError>
-        requires { Fits self.old }
         ensures read { Gives (λ x. (x, input self.new)) result (read slots (input self.old)) }
         ensures told { IfErr result IsAtByte }
         ensures moves { Moves self.old self.new }
@@ -118,10 +114,10 @@ impl<'a> Reader<'a> {
     /// The frame and what holds for all leaves, in this version.
     #[tactic(auto, using(crate::proofs::Formats::read_bind), unfolding(crate::specs::Grammar::frame))]
     pub fn frame(&mut self, version: u8) -> Result<Header, PlanError>
-        requires { Fits self.old }
         ensures read { Gives (λ x. (x, input self.new)) result (read (frame version) (input self.old)) }
         ensures told { IfErr result IsAtByte }
         ensures moves { Moves self.old self.new }
+        ensures some { IfOk result (λ h. (0 < h.width) × (0 < h.height)) }
         ensures small { IfOk result (λ h. (h.width ≤ 2048) × (h.height ≤ 2048) × (h.depth ≤ 12)) }
     {
         let width = self.side(version)?;
@@ -149,10 +145,10 @@ impl<'a> Reader<'a> {
     /// What stands before the reference samples. It takes no memory.
     #[tactic(auto, using(crate::proofs::Formats::read_bind), unfolding(crate::specs::Grammar::header))]
     pub fn header(&mut self) -> Result<Header, PlanError>
-        requires { Fits self.old }
         ensures read { Gives (λ x. (x, input self.new)) result (read header (input self.old)) }
         ensures told { IfErr result IsAtByte }
         ensures moves { Moves self.old self.new }
+        ensures some { IfOk result (λ h. (0 < h.width) × (0 < h.height)) }
         ensures small { IfOk result (λ h. (h.width ≤ 2048) × (h.height ≤ 2048) × (h.depth ≤ 12)) }
     {
         let version = self.version()?;

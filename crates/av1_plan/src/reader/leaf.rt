@@ -27,11 +27,10 @@ impl<'a> Reader<'a> {
       leaf,
     };
     ghost use Rattle.av1_plan.specs.Plan.{cut, leaf_value};
-    ghost use Rattle.av1_plan.specs.Reading.{Gives, input, Fits, Moves, Extends, added};
+    ghost use Rattle.av1_plan.specs.Reading.{Gives, input, Moves, Extends, added};
 
     #[tactic(auto, unfolding(crate::specs::Grammar::vector))]
     fn vector(&mut self) -> Result<MotionVector, PlanError>
-        requires { Fits self.old }
         ensures read { Gives (λ x. (x, input self.new)) result (read vector (input self.old)) }
         ensures moves { Moves self.old self.new }
     {
@@ -42,7 +41,6 @@ impl<'a> Reader<'a> {
 
     #[tactic(auto, unfolding(crate::specs::Grammar::reference_frame))]
     fn reference_frame(&mut self) -> Result<RefType, PlanError>
-        requires { Fits self.old }
         ensures read { Gives (λ x. (x, input self.new)) result (read reference_frame (input self.old)) }
         ensures moves { Moves self.old self.new }
     {
@@ -52,7 +50,6 @@ impl<'a> Reader<'a> {
 
     #[tactic(auto, unfolding(crate::specs::Grammar::chroma_mode))]
     fn chroma_mode(&mut self) -> Result<ChromaMode, PlanError>
-        requires { Fits self.old }
         ensures read { Gives (λ x. (x, input self.new)) result (read chroma_mode (input self.old)) }
         ensures moves { Moves self.old self.new }
     {
@@ -69,7 +66,6 @@ impl<'a> Reader<'a> {
 
     #[tactic(auto, using(crate::proofs::Formats::read_bind), unfolding(crate::specs::Grammar::intra))]
     fn intra(&mut self, mode: PredictionMode, has_chroma: bool) -> Result<LeafKind, PlanError>
-        requires { Fits self.old }
         ensures read { Gives (λ x. (x, input self.new)) result (read (intra has_chroma mode) (input self.old)) }
         ensures moves { Moves self.old self.new }
     {
@@ -91,7 +87,6 @@ impl<'a> Reader<'a> {
 
     #[tactic(auto, using(crate::proofs::Formats::read_bind), unfolding(crate::specs::Grammar::single))]
     fn single(&mut self, mode: PredictionMode) -> Result<LeafKind, PlanError>
-        requires { Fits self.old }
         ensures read { Gives (λ x. (x, input self.new)) result (read (single mode) (input self.old)) }
         ensures moves { Moves self.old self.new }
     {
@@ -106,7 +101,6 @@ impl<'a> Reader<'a> {
 
     #[tactic(auto, using(crate::proofs::Formats::read_bind), unfolding(crate::specs::Grammar::compound))]
     fn compound(&mut self, mode: PredictionMode) -> Result<LeafKind, PlanError>
-        requires { Fits self.old }
         ensures read { Gives (λ x. (x, input self.new)) result (read (compound mode) (input self.old)) }
         ensures moves { Moves self.old self.new }
     {
@@ -123,7 +117,6 @@ impl<'a> Reader<'a> {
 
     #[tactic(auto, using(crate::proofs::Formats::read_bind), unfolding(crate::specs::Grammar::leaf_kind))]
     fn leaf_kind(&mut self, has_chroma: bool) -> Result<LeafKind, PlanError>
-        requires { Fits self.old }
         ensures read { Gives (λ x. (x, input self.new)) result (read (leaf_kind has_chroma) (input self.old)) }
         ensures takes { OnOk result (self.old.at < self.new.at) }
         ensures moves { Moves self.old self.new }
@@ -141,7 +134,6 @@ impl<'a> Reader<'a> {
 
     #[tactic(auto, unfolding(crate::specs::Grammar::tx_size))]
     fn tx_size(&mut self) -> Result<TxSize, PlanError>
-        requires { Fits self.old }
         ensures read { Gives (λ x. (x, input self.new)) result (read tx_size (input self.old)) }
         ensures moves { Moves self.old self.new }
     {
@@ -151,7 +143,6 @@ impl<'a> Reader<'a> {
 
     #[tactic(auto, unfolding(crate::specs::Grammar::tx_type))]
     fn tx_type(&mut self) -> Result<TxType, PlanError>
-        requires { Fits self.old }
         ensures read { Gives (λ x. (x, input self.new)) result (read tx_type (input self.old)) }
         ensures moves { Moves self.old self.new }
     {
@@ -161,7 +152,6 @@ impl<'a> Reader<'a> {
 
     #[tactic(auto, using(crate::proofs::Formats::read_bind), unfolding(crate::specs::Grammar::uv_type))]
     fn uv_type(&mut self, has_chroma: bool) -> Result<Option<TxType>, PlanError>
-        requires { Fits self.old }
         ensures read { Gives (λ x. (x, input self.new)) result (read (uv_type has_chroma) (input self.old)) }
         ensures moves { Moves self.old self.new }
     {
@@ -176,7 +166,6 @@ impl<'a> Reader<'a> {
     /// A triple, field by field.
     #[tactic(auto, unfolding(crate::specs::Grammar::triple))]
     fn triple_by_fields(&mut self) -> Result<Triple, PlanError>
-        requires { Fits self.old }
         ensures read { Gives (λ x. (x, input self.new)) result (read triple (input self.old)) }
         ensures takes { OnOk result (self.old.at < self.new.at) }
         ensures moves { Moves self.old self.new }
@@ -194,7 +183,6 @@ impl<'a> Reader<'a> {
     /// A triple: its seven bytes at once where there are so many.
     #[tactic(auto, unfolding(crate::specs::Grammar::triple, crate::specs::Format::read_field))]
     fn triple(&mut self) -> Result<Triple, PlanError>
-        requires { Fits self.old }
         ensures read { Gives (λ x. (x, input self.new)) result (read triple (input self.old)) }
         ensures takes { OnOk result (self.old.at < self.new.at) }
         ensures moves { Moves self.old self.new }
@@ -217,7 +205,6 @@ impl<'a> Reader<'a> {
     /// Reads so many triples, and puts them behind the others.
     #[tactic(auto, using(crate::proofs::Formats::turns))]
     fn more_triples(&mut self, count: u16, into: &mut Vec<Triple>) -> Result<(), PlanError>
-        requires { Fits self.old }
         ensures read { Gives (λ _. (into.new.items, input self.new)) result (add (in_turn (λ _. lone triple) 0 count) (into.old.items, input self.old)) }
         ensures moves { Moves self.old self.new }
         ensures count { OnOk result (length into.new.items ≡ length into.old.items + count) }
@@ -232,7 +219,6 @@ impl<'a> Reader<'a> {
 
     /// Reads a count and so many triples, puts them behind the others, and gives the count.
     fn triples(&mut self, into: &mut Vec<Triple>) -> Result<u16, PlanError>
-        requires { Fits self.old }
         ensures read { Gives (λ n. (added into.old.items into.new.items n, input self.new)) result (read triples (input self.old)) }
         ensures extends { IfOk result (λ n. Extends into.old.items into.new.items n) }
         ensures moves { Moves self.old self.new }
@@ -250,7 +236,6 @@ impl<'a> Reader<'a> {
         has_chroma: bool,
         into: &mut Vec<Triple>,
     ) -> Result<(u16, u16), PlanError>
-        requires { Fits self.old }
         ensures read { Gives (λ ns. (cut into.new.items (length into.old.items) (ns.0 ∷ ns.1 ∷ []), input self.new)) result
             (read (chroma_triples has_chroma) (input self.old)) }
         ensures extends { IfOk result (λ ns. Extends into.old.items into.new.items (ns.0 + ns.1)) }
@@ -275,7 +260,6 @@ impl<'a> Reader<'a> {
         y: u16,
         into: &mut Vec<Triple>,
     ) -> Result<Leaf, PlanError>
-        requires fits { Fits self.old }
         requires room { length into.old.items ≤ self.old.at }
         ensures read { Gives (λ l. (leaf_value into.new.items l, input self.new)) result (read (leaf header.now size x y) (input self.old)) }
         ensures first { IfOk result (λ l. l.first ≡ length into.old.items) }

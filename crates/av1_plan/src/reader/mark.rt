@@ -44,12 +44,11 @@ impl<'a> Reader<'a> {
     ghost use Rattle.std.specs.Prelude.{◌≡◌, ◌<◌, ◌≤◌, IfOk, OnOk};
     ghost use Rattle.av1_plan.specs.Format.{one, read_field, read};
     ghost use Rattle.av1_plan.specs.Grammar.{where_, is_mark, mark};
-    ghost use Rattle.av1_plan.specs.Reading.{Gives, input, Fits, Moves};
+    ghost use Rattle.av1_plan.specs.Reading.{Gives, input, Moves};
 
     /// The number of a mark that a node of side `4 << level` at this place may have.
     #[tactic(auto, using(crate::proofs::Narrow::narrow))]
     fn mark_number(&mut self, header: &Header, level: u8, x: u16, y: u16) -> Result<u8, PlanError>
-        requires fits { Fits self.old }
         requires level { level ≤ 4 }
         requires x { x ≤ 4096 }
         requires y { y ≤ 4096 }
@@ -76,7 +75,6 @@ impl<'a> Reader<'a> {
         x: u16,
         y: u16,
     ) -> Result<PartitionType, PlanError>
-        requires fits { Fits self.old }
         requires level { level ≤ 4 }
         requires x { x ≤ 4096 }
         requires y { y ≤ 4096 }

@@ -46,12 +46,11 @@ impl<'a> Reader<'a> {
     ghost use Rattle.av1_plan.specs.Grammar.{sample, plane, reference, slot_planes, references};
     ghost use Rattle.av1_plan.specs.Plan.{planes_value, slot_value, slot_values, ArePresent};
     ghost use Rattle.av1_plan.specs.Geometry.{has_slot};
-    ghost use Rattle.av1_plan.specs.Reading.{Gives, input, Fits, Moves};
+    ghost use Rattle.av1_plan.specs.Reading.{Gives, input, Moves};
 
     /// A sample.
     #[tactic(auto, using(crate::proofs::Narrow::narrow))]
     fn sample(&mut self, depth: u8) -> Result<u16, PlanError>
-        requires fits { Fits self.old }
         requires depth { depth ≤ 12 }
         ensures read { Gives (λ x. (x, input self.new)) result (read_field (sample depth) (input self.old)) }
         ensures moves { Moves self.old self.new }
@@ -77,7 +76,6 @@ impl<'a> Reader<'a> {
         depth: u8,
         len: usize,
     ) -> Result<Vec<u16>, PlanError>
-        requires fits { Fits self.old }
         requires depth { depth ≤ 12 }
         ensures read { Gives (λ x. (x.items, input self.new)) result (read (plane depth len) (input self.old)) }
         ensures moves { Moves self.old self.new }
@@ -92,7 +90,6 @@ impl<'a> Reader<'a> {
 
     /// The samples of a plane at depth 8, which are so many bytes.
     fn plane_of_bytes(&mut self, alloc: Global, len: usize) -> Result<Vec<u16>, PlanError>
-        requires fits { Fits self.old }
         requires long { len ≤ length self.old.rest.now }
         ensures read { Gives (λ x. (x.items, input self.new)) result (read (plane 8 len) (input self.old)) }
         ensures moves { Moves self.old self.new }
@@ -106,7 +103,6 @@ impl<'a> Reader<'a> {
 
     /// The samples of a plane. Those of one byte are read all at once, where there are so many bytes.
     fn plane(&mut self, alloc: Global, depth: u8, len: usize) -> Result<Vec<u16>, PlanError>
-        requires fits { Fits self.old }
         requires depth { depth ≤ 12 }
         ensures read { Gives (λ x. (x.items, input self.new)) result (read (plane depth len) (input self.old)) }
         ensures moves { Moves self.old self.new }
@@ -120,7 +116,6 @@ impl<'a> Reader<'a> {
     /// The three planes of a slot.
     #[tactic(auto, using(crate::proofs::Formats::read_bind), unfolding(crate::specs::Grammar::reference))]
     fn reference(&mut self, alloc: Global, header: &Header) -> Result<SlotPlanes, PlanError>
-        requires fits { Fits self.old }
         requires depth { header.now.depth ≤ 12 }
         requires width { header.now.width ≤ 2048 }
         requires height { header.now.height ≤ 2048 }
@@ -141,7 +136,6 @@ impl<'a> Reader<'a> {
         header: &Header,
         slot: usize,
     ) -> Result<Option<SlotPlanes>, PlanError>
-        requires fits { Fits self.old }
         requires slot { slot < 8 }
         requires depth { header.now.depth ≤ 12 }
         requires width { header.now.width ≤ 2048 }
@@ -164,7 +158,6 @@ impl<'a> Reader<'a> {
         alloc: Global,
         header: &Header,
     ) -> Result<Vec<Option<SlotPlanes>>, PlanError>
-        requires fits { Fits self.old }
         requires depth { header.now.depth ≤ 12 }
         requires width { header.now.width ≤ 2048 }
         requires height { header.now.height ≤ 2048 }

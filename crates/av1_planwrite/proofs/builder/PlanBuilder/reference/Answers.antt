@@ -1,4 +1,5 @@
 use Rattle.std.proofs.Common.{rules, ◌≡◌, ◌++◌, List, ℕ, ap, sym, subst, ◌∙◌}
+use Rattle.std.specs.Prelude.{OnOk}
 use Rattle.std.proofs.Math.Logic.{∥∥₁_map}
 use Rattle.av1_plan.specs.Plan.{PlanValue}
 use Rattle.av1_planwrite.specs.Builder.{built, TellsSome}
@@ -12,16 +13,20 @@ use Rattle.av1_planwrite.proofs.builder.PlanBuilder.reference.Goals as goal
 -- the fields of the planes
 abbrev texts : After-pass_reference → List ℕ
 texts c =
-    let depth = c.args.self.now.progress.header.depth in
+    let depth = c.args.self.now.progress.walk.header.depth in
     plane_text depth c.args.y.now ++ plane_text depth c.args.u.now ++ plane_text depth c.args.v.now
 
 -- what was written are these
 written : (c : After-pass_reference) → c.settle.new.self.bytes.items ≡ c.args.self.now.text.bytes.items ++ texts c
 written c =
     let w = c.planes-written in
+    let old = c.args.self.now.text.bytes.items in
+    let text =
+    subst (λ (depth : ℕ). OnOk w.result
+    (w.new.self.bytes.items ≡ old ++ (plane_text depth c.args.y.now ++ plane_text depth c.args.u.now ++ plane_text depth c.args.v.now))) c.depth.ensures
+    w.ensures.text in
     c.in_ok-settle.ensures.kept
-    ∙ written_well (w.new.self.bytes.items ≡ c.args.self.now.text.bytes.items ++ texts c) w.result _ c.settle.result _ c.in_ok-settle.was
-    c.settle.ensures.answer w.ensures.text
+    ∙ written_well (w.new.self.bytes.items ≡ old ++ texts c) w.result _ c.settle.result _ c.in_ok-settle.was c.settle.ensures.answer text
 
 told : (c : After-pass_reference) (p : PlanValue) → Tells (building c.args.self.now) p →
     Tells (built c.pass_reference.new.self c.settle.new.self.bytes.items) (plan_with_reference p c.args.y.now c.args.u.now c.args.v.now)
@@ -37,8 +42,8 @@ returns-clause-given c =
 pub returns-clause-told : goal.returns-clause-told
 returns-clause-told c = told (goal.at.returns-clause-told c).After-pass_reference
 
-pub invariant_of-self : goal.invariant_of-self
-invariant_of-self c =
+pub invariant_of-self-in-Break-branch-2 : goal.invariant_of-self-in-Break-branch-2
+invariant_of-self-in-Break-branch-2 c =
     let same : c.settle.new.self.bytes.items ≡ c.args.self.now.text.bytes.items = search rules in
     record { tells = subst (λ (bytes : List ℕ). ∥ TellsSome (built c.args.self.now.progress bytes) ∥₁) (sym same) c.args.self.now.tells }
 

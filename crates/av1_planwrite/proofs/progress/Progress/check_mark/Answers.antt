@@ -1,5 +1,5 @@
 use Rattle.std.proofs.Common.{arith}
-use Rattle.av1_planwrite.proofs.BuilderParts.{room_is}
+use Rattle.av1_plan.proofs.Walks.{room_is}
 use Rattle.av1_planwrite.proofs.progress.Progress.check_mark.Goals as goal
 
 pub is_mark-requires-clause-level : goal.is_mark-requires-clause-level

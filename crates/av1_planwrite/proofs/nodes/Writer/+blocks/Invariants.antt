@@ -1,8 +1,0 @@
-use Rattle.std.proofs.Common.{◌*◌, ◌-◌}
-use Rattle.av1_planwrite.proofs.nodes.Writer.+blocks.Given as goal
-
-abbrev pub decreases-block : goal.decreases-block
-decreases-block l = 2 * l.level
-
-abbrev pub decreases-parts : goal.decreases-parts
-decreases-parts l = 2 * l.level - 1

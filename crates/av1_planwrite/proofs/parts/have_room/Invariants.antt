@@ -1,6 +1,0 @@
-use Rattle.std.proofs.Common.{◌≡◌}
-use Rattle.av1_planwrite.specs.Stacks.{on_top, have_room}
-use Rattle.av1_planwrite.proofs.parts.have_room.Given as goal
-
-abbrev pub invariant-loop-below : goal.invariant-loop-below
-invariant-loop-below l = l.room ≡ have_room (on_top l.parts l.below)
