@@ -12,10 +12,8 @@ pub mod PaintedColumns
 pub mod ModeAngles
 pub mod Means
 pub mod Weighted
-pub mod Unchanged
 pub mod Lending
 pub mod LumaBlocks
-pub mod NearLeaf
 pub mod SubLuma
 pub mod BesideBlock
 pub mod ByMode

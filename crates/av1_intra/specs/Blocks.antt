@@ -1,5 +1,5 @@
--- What holds of a block that is predicted where it lies, and of the sides beside it.
-use Rattle.std.specs.Prelude.{ℕ, ◌^◌, ◌<◌, ◌≤◌, ◌≡◌, List, length}
+-- What holds of a block that is predicted where it lies, and of a block of chroma over its luma.
+use Rattle.std.specs.Prelude.{ℕ, ◌^◌, ◌<◌, ◌≤◌, ◌≡◌}
 use Rattle.av1_frame.specs.Areas.{AreRows}
 use Rattle.av1_frame.specs.Regions.{InStorage, IsReadable}
 use Rattle.av1_frame.specs.declared.plane_region.PlaneRegion.{PlaneRegion}
@@ -15,11 +15,6 @@ pub record HoldsBlock {T : Type 0} (r : PlaneRegionMut T) (w h : ℕ) : Type 0 w
   pub fits : InStorage r
   pub columns : w ≤ r.area.width
   pub rows : h ≤ r.area.height
-
--- there is a sample above each column of it, and a sample to the left of each row
-pub record AreBeside {T : Type 0} (w h : ℕ) (above left : List T) : Type 0 where
-  pub above_long : w ≤ length above
-  pub left_long : h ≤ length left
 
 -- the block is the rectangle a of n samples whose rows stand so far apart, and has at most 64 columns and rows
 pub record IsRectangle (b : DirectionalBlock) (stride : ℕ) (a : StoredArea) (n : ℕ) : Type 0 where

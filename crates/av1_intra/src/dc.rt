@@ -35,7 +35,7 @@ pub fn mean_of<T: Pixel>(left: &[T], above: &[T]) -> T
 }
 
 /// The mean of the samples of one side.
-pub(crate) fn side_mean<T: Pixel>(side: &[T]) -> T
+pub fn side_mean<T: Pixel>(side: &[T]) -> T
     requires some { 0 < length side.now }
     requires short { length side.now ≤ 64 }
     ensures { result ≡ T.pixel (mean (map T.num side.now)) }

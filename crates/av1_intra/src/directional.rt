@@ -202,7 +202,7 @@ fn visible_from(visible: usize, first: isize) -> usize
 }
 
 /// The block of these sides at the first sample of a region, along an angle.
-pub(crate) fn block_in<T: Pixel>(
+pub fn block_in<T: Pixel>(
     region: &PlaneRegionMut<'_, T>,
     p_angle: usize,
     width: usize,

@@ -320,7 +320,7 @@ impl LumaLeaf {
     }
 
     /// How many samples of chroma it has.
-    pub(crate) fn area(self) -> usize
+    pub fn area(self) -> usize
         requires xdec { self.xdec ≤ 1 }
         requires ydec { self.ydec ≤ 1 }
         ensures { result ≡ (chroma_block self).width * (chroma_block self).height }
