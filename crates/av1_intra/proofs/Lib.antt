@@ -5,14 +5,12 @@ pub mod Upsampled
 pub mod SideEntries
 pub mod Derivatives
 pub mod Ranges
-pub mod Places
 pub mod RowParts
 pub mod Lines
 pub mod PaintedColumns
 pub mod ModeAngles
 pub mod Means
 pub mod Weighted
-pub mod Lending
 pub mod LumaBlocks
 pub mod SubLuma
 pub mod BesideBlock

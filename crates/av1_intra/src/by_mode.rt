@@ -109,8 +109,8 @@ fn predict_smooth<T: Pixel>(
     }
 }
 
-/// Predicts the samples of a rectangle by an intra mode, from the sides round it: as `dispatch_predict_intra`, over
-/// `samples`, whose rows stand `stride` apart. All samples outside the rectangle stay.
+/// Predicts the samples of a rectangle by an intra mode, from the sides round it. The rows of `samples` stand `stride`
+/// apart. All samples outside the rectangle stay.
 ///
 /// `block` is the rectangle: its sides are those of a transform, and its angle, from 0 to 270 degrees, is that of a
 /// directional mode. With `smooth_filter` the edge filter is on, and tells whether a neighbour has a smooth mode; of

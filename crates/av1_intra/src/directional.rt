@@ -2,23 +2,17 @@
 //!
 //! AV1 specification: directional intra prediction process.
 
-ghost use Rattle.std.specs.Prelude.{◌≡◌, ℕ, ◌+◌, ◌-◌, ◌^◌, ◌<◌, ◌≤◌, length, List, map, reverse, if◌then◌else◌, nat_lt, IsTrue, pos, ◌-ℤ◌};
-ghost use Rattle.std.specs.Prelude.{FitsSigned};
-ghost use Rattle.std.specs.Int.{w64};
-ghost use Rattle.std.specs.Option.{option_map};
+ghost use Rattle.std.specs.Prelude.{◌≡◌, ℕ, ◌+◌, ◌-◌, ◌<◌, ◌≤◌, length, List, map, reverse, if◌then◌else◌, nat_lt, IsTrue};
 ghost use Rattle.av1_frame.specs.Samples.{paint};
-ghost use Rattle.av1_frame.specs.Regions.{InStorage};
-ghost use Rattle.av1_intra.specs.Neighbours.{uses_smooth_filter};
 ghost use Rattle.av1_intra.specs.Angles.{ArePair, derivative, is_interpolated};
-ghost use Rattle.av1_intra.specs.Directional.{block_at, directional};
+ghost use Rattle.av1_intra.specs.Directional.{directional};
 ghost use Rattle.av1_intra.specs.Blocks.{IsRectangle};
 
 use crate::angle::dr_intra_derivative;
 use crate::columns::{Slopes, columns_past_180, rows_between};
 use crate::interpolation::rows_below_90;
-use crate::neighbours::IntraEdgeFilterParameters;
 use crate::prepared_side::{PreparedSide, prepare_above, prepare_left};
-use av1_frame::{Pixel, PlaneRegionMut, StoredArea};
+use av1_frame::{Pixel, StoredArea};
 
 /// A block that is predicted: along a direction, or by a mode that takes none.
 #[derive(Clone, Copy)]
@@ -179,48 +173,5 @@ pub fn pred_directional_to<T: Pixel>(
         directional_between(samples, stride, area, above, left, corner, block);
     } else {
         directional_past_180(samples, stride, area, left, corner, block);
-    }
-}
-
-/// Whether a neighbour is smooth, where the edge filter is on.
-fn smooth_choice(ief_params: Option<IntraEdgeFilterParameters>) -> Option<bool>
-    ensures { result ≡ option_map uses_smooth_filter ief_params }
-{
-    match ief_params {
-        Some(parameters) => Some(parameters.use_smooth_filter()),
-        None => None,
-    }
-}
-
-/// How many of `visible` samples there are from `first` on, which counts from the first of them and may lie before it.
-fn visible_from(visible: usize, first: isize) -> usize
-    requires visible { visible < 2 ^ 63 }
-    requires fits { FitsSigned w64 (pos visible -ℤ first) }
-    ensures { (origin place : ℕ) → first ≡ pos place -ℤ pos origin → result ≡ origin + visible - place }
-{
-    (visible as isize - first).max(0) as usize
-}
-
-/// The block of these sides at the first sample of a region, along an angle.
-pub fn block_in<T: Pixel>(
-    region: &PlaneRegionMut<'_, T>,
-    p_angle: usize,
-    width: usize,
-    height: usize,
-    bit_depth: usize,
-    ief_params: Option<IntraEdgeFilterParameters>,
-) -> DirectionalBlock
-    requires fits { InStorage region.now }
-    ensures { result ≡ block_at region.now p_angle width height bit_depth ief_params }
-{
-    let rect = *region.rect();
-    DirectionalBlock {
-        p_angle,
-        width,
-        height,
-        bit_depth,
-        smooth_filter: smooth_choice(ief_params),
-        visible_columns: visible_from(region.plane_cfg.width, rect.x),
-        visible_rows: visible_from(region.plane_cfg.height, rect.y),
     }
 }

@@ -1,16 +1,17 @@
 //! Intra prediction: the samples of a block from those round it.
 //!
-//! The crate stands on `av1_frame` for samples and regions, on `av1_edges` for the samples round a block, and on
-//! `av1_blocks` for modes and references. Its names and values are those of rav1e. It promises to the crates above it:
+//! The crate stands on `av1_frame` for samples, on `av1_edges` for the samples round a block, and on `av1_blocks` for
+//! modes and references. Its names and values are those of rav1e. Each predictor takes a slice whose rows stand a
+//! stride apart, and a rectangle of it; `av1_rav1e` has the names of rav1e over regions. It promises to the crates
+//! above it:
 //!
-//! - `predict_intra` and `dispatch_predict_intra` turn each sample of the first rows and columns of a region into that
-//!   of one definition for all intra modes, `predicted` (`specs/Predicted.antt`), over the edge that `get_intra_edges`
-//!   prepares, and leave all others as they were, in one equation, `output.new ≡ painted output.old width height f`.
-//! - Below a region the same is said of a slice: `pred_v_to`, `pred_h_to`, `pred_paeth_to`, `pred_smooth_to`,
-//!   `pred_smooth_v_to`, `pred_smooth_h_to`, `pred_directional_to` and `pred_cfl_to` predict the samples of a
-//!   rectangle, whose rows stand a stride apart, `samples.new ≡ paint stride area f samples.old`.
-//!   `dispatch_predict_intra_to` does so by the mode, from the sides of a block, and `dispatch_predict_intra` lends it
-//!   the samples of its region. DC prediction is `fill_block` by `mean_of` two sides, or by `half_sample` without.
+//! - `dispatch_predict_intra_to` predicts the rectangle from the sides of a block, by one definition for all intra
+//!   modes, `predicted` (`specs/Predicted.antt`), and leaves all other samples as they were, in one equation,
+//!   `samples.new ≡ paint stride area f samples.old`.
+//! - So do the predictors of one kind, each by its own definition: `pred_v_to`, `pred_h_to`, `pred_paeth_to`,
+//!   `pred_smooth_to`, `pred_smooth_v_to`, `pred_smooth_h_to`, `pred_directional_to` and `pred_cfl_to`. DC prediction
+//!   is `fill_block` by `mean_of` two sides, by `side_mean` of one, or by `half_sample` without.
+//! - `angle_or_alpha` and `alpha_of` give the angle of a mode and its parameter, and the weight of luma.
 //! - `leaf_luma_ac` and `pred_cfl_ac` put into a slice, row by row, how far the luma over each sample of chroma is from
 //!   its mean, and leave the rest of the slice (`specs/ChromaFromLuma.antt`).
 //! - `filter_edge` and `upsample_edge` prepare a side in a slice, entry by entry, and leave the rest of the slice.
@@ -37,7 +38,6 @@ mod laws;
 mod luma;
 mod neighbours;
 mod paeth;
-mod predict;
 mod prepared_side;
 mod rows;
 mod samples;
@@ -47,20 +47,19 @@ mod straight;
 mod upsampling;
 mod variant;
 
-pub use angle::dr_intra_derivative;
+pub use angle::{alpha_of, angle_or_alpha, dr_intra_derivative};
 pub use by_mode::dispatch_predict_intra_to;
 pub use chroma_from_luma::pred_cfl_to;
 pub use dc::{half_sample, mean_of, side_mean, sum_of};
-pub use directional::{DirectionalBlock, block_in, pred_directional_to};
+pub use directional::{DirectionalBlock, pred_directional_to};
 pub use edge_filter::{filter_edge, select_ief_strength};
 pub use laws::{
     lines_meet_their_sides, luma_differences_fit, modes_have_angles, predictions_lie_within,
     prepared_edges_suffice,
 };
 pub use luma::{LumaLeaf, leaf_luma_ac, pred_cfl_ac};
-pub use neighbours::IntraEdgeFilterParameters;
+pub use neighbours::{IntraEdgeFilterParameters, smooth_filter_of};
 pub use paeth::pred_paeth_to;
-pub use predict::{angle_or_alpha, dispatch_predict_intra, predict_intra};
 pub use rows::fill_block;
 pub use side_places::{places_above, places_left};
 pub use smooth::{pred_smooth_h_to, pred_smooth_to, pred_smooth_v_to};

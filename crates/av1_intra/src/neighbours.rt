@@ -123,3 +123,13 @@ impl IntraEdgeFilterParameters {
             || is_smooth_in(self.plane, self.left_ref_frame_types, self.left_mode)
     }
 }
+
+/// Whether a neighbour has a smooth mode, if the edge filter is on. Without parameters it is off.
+pub fn smooth_filter_of(ief_params: Option<IntraEdgeFilterParameters>) -> Option<bool>
+    ensures { result ≡ option_map uses_smooth_filter ief_params }
+{
+    match ief_params {
+        Some(parameters) => Some(parameters.use_smooth_filter()),
+        None => None,
+    }
+}

@@ -1,10 +1,10 @@
 //! A side of a block as directional prediction reads it: filtered and upsampled as the angle asks.
 
-ghost use Rattle.std.specs.Prelude.{◌≡◌, ◌+◌, ◌-◌, ◌*◌, ◌/◌, ◌^◌, ◌<◌, ◌≤◌, length, map, take, reverse, replicate, if◌then◌else◌, IsTrue};
+ghost use Rattle.std.specs.Prelude.{◌≡◌, ◌+◌, ◌-◌, ◌*◌, ◌/◌, ◌<◌, ◌≤◌, length, map, take, reverse, replicate, if◌then◌else◌, IsTrue};
 ghost use Rattle.av1_intra.specs.Sides.{entries, distance};
 ghost use Rattle.av1_intra.specs.EdgeFilter.{filtered};
 ghost use Rattle.av1_intra.specs.Upsampling.{upsampled};
-ghost use Rattle.av1_intra.specs.Directional.{side, blend, at, prepared, upsampling};
+ghost use Rattle.av1_intra.specs.Directional.{side, blend, prepared, upsampling};
 
 use crate::directional::DirectionalBlock;
 use crate::edge_filter::{filter_edge, select_ief_strength};

@@ -1,9 +1,9 @@
 -- How much of a frame is visible past a leaf does not matter to its block of chroma.
-use Rattle.std.proofs.Common.{ℕ, ◌≡◌, ◌+◌, ◌-◌, ◌*◌, ◌/◌, ◌^◌, ◌≤◌, ◌==◌, ◌&&◌, not, nat_le, cond, true, false, min, max, arith, ap, refl, sym, ◌∙◌}
+use Rattle.std.proofs.Common.{ℕ, ◌≡◌, ◌+◌, ◌-◌, ◌*◌, ◌/◌, ◌≤◌, ◌==◌, ◌&&◌, not, nat_le, cond, true, false, min, arith, ap, sym, ◌∙◌}
 use Rattle.av1_blocks.specs.Blocks.{block_width, block_height}
 use Rattle.av1_blocks.specs.Transforms.{tx_width, tx_height}
 use Rattle.av1_blocks.proofs.Sides.{block_height_range, block_width_range}
-use Rattle.av1_intra.specs.ChromaFromLuma.{averaged_side, chroma_block, coded_side, last_begun, last_of_leaf, luma_start}
+use Rattle.av1_intra.specs.ChromaFromLuma.{averaged_side, chroma_block, last_begun, last_of_leaf, luma_start}
 use Rattle.av1_intra.specs.declared.luma.LumaLeaf.{LumaLeaf}
 
 -- luma begins at most 4 samples before the leaf

@@ -13,24 +13,24 @@ ghost use Rattle.av1_frame.specs.Regions.{InStorage, painted};
 ghost use Rattle.av1_edges.specs.Sides.{base};
 ghost use Rattle.av1_intra.specs.Angles.{is_interpolated};
 ghost use Rattle.av1_intra.specs.Dc.{mean};
-ghost use Rattle.av1_intra.specs.Directional.{block_at, directional};
+ghost use Rattle.av1_intra.specs.Directional.{directional};
 ghost use Rattle.av1_intra.specs.Paeth.{paeth};
-ghost use Rattle.av1_intra.specs.Blocks.{HoldsBlock};
-ghost use Rattle.av1_rav1e.specs.Blocks.{AreBeside};
+ghost use Rattle.av1_rav1e.specs.Blocks.{AreBeside, HoldsBlock, block_at};
 ghost use Rattle.av1_intra.specs.Sides.{numbers, from_top};
 ghost use Rattle.av1_intra.specs.Smooth.{smooth, smooth_v, smooth_h};
 
 mod from_luma;
 
+pub use crate::predict::dispatch_predict_intra;
+use crate::region_block::block_in;
 use av1_frame::{Pixel, PlaneRegionMut};
 use av1_intra::{
-    IntraEdgeFilterParameters, block_in, fill_block, half_sample, mean_of, pred_directional_to,
-    pred_h_to, pred_paeth_to, pred_smooth_h_to, pred_smooth_to, pred_smooth_v_to, pred_v_to,
-    side_mean,
+    IntraEdgeFilterParameters, fill_block, half_sample, mean_of, pred_directional_to, pred_h_to,
+    pred_paeth_to, pred_smooth_h_to, pred_smooth_to, pred_smooth_v_to, pred_v_to, side_mean,
 };
 pub use av1_intra::{
-    dispatch_predict_intra, dr_intra_derivative, filter_edge, pred_cfl_ac, select_ief_strength,
-    select_ief_upsample, upsample_edge,
+    dr_intra_derivative, filter_edge, pred_cfl_ac, select_ief_strength, select_ief_upsample,
+    upsample_edge,
 };
 pub use from_luma::{pred_cfl, pred_cfl_128, pred_cfl_inner, pred_cfl_left, pred_cfl_top};
 

@@ -8,9 +8,8 @@ ghost use Rattle.std.specs.Prelude.{◌≡◌, ◌+◌, ◌*◌, ◌<◌, ◌≤
 ghost use Rattle.std.specs.Ordering.{int_eq};
 ghost use Rattle.av1_frame.specs.Regions.{InStorage, painted};
 ghost use Rattle.av1_edges.specs.Sides.{base};
-ghost use Rattle.av1_intra.specs.Blocks.{HoldsBlock};
-ghost use Rattle.av1_rav1e.specs.Blocks.{AreBeside};
-ghost use Rattle.av1_intra.specs.ChromaFromLuma.{ac_at, first_sample, from_luma};
+ghost use Rattle.av1_rav1e.specs.Blocks.{AreBeside, HoldsBlock, first_sample};
+ghost use Rattle.av1_intra.specs.ChromaFromLuma.{ac_at, from_luma};
 ghost use Rattle.av1_intra.specs.Dc.{mean};
 
 use av1_frame::{Pixel, PlaneRegionMut};

@@ -1,4 +1,4 @@
-use Rattle.av1_intra.proofs.Lending.{block_rows}
+use Rattle.av1_rav1e.proofs.Lending.{block_rows}
 use Rattle.av1_rav1e.proofs.rust.fill_rows.Goals as goal
 
 pub fill_block-requires : goal.fill_block-requires

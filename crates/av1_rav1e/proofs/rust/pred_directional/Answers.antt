@@ -4,9 +4,10 @@ use Rattle.av1_frame.specs.declared.plane_region.StoredArea.{StoredArea}
 use Rattle.av1_frame.proofs.Regions.{lent_painted}
 use Rattle.av1_intra.specs.Blocks.{IsRectangle}
 use Rattle.av1_intra.specs.Sides.{numbers}
-use Rattle.av1_intra.specs.Directional.{block_at, directional}
+use Rattle.av1_intra.specs.Directional.{directional}
+use Rattle.av1_rav1e.specs.Blocks.{block_at}
 use Rattle.av1_intra.specs.declared.directional.DirectionalBlock.{DirectionalBlock}
-use Rattle.av1_intra.proofs.Lending.{block_rows}
+use Rattle.av1_rav1e.proofs.Lending.{block_rows}
 use Rattle.av1_rav1e.proofs.rust.pred_directional.Goals as goal
 
 pub pred_directional_to-requires-clause-block : goal.pred_directional_to-requires-clause-block

@@ -2,7 +2,8 @@ use Rattle.std.proofs.Common.{◌≡◌, arith, ap, ◌∙◌, sym, map, get_or,
 use Rattle.std.proofs.lemmas.Int.{to_z-of_z}
 use Rattle.std.proofs.lemmas.List.{get_or-map}
 use Rattle.av1_frame.proofs.Regions.{painted_same}
-use Rattle.av1_intra.specs.ChromaFromLuma.{ac_at, first_sample, from_luma}
+use Rattle.av1_intra.specs.ChromaFromLuma.{ac_at, from_luma}
+use Rattle.av1_rav1e.specs.Blocks.{first_sample}
 use Rattle.av1_rav1e.proofs.Unchanged.{painted_unchanged}
 use Rattle.av1_intra.proofs.Weighted.{unweighed_choice, weighed_choice, no_weight, some_weight}
 use Rattle.av1_rav1e.proofs.rust.from_luma.pred_cfl_inner.Goals as goal

@@ -6,7 +6,7 @@ use Rattle.av1_frame.specs.Areas.{AreRows}
 use Rattle.av1_frame.specs.Samples.{in_rows}
 use Rattle.av1_frame.specs.Regions.{own_rows}
 use Rattle.av1_frame.proofs.Regions.{lent_rows}
-use Rattle.av1_intra.specs.Blocks.{HoldsBlock}
+use Rattle.av1_rav1e.specs.Blocks.{HoldsBlock}
 
 -- the block is a rectangle of the rows that are lent
 pub block_rows : {T : Type 0} {r : PlaneRegionMut T} {w h : ℕ} {a : StoredArea} {rows : List T} → HoldsBlock r w h → a ≡ in_rows r.area w h →

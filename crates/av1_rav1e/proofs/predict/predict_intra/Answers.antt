@@ -7,11 +7,11 @@ use Rattle.av1_blocks.specs.Modes.{is_intra, is_cfl}
 use Rattle.av1_frame.specs.Regions.{painted}
 use Rattle.av1_edges.specs.Parts.{effective}
 use Rattle.av1_intra.specs.declared.variant.PredictionVariant.{PredictionVariant}
-use Rattle.av1_intra.specs.Directional.{block_at}
+use Rattle.av1_rav1e.specs.Blocks.{block_at, edge_of}
 use Rattle.av1_intra.specs.ChromaFromLuma.{ac_at}
-use Rattle.av1_intra.specs.Predicted.{variant_at, angle_or_alpha, is_angle_of, predicted, edge_of, places_above, places_left}
+use Rattle.av1_intra.specs.Predicted.{variant_at, angle_or_alpha, is_angle_of, predicted, places_above, places_left}
 use Rattle.av1_intra.proofs.ByMode.{effective_intra, effective_cfl, angle_given}
-use Rattle.av1_intra.proofs.predict.predict_intra.Goals as goal
+use Rattle.av1_rav1e.proofs.predict.predict_intra.Goals as goal
 
 -- what is made of a mode, the sides in the tile and an angle, at a place of the tile
 at_place : {A : Type 0} (f : PredictionMode → PredictionVariant → ℤ → A) (mode m : PredictionMode) (param : IntraParam) (x y X Y : ℕ) (v : PredictionVariant)

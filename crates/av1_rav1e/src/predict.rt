@@ -1,4 +1,4 @@
-//! Prediction of a block by its intra mode, from the edge round it.
+//! Prediction of a block of a region by its intra mode, from the edge round it.
 //!
 //! AV1 specification: intra prediction process.
 
@@ -7,19 +7,18 @@ ghost use Rattle.av1_blocks.specs.Transforms.{tx_width, tx_height};
 ghost use Rattle.av1_blocks.specs.Modes.{is_intra, is_cfl};
 ghost use Rattle.av1_frame.specs.Regions.{InStorage, painted};
 ghost use Rattle.av1_edges.specs.Parts.{step_of};
-ghost use Rattle.av1_intra.specs.Blocks.{HoldsBlock};
-ghost use Rattle.av1_intra.specs.Directional.{block_at};
 ghost use Rattle.av1_intra.specs.ChromaFromLuma.{ac_at};
-ghost use Rattle.av1_intra.specs.Predicted.{edge_of, predicted, alpha_of, angle_or_alpha, is_angle_of, places_above, places_left, mode_of_block};
-ghost use Rattle.av1_intra.specs.Predicted.{variant_of_block, column_in, row_in};
+ghost use Rattle.av1_intra.specs.Predicted.{predicted, alpha_of, angle_or_alpha, is_angle_of, places_above, places_left};
+ghost use Rattle.av1_rav1e.specs.Blocks.{HoldsBlock, block_at, edge_of, mode_of_block, variant_of_block, column_in, row_in};
 
-use crate::by_mode::dispatch_predict_intra_to;
-use crate::directional::{DirectionalBlock, block_in};
-use crate::neighbours::IntraEdgeFilterParameters;
-use crate::variant::PredictionVariant;
-use av1_blocks::{ANGLE_STEP, IntraParam, PredictionMode, TxSize, intra_mode_to_angle};
+use crate::region_block::block_in;
+use av1_blocks::{IntraParam, PredictionMode, TxSize};
 use av1_edges::{IntraEdge, effective};
 use av1_frame::{Pixel, PlaneRegionMut, TileRect};
+use av1_intra::{
+    DirectionalBlock, IntraEdgeFilterParameters, PredictionVariant, angle_or_alpha,
+    dispatch_predict_intra_to,
+};
 
 /// The weight of luma in `UV_CFL_PRED`, and 0 in other modes.
 fn weight_of(mode: PredictionMode, angle: isize) -> i16
@@ -105,21 +104,6 @@ pub fn dispatch_predict_intra<T: Pixel>(
         ac,
         alpha,
     );
-}
-
-/// The angle of a mode and its parameter in degrees, and for chroma from luma the weight.
-pub fn angle_or_alpha(mode: PredictionMode, intra_param: IntraParam) -> isize
-    ensures { result ≡ angle_or_alpha mode intra_param }
-{
-    let (step, alpha) = match intra_param {
-        IntraParam::AngleDelta(step) => (step, 0),
-        IntraParam::Alpha(alpha) => (0, alpha),
-        IntraParam::None => (0, 0),
-    };
-    match mode {
-        PredictionMode::UV_CFL_PRED => isize::from(alpha),
-        _ => intra_mode_to_angle(mode) + isize::from(ANGLE_STEP) * isize::from(step),
-    }
 }
 
 /// The column and the row of the tile at which a region begins.

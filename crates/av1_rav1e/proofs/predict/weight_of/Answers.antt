@@ -5,7 +5,7 @@ use Rattle.av1_blocks.specs.declared.predict.PredictionMode.{PredictionMode}
 use Rattle.av1_blocks.specs.declared.predict.PredictionMode.TheVariants.{UV_CFL_PRED}
 use Rattle.av1_intra.specs.Predicted.{is_angle_of}
 use Rattle.av1_intra.proofs.ByMode.{only_cfl}
-use Rattle.av1_intra.proofs.predict.weight_of.Goals as goal
+use Rattle.av1_rav1e.proofs.predict.weight_of.Goals as goal
 
 -- a weight fits 16 bits
 weight : (mode : PredictionMode) (z : ℤ) → mode ≡ UV_CFL_PRED → is_angle_of mode z ≡ true → to_z w16 (of_z w16 (to_z w64 (of_z w64 z))) ≡ z

@@ -8,13 +8,13 @@ use Rattle.av1_frame.specs.Samples.{in_rows}
 use Rattle.av1_frame.proofs.Regions.{lent_painted}
 use Rattle.av1_intra.specs.Sides.{numbers}
 use Rattle.av1_intra.specs.Angles.{is_interpolated}
-use Rattle.av1_intra.specs.Directional.{block_at}
+use Rattle.av1_rav1e.specs.Blocks.{block_at, edge_of}
 use Rattle.av1_intra.specs.ChromaFromLuma.{ac_at}
-use Rattle.av1_intra.specs.Predicted.{edge_of, edge_round, predicted}
+use Rattle.av1_intra.specs.Predicted.{edge_round, predicted}
 use Rattle.av1_intra.specs.declared.directional.DirectionalBlock.{DirectionalBlock}
-use Rattle.av1_intra.proofs.Lending.{block_rows}
+use Rattle.av1_rav1e.proofs.Lending.{block_rows}
 use Rattle.av1_intra.proofs.ByMode.{angle_fine, tx_height_side, tx_width_side, weighed_alike}
-use Rattle.av1_intra.proofs.predict.dispatch_predict_intra.Goals as goal
+use Rattle.av1_rav1e.proofs.predict.dispatch_predict_intra.Goals as goal
 
 pub dispatch_predict_intra_to-requires-clause-rows : goal.dispatch_predict_intra_to-requires-clause-rows
 dispatch_predict_intra_to-requires-clause-rows g c =

@@ -2,8 +2,8 @@ use Rattle.std.proofs.Common.{ℕ, ◌+◌, ◌-◌, arith, ap, ◌∙◌, Bool,
 use Rattle.std.specs.Option.{option_map}
 use Rattle.av1_intra.specs.Neighbours.{uses_smooth_filter}
 use Rattle.av1_intra.specs.declared.directional.DirectionalBlock.{DirectionalBlock}
-use Rattle.av1_intra.proofs.Places.{place_fits}
-use Rattle.av1_intra.proofs.directional.block_in.Goals as goal
+use Rattle.av1_rav1e.proofs.Places.{place_fits}
+use Rattle.av1_rav1e.proofs.region_block.block_in.Goals as goal
 
 pub returns : goal.returns
 returns g c =
@@ -28,6 +28,6 @@ returns g c =
     c.visible_from-2.ensures out.plane_cfg.yorigin out.area.y
     (ap (λ z. to_z w64 (of_z w64 z)) (ap (λ r. r.y) c.rect-rect.ensures ∙ ap (λ r. r.y) c.requires.fits.rect)
     ∙ place_fits out.area.y out.plane_cfg.yorigin (omega (arith, F.rows, S.few_rows)) (omega (arith, S.visible_rows, S.few_rows))) in
-    ap (λ f. B f c.visible_from.result c.visible_from-2.result) c.smooth_choice.ensures
+    ap (λ f. B f c.visible_from.result c.visible_from-2.result) c.smooth_filter_of.ensures
     ∙ ap (λ x. B (option_map uses_smooth_filter c.args.ief_params) x c.visible_from-2.result) X
     ∙ ap (λ y. B (option_map uses_smooth_filter c.args.ief_params) (out.plane_cfg.xorigin + out.plane_cfg.width - out.area.x) y) Y
