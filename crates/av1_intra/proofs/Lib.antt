@@ -19,4 +19,3 @@ pub mod LumaFits
 pub mod EdgeLengths
 pub mod Within
 pub mod SameLuma
-pub mod ByteSamples

@@ -20,9 +20,6 @@ pub fn pred_v_to<T: Pixel>(samples: &mut [T], stride: usize, area: StoredArea, a
     match area.width {
         4 => copy_down(samples, stride, area, above, 4),
         8 => copy_down(samples, stride, area, above, 8),
-        16 => copy_down(samples, stride, area, above, 16),
-        32 => copy_down(samples, stride, area, above, 32),
-        64 => copy_down(samples, stride, area, above, 64),
         _ => copy_down(samples, stride, area, above, area.width),
     }
 }
@@ -61,9 +58,6 @@ pub fn pred_h_to<T: Pixel>(samples: &mut [T], stride: usize, area: StoredArea, l
     match area.width {
         4 => copy_across(samples, stride, area, left, 4),
         8 => copy_across(samples, stride, area, left, 8),
-        16 => copy_across(samples, stride, area, left, 16),
-        32 => copy_across(samples, stride, area, left, 32),
-        64 => copy_across(samples, stride, area, left, 64),
         _ => copy_across(samples, stride, area, left, area.width),
     }
 }

@@ -1,5 +1,5 @@
 use Rattle.av1_frame.proofs.Paint.{row_painted_rest}
-use Rattle.av1_intra.proofs.paeth.paeth_rows.Goals as goal
+use Rattle.av1_intra.proofs.paeth.pred_paeth_to.Goals as goal
 
 pub loop-r-preserved : goal.loop-r-preserved
 loop-r-preserved g c =

@@ -2,7 +2,7 @@ use Rattle.std.proofs.Common.{◌≡◌}
 use Rattle.av1_frame.specs.Samples.{corner, paint}
 use Rattle.av1_intra.specs.Sides.{numbers, from_top}
 use Rattle.av1_intra.specs.Paeth.{paeth}
-use Rattle.av1_intra.proofs.paeth.paeth_rows.Given as goal
+use Rattle.av1_intra.proofs.paeth.pred_paeth_to.Given as goal
 
 abbrev pub invariant-loop-r : goal.invariant-loop-r
 invariant-loop-r g l =
