@@ -17,9 +17,9 @@
 //! - `filter_edge` and `upsample_edge` prepare a side in a slice, entry by entry, and leave the rest of the slice.
 //! - `select_ief_strength`, `select_ief_upsample` and `dr_intra_derivative` are their tables, and
 //!   `IntraEdgeFilterParameters` tells whether a neighbour has a smooth mode.
-//! - the laws: every entry of a side that a direction reads is there, the modes have angles that `pred_directional`
-//!   admits, prepared edges are as long as their modes read, luma's differences fit 16 bits, and what is predicted from
-//!   samples within their depth lies within it.
+//! - the laws: every entry of a side that a direction reads is there, the modes have angles that
+//!   `pred_directional_to` takes, prepared edges are as long as their modes read, luma's differences fit 16 bits, and
+//!   what is predicted from samples within their depth lies within it.
 //!
 //! Nothing allocates, and nothing is refused: what a call needs stands in its `requires`. Sides are counted in samples
 //! and angles in degrees: 90 points straight up, and 180 to the left. A side above runs from the left, and a left one
@@ -33,15 +33,15 @@ mod columns;
 mod dc;
 mod directional;
 mod edge_filter;
+mod edge_lengths;
+mod fill;
+mod filtered_side;
 mod interpolation;
 mod laws;
 mod luma;
 mod neighbours;
 mod paeth;
-mod prepared_side;
-mod rows;
 mod samples;
-mod side_places;
 mod smooth;
 mod straight;
 mod upsampling;
@@ -53,6 +53,8 @@ pub use chroma_from_luma::pred_cfl_to;
 pub use dc::{half_sample, mean_of, side_mean, sum_of};
 pub use directional::{DirectionalBlock, pred_directional_to};
 pub use edge_filter::{filter_edge, select_ief_strength};
+pub use edge_lengths::{places_above, places_left};
+pub use fill::fill_block;
 pub use laws::{
     lines_meet_their_sides, luma_differences_fit, modes_have_angles, predictions_lie_within,
     prepared_edges_suffice,
@@ -60,8 +62,6 @@ pub use laws::{
 pub use luma::{LumaLeaf, leaf_luma_ac, pred_cfl_ac};
 pub use neighbours::{IntraEdgeFilterParameters, smooth_filter_of};
 pub use paeth::pred_paeth_to;
-pub use rows::fill_block;
-pub use side_places::{places_above, places_left};
 pub use smooth::{pred_smooth_h_to, pred_smooth_to, pred_smooth_v_to};
 pub use straight::{pred_h_to, pred_v_to};
 pub use upsampling::{select_ief_upsample, upsample_edge};

@@ -1,4 +1,4 @@
-//! What the edge filter is told of the neighbours of a block.
+//! What the edge filter reads of the neighbours of a block: whether one has a smooth mode.
 //!
 //! AV1 specification: intra filter type process.
 

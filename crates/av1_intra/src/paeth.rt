@@ -11,7 +11,7 @@ ghost use Rattle.av1_intra.specs.Paeth.{paeth};
 use crate::samples::number_at;
 use av1_frame::{Pixel, StoredArea};
 
-/// The one of `left`, `above` and `corner` that is nearest to `above + left - corner`.
+/// Returns the one of `left`, `above` and `corner` that is nearest to `above + left - corner`.
 #[tactic(auto, using(std::proofs::lemmas::Bool::Decides::nat_tests), unfolding(crate::specs::Paeth::paeth))]
 fn nearest(above: u32, left: u32, corner: u32) -> u32
     requires above { above < 2 ^ 16 }
@@ -32,7 +32,7 @@ fn nearest(above: u32, left: u32, corner: u32) -> u32
     }
 }
 
-/// The first `width` samples of a row beside the sample at place `k` of `left`.
+/// Predicts the first `width` samples of the row beside sample `k` of `left`.
 #[tactic(auto, using(av1_frame::proofs::Paint::row_painting))]
 fn paeth_row<T: Pixel>(
     row: &mut [T],

@@ -148,7 +148,7 @@ pub fn pred_smooth_v<T: Pixel>(
 }
 
 /// Each sample is predicted along the angle `p_angle`, in degrees: one that a directional mode and an angle step from
-/// -3 to 3 give, but for 90 and 180, which copy a side, or another one that `dr_intra_derivative` knows.
+/// -3 to 3 give, except 90 and 180, which copy a side, or another one that `dr_intra_derivative` knows.
 ///
 /// Below 90 degrees a sample is what its line meets on the side `above`, past 180 on the side `left`, and between them
 /// on the one that it meets first. The line meets a side between two samples, and the prediction is between these two,

@@ -1,7 +1,7 @@
 use Rattle.std.proofs.Common.{◌≡◌, ◌+◌, map, take, replicate, reverse}
 use Rattle.av1_frame.specs.Samples.{paint_row}
 use Rattle.av1_intra.specs.Directional.{side}
-use Rattle.av1_intra.proofs.prepared_side.left_numbers.Given as goal
+use Rattle.av1_intra.proofs.filtered_side.left_numbers.Given as goal
 
 abbrev pub invariant-loop-k : goal.invariant-loop-k
 invariant-loop-k g l =

@@ -1,7 +1,7 @@
 use Rattle.std.proofs.Common.{ap, ◌∙◌}
 use Rattle.av1_intra.specs.Sides.{Side, distance}
 use Rattle.av1_intra.specs.Directional.{prepared}
-use Rattle.av1_intra.proofs.prepared_side.prepare_above.Goals as goal
+use Rattle.av1_intra.proofs.filtered_side.prepare_above.Goals as goal
 
 pub returns-clause-numbers : goal.returns-clause-numbers
 returns-clause-numbers g c =

@@ -1,4 +1,4 @@
-//! A side of a block as directional prediction reads it: filtered and upsampled as the angle asks.
+//! A side of a block as directional prediction reads it: filtered, and upsampled, as the angle requires.
 
 ghost use Rattle.std.specs.Prelude.{◌≡◌, ◌+◌, ◌-◌, ◌*◌, ◌/◌, ◌<◌, ◌≤◌, length, map, take, reverse, replicate, if◌then◌else◌, IsTrue};
 ghost use Rattle.av1_intra.specs.Sides.{entries, distance};
@@ -11,19 +11,19 @@ use crate::edge_filter::{filter_edge, select_ief_strength};
 use crate::upsampling::{select_ief_upsample, upsample_edge};
 use av1_frame::{Pixel, clip};
 
-/// How many entries a side has at most: a corner and 128 places, upsampled.
+/// The most entries that a side has: a corner and 128 places, upsampled.
 const ENTRIES: usize = 257;
 
-/// A side of a block, ready to interpolate.
+/// A side of a block, filtered and upsampled.
 #[derive(Drop)]
-pub(crate) struct PreparedSide {
-    /// The corner, then the places away from it, and zeros after these.
+pub(crate) struct FilteredSide {
+    /// The corner, then the samples away from it, then zeros.
     pub(crate) numbers: [u16; ENTRIES],
-    /// 1 where the places are upsampled, else 0.
+    /// 1 if the side is upsampled, else 0.
     pub(crate) upsampling: usize,
 }
 
-/// The corner and the first `count` places above, as numbers; there are zeros after these.
+/// Copies the corner and the first `count` samples above into empty entries.
 #[tactic(auto, using(av1_frame::proofs::Paint::row_painting))]
 fn above_numbers<T: Pixel>(numbers: &mut [u16; ENTRIES], corner: T, above: &[T], count: usize)
     requires empty { numbers.old ≡ replicate 257 0 }
@@ -37,7 +37,7 @@ fn above_numbers<T: Pixel>(numbers: &mut [u16; ENTRIES], corner: T, above: &[T],
     }
 }
 
-/// The corner and the first `count` places on the left, the last sample of `left` first; there are zeros after these.
+/// Copies the corner and the last `count` samples of `left`, the last one first, into empty entries.
 #[tactic(auto, using(av1_frame::proofs::Paint::row_painting))]
 fn left_numbers<T: Pixel>(numbers: &mut [u16; ENTRIES], corner: T, left: &[T], count: usize)
     requires empty { numbers.old ≡ replicate 257 0 }
@@ -52,7 +52,7 @@ fn left_numbers<T: Pixel>(numbers: &mut [u16; ENTRIES], corner: T, left: &[T], c
     }
 }
 
-/// Smooths the first `smoothed` places and then upsamples the first `places`.
+/// Filters the first `smoothed` samples after the corner, then upsamples the first `places`.
 fn prepare(
     numbers: &mut [u16; ENTRIES],
     smoothed: usize,
@@ -74,8 +74,8 @@ fn prepare(
     }
 }
 
-/// Prepares the side at the angle `straight` as the block's edge filter asks, and tells whether it was upsampled, by 1
-/// or 0.
+/// Filters and upsamples a side as the block's edge filter requires. `straight` is the angle of the side: 90 above and
+/// 180 on the left. Returns 1 if the side was upsampled, else 0.
 fn filter_side(
     numbers: &mut [u16; ENTRIES],
     block: DirectionalBlock,
@@ -112,9 +112,9 @@ fn filter_side(
     }
 }
 
-/// Makes an empty side the one above with its first `places` places, of which the first `smoothed` are smoothed.
+/// Fills an empty side from `above`: `places` samples, of which the first `smoothed` are filtered.
 pub(crate) fn prepare_above<T: Pixel>(
-    ready: &mut PreparedSide,
+    ready: &mut FilteredSide,
     above: &[T],
     corner: T,
     block: DirectionalBlock,
@@ -137,10 +137,9 @@ pub(crate) fn prepare_above<T: Pixel>(
     ready.upsampling = filter_side(&mut ready.numbers, block, 90, smoothed, places);
 }
 
-/// Makes an empty side the left one with its first `places` places from the top down, of which the first `smoothed` are
-/// smoothed.
+/// Fills an empty side from `left`, from the top down: `places` samples, of which the first `smoothed` are filtered.
 pub(crate) fn prepare_left<T: Pixel>(
-    ready: &mut PreparedSide,
+    ready: &mut FilteredSide,
     left: &[T],
     corner: T,
     block: DirectionalBlock,
@@ -163,12 +162,12 @@ pub(crate) fn prepare_left<T: Pixel>(
     ready.upsampling = filter_side(&mut ready.numbers, block, 180, smoothed, places);
 }
 
-impl PreparedSide {
-    /// A side with no places.
-    pub(crate) fn empty() -> PreparedSide
+impl FilteredSide {
+    /// A side without samples.
+    pub(crate) fn empty() -> FilteredSide
         ensures { result.numbers ≡ replicate 257 0 }
     {
-        PreparedSide {
+        FilteredSide {
             numbers: [0; ENTRIES],
             upsampling: 0,
         }

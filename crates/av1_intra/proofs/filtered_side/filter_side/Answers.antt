@@ -5,7 +5,7 @@ use Rattle.av1_intra.specs.Upsampling.{is_upsampled, upsampled}
 use Rattle.av1_intra.specs.Directional.{filter_choice, prepared}
 use Rattle.av1_intra.specs.declared.directional.DirectionalBlock.{DirectionalBlock}
 use Rattle.av1_intra.proofs.Ranges.{delta_is}
-use Rattle.av1_intra.proofs.prepared_side.filter_side.Goals as goal
+use Rattle.av1_intra.proofs.filtered_side.filter_side.Goals as goal
 
 -- what a strength and upsampling make of a side
 abbrev made : DirectionalBlock → ℕ → ℕ → Side → ℕ → Bool → Side

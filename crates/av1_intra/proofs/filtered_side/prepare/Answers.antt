@@ -3,7 +3,7 @@ use Rattle.av1_intra.specs.EdgeFilter.{filtered}
 use Rattle.av1_intra.specs.Upsampling.{upsampled}
 use Rattle.av1_intra.specs.Sides.{entries}
 use Rattle.av1_intra.proofs.SideEntries.{entries_filtered, entries_upsampled}
-use Rattle.av1_intra.proofs.prepared_side.prepare.Goals as goal
+use Rattle.av1_intra.proofs.filtered_side.prepare.Goals as goal
 
 pub returns-then-upsample : goal.returns-then-upsample
 returns-then-upsample c =

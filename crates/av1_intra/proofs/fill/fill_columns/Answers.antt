@@ -1,7 +1,7 @@
 use Rattle.std.proofs.Common.{ℕ, ap, ◌∙◌, length, subst, sym}
 use Rattle.av1_frame.specs.Areas.{AreRows}
 use Rattle.av1_frame.specs.Samples.{corner, paint}
-use Rattle.av1_intra.proofs.rows.fill_columns.Goals as goal
+use Rattle.av1_intra.proofs.fill.fill_columns.Goals as goal
 
 pub fill_area-requires : goal.fill_area-requires
 fill_area-requires g c =

@@ -3,7 +3,7 @@ use Rattle.std.proofs.lemmas.List.{length-replicate}
 use Rattle.av1_frame.proofs.Paint.{paint_row_none, paint_row_more}
 use Rattle.av1_intra.specs.Directional.{side}
 use Rattle.av1_intra.proofs.SideEntries.{entries_filled, side_past, left_place}
-use Rattle.av1_intra.proofs.prepared_side.left_numbers.Goals as goal
+use Rattle.av1_intra.proofs.filtered_side.left_numbers.Goals as goal
 
 pub loop-k-init : goal.loop-k-init
 loop-k-init g c =

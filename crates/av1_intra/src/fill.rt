@@ -1,4 +1,4 @@
-//! Rectangles that take one sample.
+//! Rectangles that are filled with one sample.
 
 ghost use Rattle.std.specs.Prelude.{◌≡◌, length};
 ghost use Rattle.av1_frame.specs.Areas.{AreRows};
@@ -6,8 +6,8 @@ ghost use Rattle.av1_frame.specs.Samples.{paint};
 
 use av1_frame::{Pixel, StoredArea, fill_area};
 
-/// Each sample of the rectangle becomes `value`, as by `fill_area`; the widths of transforms are known to the compiler.
-/// The rows of `samples` stand `stride` apart.
+/// Each sample of the rectangle becomes `value`. The rows of `samples` stand `stride` apart. This is `fill_area` with
+/// the widths of transforms known to the compiler.
 pub fn fill_block<T: Pixel>(samples: &mut [T], stride: usize, area: StoredArea, value: T)
     requires rows { AreRows stride area (length samples.old) }
     ensures { samples.new ≡ paint stride area (λ _ _ _. value) samples.old }

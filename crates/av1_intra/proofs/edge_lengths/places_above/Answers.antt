@@ -2,7 +2,7 @@ use Rattle.std.proofs.Common.{Bool, ap, ◌∙◌, sym}
 use Rattle.std.specs.Prelude.{if◌then◌else◌}
 use Rattle.av1_intra.specs.Predicted.{along_above}
 use Rattle.av1_intra.proofs.ByMode.{above_else}
-use Rattle.av1_intra.proofs.side_places.places_above.Goals as goal
+use Rattle.av1_intra.proofs.edge_lengths.places_above.Goals as goal
 
 pub returns-then-is_directional : goal.returns-then-is_directional
 returns-then-is_directional c =
