@@ -16,7 +16,7 @@ use crate::samples::{are_within, have_8_bits};
 use crate::status::DONE;
 use av1_blocks::BlockSize;
 use av1_frame::{Pixel, PlaneConfig, PlaneRegion, StoredArea, visible_area};
-use av1_intra::rust::pred_cfl_ac;
+use av1_intra::pred_cfl_ac;
 
 /// A block of chroma that is predicted from luma, in numbers.
 #[repr(C)]

@@ -5,17 +5,13 @@ pub mod Upsampled
 pub mod SideEntries
 pub mod Derivatives
 pub mod Ranges
-pub mod Places
 pub mod RowParts
 pub mod Lines
 pub mod PaintedColumns
 pub mod ModeAngles
 pub mod Means
 pub mod Weighted
-pub mod Unchanged
-pub mod Lending
 pub mod LumaBlocks
-pub mod NearLeaf
 pub mod SubLuma
 pub mod BesideBlock
 pub mod ByMode
@@ -23,4 +19,3 @@ pub mod LumaFits
 pub mod EdgeLengths
 pub mod Within
 pub mod SameLuma
-pub mod ByteSamples

@@ -1,5 +1,5 @@
 -- What of luma and of its differences is looked at.
-use Rattle.std.proofs.Common.{ℕ, ◌+◌, ◌*◌, ◌/◌, ◌%◌, ◌^◌, ◌<◌, ◌≤◌, ◌≡◌, [], min, refl, false, ap, subst, arith, ◌∙◌, ℤ, pos, ◌-ℤ◌}
+use Rattle.std.proofs.Common.{ℕ, ◌+◌, ◌*◌, ◌/◌, ◌%◌, ◌^◌, ◌<◌, ◌≤◌, ◌≡◌, [], min, refl, false, ap, subst, arith, ◌∙◌, List, ℤ, pos, ◌-ℤ◌}
 use Rattle.std.proofs.lemmas.List.{get_or_past}
 use Rattle.std.proofs.Math.Nat.{mul_comm, div-lt_iff_lt-mul, mod-lt}
 use Rattle.av1_blocks.specs.declared.predict.PredictionMode.{PredictionMode}
@@ -14,7 +14,7 @@ use Rattle.av1_intra.specs.declared.luma.LumaLeaf.{LumaLeaf}
 use Rattle.av1_intra.specs.Dc.{mean}
 use Rattle.av1_intra.specs.ChromaFromLuma.{luma_at, lumas, luma_difference, columns_read, rows_read, chroma_block, first_luma_column, first_luma_row}
 use Rattle.av1_intra.specs.ChromaFromLuma.{leaf_difference}
-use Rattle.av1_intra.specs.ChromaFromLuma.{from_luma, ac_at}
+use Rattle.av1_intra.specs.ChromaFromLuma.{from_luma, ac_at, with_rows}
 use Rattle.av1_intra.specs.Predicted.{dc, predicted}
 use Rattle.av1_intra.proofs.LumaBlocks.{by_decimation, covered_same}
 
@@ -71,3 +71,12 @@ predicted_without_luma b v mode alpha beta ac other e r c h = refl
 -- no difference is listed
 pub ac_at_nil : (w r c : ℕ) → ac_at w [] r c ≡ pos 0
 ac_at_nil w r c = get_or_past [] (r * w + c) (pos 0) (omega arith)
+
+-- ---- one block of chroma for another
+
+pub rows_of_block : (f : ℕ → ℕ → ℕ) (b c : ChromaBlock) (ac : List ℤ) → b ≡ c →
+    with_rows b.width b.height (luma_difference f b) ac ≡ with_rows c.width c.height (luma_difference f c) ac
+rows_of_block f b c ac e = ap (λ (k : ChromaBlock). with_rows k.width k.height (luma_difference f k) ac) e
+
+pub area_of_block : (b c : ChromaBlock) → b ≡ c → b.width * b.height ≡ c.width * c.height
+area_of_block b c e = ap (λ (k : ChromaBlock). k.width * k.height) e

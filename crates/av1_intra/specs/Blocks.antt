@@ -1,25 +1,13 @@
--- What holds of a block that is predicted where it lies, and of the sides beside it.
-use Rattle.std.specs.Prelude.{ℕ, ◌^◌, ◌<◌, ◌≤◌, ◌≡◌, List, length}
+-- What holds of a block that is predicted where it lies, and of a block of chroma over its luma.
+use Rattle.std.specs.Prelude.{ℕ, ◌^◌, ◌<◌, ◌≤◌, ◌≡◌}
 use Rattle.av1_frame.specs.Areas.{AreRows}
-use Rattle.av1_frame.specs.Regions.{InStorage, IsReadable}
+use Rattle.av1_frame.specs.Regions.{IsReadable}
 use Rattle.av1_frame.specs.declared.plane_region.PlaneRegion.{PlaneRegion}
-use Rattle.av1_frame.specs.declared.plane_region.PlaneRegionMut.{PlaneRegionMut}
 use Rattle.av1_frame.specs.declared.plane_region.StoredArea.{StoredArea}
 use Rattle.av1_edges.specs.Edges.{region_sample}
 use Rattle.av1_intra.specs.ChromaFromLuma.{columns_read, rows_read}
 use Rattle.av1_intra.specs.declared.directional.DirectionalBlock.{DirectionalBlock}
 use Rattle.av1_intra.specs.declared.luma.ChromaBlock.{ChromaBlock}
-
--- the region lies in its storage, and a block of w columns and h rows in its first columns and rows
-pub record HoldsBlock {T : Type 0} (r : PlaneRegionMut T) (w h : ℕ) : Type 0 where
-  pub fits : InStorage r
-  pub columns : w ≤ r.area.width
-  pub rows : h ≤ r.area.height
-
--- there is a sample above each column of it, and a sample to the left of each row
-pub record AreBeside {T : Type 0} (w h : ℕ) (above left : List T) : Type 0 where
-  pub above_long : w ≤ length above
-  pub left_long : h ≤ length left
 
 -- the block is the rectangle a of n samples whose rows stand so far apart, and has at most 64 columns and rows
 pub record IsRectangle (b : DirectionalBlock) (stride : ℕ) (a : StoredArea) (n : ℕ) : Type 0 where

@@ -2,7 +2,7 @@
 -- AV1 specification: predict chroma from luma process.
 -- `luma x y` is the number of the luma sample at column x of row y.
 use Rattle.std.specs.Prelude.{ℕ, ◌+◌, ◌-◌, ◌*◌, ◌/◌, ◌%◌, ◌^◌, ◌==◌, ◌&&◌, not, nat_le, if◌then◌else◌, min, max, List}
-use Rattle.std.specs.Prelude.{map, sum, slice_index, slice_index_or, ℤ, pos, neg_ℤ, ◌+ℤ◌, ◌-ℤ◌, ◌*ℤ◌, unsigned_abs}
+use Rattle.std.specs.Prelude.{sum, slice_index_or, ℤ, pos, neg_ℤ, ◌+ℤ◌, ◌-ℤ◌, ◌*ℤ◌, unsigned_abs}
 use Rattle.std.specs.Prelude.{int_lt}
 use Rattle.std.specs.Ordering.{int_eq}
 use Rattle.av1_blocks.specs.declared.partition.BlockSize.{BlockSize}
@@ -10,9 +10,7 @@ use Rattle.av1_blocks.specs.Blocks.{block_width, block_height}
 use Rattle.av1_blocks.specs.Transforms.{tx_width, tx_height}
 use Rattle.av1_blocks.specs.Chroma.{plane_side}
 use Rattle.av1_frame.specs.Arithmetic.{clip}
-use Rattle.av1_frame.specs.declared.plane_region.PlaneRegionMut.{PlaneRegionMut}
-use Rattle.av1_frame.specs.Samples.{paint_row, row_of}
-use Rattle.av1_frame.specs.Regions.{stored}
+use Rattle.av1_frame.specs.Samples.{paint_row}
 use Rattle.av1_lists.specs.Lists.{by_index}
 use Rattle.av1_intra.specs.Dc.{mean}
 use Rattle.av1_intra.specs.Sides.{numbers}
@@ -130,7 +128,3 @@ from_luma depth alpha dc d = if int_eq alpha (pos 0) then dc else clip depth (po
 -- the difference at row r and column c of a block of w columns, of a list that holds its rows one after the other
 abbrev pub ac_at : ℕ → List ℤ → ℕ → ℕ → ℤ
 ac_at w ac r c = slice_index_or ac (r * w + c) (pos 0)
-
--- the number of the first sample of the region r
-abbrev pub first_sample : {T : Type 0} → (T → ℕ) → PlaneRegionMut T → ℕ
-first_sample num r = slice_index (map num (row_of r.plane_cfg.stride r.area 0 (stored r))) 0

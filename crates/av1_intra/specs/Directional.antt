@@ -3,30 +3,12 @@
 -- A side gives a number for each entry here: entry 0 is the corner, and entry k + 1 is place k.
 use Rattle.std.specs.Prelude.{ℕ, ◌+◌, ◌-◌, ◌*◌, ◌/◌, ◌%◌, ◌^◌, List, ◌∷◌, take, Bool, nat_le, nat_lt, if◌then◌else◌}
 use Rattle.std.specs.Prelude.{min, Option, None, Some, pos}
-use Rattle.std.specs.Option.{option_map}
 use Rattle.av1_frame.specs.Arithmetic.{clip}
-use Rattle.av1_frame.specs.declared.plane_region.PlaneRegionMut.{PlaneRegionMut}
 use Rattle.av1_intra.specs.Sides.{Side, entries, distance}
-use Rattle.av1_intra.specs.Neighbours.{uses_smooth_filter}
 use Rattle.av1_intra.specs.Angles.{derivative}
 use Rattle.av1_intra.specs.EdgeFilter.{filter_strength, filtered}
 use Rattle.av1_intra.specs.Upsampling.{is_upsampled, upsampled}
-use Rattle.av1_intra.specs.declared.neighbours.IntraEdgeFilterParameters.{IntraEdgeFilterParameters}
 use Rattle.av1_intra.specs.declared.directional.DirectionalBlock.{DirectionalBlock}
-
--- the block of w columns and h rows at the first sample of the region r, along the angle p; its sides are filtered
--- where there are parameters
-abbrev pub block_at : {T : Type 0} → PlaneRegionMut T → ℕ → ℕ → ℕ → ℕ → Option IntraEdgeFilterParameters →
-    DirectionalBlock
-block_at r p w h depth parameters = record {
-  p_angle = p;
-  width = w;
-  height = h;
-  bit_depth = depth;
-  smooth_filter = option_map uses_smooth_filter parameters;
-  visible_columns = r.plane_cfg.xorigin + r.plane_cfg.width - r.area.x;
-  visible_rows = r.plane_cfg.yorigin + r.plane_cfg.height - r.area.y;
-}
 
 -- the corner and the places after it
 abbrev pub side : ℕ → List ℕ → Side

@@ -10,6 +10,4 @@ pub mod Upsampling
 pub mod Directional
 pub mod Predicted
 pub mod Blocks
-pub mod TileLuma
-pub mod Lending
 pub mod Scaffolding

@@ -1,6 +1,6 @@
 -- The samples of a block by its intra mode, from the edge round it.
 -- AV1 specification: intra prediction process.
-use Rattle.std.specs.Prelude.{ℕ, zero, suc, ◌+◌, ◌-◌, ◌%◌, ◌==◌, ◌&&◌, nat_le, nat_lt, if◌then◌else◌, Bool, true, List}
+use Rattle.std.specs.Prelude.{ℕ, zero, suc, ◌+◌, ◌%◌, ◌==◌, ◌&&◌, nat_le, nat_lt, if◌then◌else◌, Bool, true, List}
 use Rattle.std.specs.Prelude.{map, take, reverse, ◌++◌, ℤ, pos, ◌-ℤ◌, unsigned_abs}
 use Rattle.av1_blocks.specs.declared.predict.PredictionMode.{PredictionMode}
 use Rattle.av1_blocks.specs.declared.predict.PredictionMode.TheVariants.{DC_PRED, SMOOTH_PRED, SMOOTH_V_PRED}
@@ -8,16 +8,13 @@ use Rattle.av1_blocks.specs.declared.predict.PredictionMode.TheVariants.{SMOOTH_
 use Rattle.av1_blocks.specs.declared.predict.IntraParam.{IntraParam}
 use Rattle.av1_blocks.specs.declared.predict.IntraParam.TheVariants.{Alpha}
 use Rattle.av1_blocks.specs.Modes.{is_directional, intra_mode_to_angle}
-use Rattle.av1_frame.specs.declared.plane_region.PlaneRegionMut.{PlaneRegionMut}
-use Rattle.av1_frame.specs.declared.tile_state.TileRect.{TileRect}
-use Rattle.av1_edges.specs.declared.edge.IntraEdge.{IntraEdge}
 use Rattle.av1_edges.specs.Edges.{Edge}
-use Rattle.av1_edges.specs.Parts.{effective, angle, step_of}
+use Rattle.av1_edges.specs.Parts.{angle, step_of}
 use Rattle.av1_edges.specs.Sides.{base}
 use Rattle.av1_intra.specs.declared.directional.DirectionalBlock.{DirectionalBlock}
 use Rattle.av1_intra.specs.declared.variant.PredictionVariant.{PredictionVariant}
 use Rattle.av1_intra.specs.declared.variant.PredictionVariant.TheVariants.{NONE, LEFT, TOP, BOTH}
-use Rattle.av1_intra.specs.Sides.{entries, numbers}
+use Rattle.av1_intra.specs.Sides.{entries}
 use Rattle.av1_intra.specs.Dc.{mean}
 use Rattle.av1_intra.specs.Paeth.{paeth}
 use Rattle.av1_intra.specs.Smooth.{smooth, smooth_v, smooth_h}
@@ -27,10 +24,6 @@ use Rattle.av1_intra.specs.ChromaFromLuma.{from_luma}
 -- the edge of a left side, which is stored from the bottom up, a corner and a side above
 abbrev pub edge_round : {T : Type 0} → (T → ℕ) → List T → ℕ → List T → Edge
 edge_round num left corner above = record { above = map num above; left = reverse (map num left); corner = corner }
-
--- the edge that an `IntraEdge` holds
-abbrev pub edge_of : {T : Type 0} → (T → ℕ) → IntraEdge T → Edge
-edge_of num e = edge_round num e.left.now (numbers num e.top_left.now 0) e.above.now
 
 -- the sides of a block at column x of row y that lie in the tile
 abbrev pub variant_at : (x y : ℕ) → PredictionVariant
@@ -76,20 +69,6 @@ predicted b v mode alpha ac e r c = if is_directional mode then along b e r c el
 abbrev pub alpha_of : IntraParam → ℤ
 alpha_of (Alpha alpha) = alpha
 alpha_of param = pos 0
-
--- the column and the row of the tile at which a region begins
-abbrev pub column_in : {T : Type 0} → PlaneRegionMut T → TileRect → ℕ
-column_in r tile = r.area.x - r.plane_cfg.xorigin - tile.x
-
-abbrev pub row_in : {T : Type 0} → PlaneRegionMut T → TileRect → ℕ
-row_in r tile = r.area.y - r.plane_cfg.yorigin - tile.y
-
--- the mode by which a block there is predicted, and its sides that lie in the tile
-abbrev pub mode_of_block : {T : Type 0} → PlaneRegionMut T → TileRect → PredictionMode → PredictionMode
-mode_of_block r tile mode = effective mode (column_in r tile) (row_in r tile)
-
-abbrev pub variant_of_block : {T : Type 0} → PlaneRegionMut T → TileRect → PredictionVariant
-variant_of_block r tile = variant_at (column_in r tile) (row_in r tile)
 
 -- the angle of a mode and its parameter, and for chroma from luma the weight
 abbrev pub angle_or_alpha : PredictionMode → IntraParam → ℤ

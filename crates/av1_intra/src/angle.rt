@@ -1,7 +1,10 @@
-//! Directions of prediction.
+//! The directions of prediction: the angle of a mode with its parameter, and how far lines of an angle lead.
 
 ghost use Rattle.std.specs.Prelude.{◌≡◌};
 ghost use Rattle.av1_intra.specs.Angles.{derivative};
+ghost use Rattle.av1_intra.specs.Predicted.{alpha_of, angle_or_alpha};
+
+use av1_blocks::{ANGLE_STEP, IntraParam, PredictionMode, intra_mode_to_angle};
 
 /// How far a line of the angle `p_angle`, in degrees, moves along an edge for each sample away from it, in 64ths of a
 /// sample; 0 for an angle that no directional mode asks for.
@@ -40,5 +43,30 @@ pub fn dr_intra_derivative(p_angle: usize) -> usize
         84 => 7,
         87 => 3,
         _ => 0,
+    }
+}
+
+/// The weight of luma in eighths: 0 in a parameter of another kind.
+pub fn alpha_of(intra_param: IntraParam) -> i16
+    ensures { result ≡ alpha_of intra_param }
+{
+    match intra_param {
+        IntraParam::Alpha(alpha) => alpha,
+        _ => 0,
+    }
+}
+
+/// The angle of a mode and its parameter in degrees, and for chroma from luma the weight.
+pub fn angle_or_alpha(mode: PredictionMode, intra_param: IntraParam) -> isize
+    ensures { result ≡ angle_or_alpha mode intra_param }
+{
+    let (step, alpha) = match intra_param {
+        IntraParam::AngleDelta(step) => (step, 0),
+        IntraParam::Alpha(alpha) => (0, alpha),
+        IntraParam::None => (0, 0),
+    };
+    match mode {
+        PredictionMode::UV_CFL_PRED => isize::from(alpha),
+        _ => intra_mode_to_angle(mode) + isize::from(ANGLE_STEP) * isize::from(step),
     }
 }

@@ -15,15 +15,15 @@ ghost use Rattle.av1_intra.specs.Predicted.{edge_round, dc, smoothly, along, pre
 use crate::chroma_from_luma::pred_cfl_to;
 use crate::dc::{half_sample, mean_of, side_mean};
 use crate::directional::{DirectionalBlock, pred_directional_to};
+use crate::fill::fill_block;
 use crate::paeth::pred_paeth_to;
-use crate::rows::fill_block;
 use crate::smooth::{pred_smooth_h_to, pred_smooth_to, pred_smooth_v_to};
 use crate::straight::{pred_h_to, pred_v_to};
 use crate::variant::PredictionVariant;
 use av1_blocks::PredictionMode;
 use av1_frame::{Pixel, StoredArea};
 
-/// The samples of a left side that lie beside a block of `height` rows: the last ones.
+/// Returns the samples of a left side that lie beside a block of `height` rows: the last ones.
 fn beside<T: Pixel>(left: &[T], height: usize) -> &[T]
     ensures last { result.now ≡ drop (length left.now - height) left.now }
     ensures len { length result.now ≡ min height (length left.now) }
@@ -31,7 +31,7 @@ fn beside<T: Pixel>(left: &[T], height: usize) -> &[T]
     &left[left.len().saturating_sub(height)..]
 }
 
-/// The sample of DC prediction, by the sides that lie in the tile.
+/// Returns the sample of DC prediction, by the sides that lie in the tile.
 fn dc_sample<T: Pixel>(
     variant: PredictionVariant,
     above: &[T],
@@ -56,7 +56,7 @@ fn dc_sample<T: Pixel>(
     }
 }
 
-/// Prediction along an angle: 90 and 180 degrees copy a side.
+/// Predicts a rectangle along an angle: 90 and 180 degrees copy a side.
 fn predict_along<T: Pixel>(
     samples: &mut [T],
     stride: usize,
@@ -82,7 +82,7 @@ fn predict_along<T: Pixel>(
     }
 }
 
-/// The modes that mix both sides, and the one that takes the nearest neighbour.
+/// Predicts a rectangle by one of the smooth modes, or by Paeth prediction.
 fn predict_smooth<T: Pixel>(
     mode: PredictionMode,
     samples: &mut [T],
@@ -109,8 +109,8 @@ fn predict_smooth<T: Pixel>(
     }
 }
 
-/// Predicts the samples of a rectangle by an intra mode, from the sides round it: as `dispatch_predict_intra`, over
-/// `samples`, whose rows stand `stride` apart. All samples outside the rectangle stay.
+/// Predicts the samples of a rectangle by an intra mode, from the sides round it. The rows of `samples` stand `stride`
+/// apart. All samples outside the rectangle stay.
 ///
 /// `block` is the rectangle: its sides are those of a transform, and its angle, from 0 to 270 degrees, is that of a
 /// directional mode. With `smooth_filter` the edge filter is on, and tells whether a neighbour has a smooth mode; of

@@ -9,10 +9,10 @@ ghost use Rattle.av1_frame.specs.Areas.{AreRows};
 ghost use Rattle.av1_frame.specs.Samples.{paint, paint_row};
 ghost use Rattle.av1_intra.specs.ChromaFromLuma.{scaled_luma, from_luma, ac_at};
 
-use crate::rows::fill_block;
+use crate::fill::fill_block;
 use av1_frame::{Pixel, StoredArea, clip};
 
-/// A difference of luma at its weight, in 64ths.
+/// Returns a difference of luma times its weight, in 64ths.
 fn weighted(alpha: i16, difference: i16) -> i32
     ensures value { result ≡ alpha *ℤ difference }
     ensures small { unsigned_abs result ≤ 1073741824 }
@@ -20,7 +20,7 @@ fn weighted(alpha: i16, difference: i16) -> i32
     i32::from(alpha) * i32::from(difference)
 }
 
-/// What luma adds to the DC prediction, by its weight `alpha` and its difference from the mean, both in eighths.
+/// Returns what luma adds to the DC prediction. Its weight `alpha` and its difference from the mean are in eighths.
 fn scaled_luma(alpha: i16, difference: i16) -> i32
     ensures value { result ≡ scaled_luma alpha difference }
     ensures small { unsigned_abs result ≤ 16777216 }
@@ -33,7 +33,7 @@ fn scaled_luma(alpha: i16, difference: i16) -> i32
     }
 }
 
-/// The sample whose DC prediction is `dc`.
+/// Returns the sample whose DC prediction is `dc`.
 fn sample_from_luma<T: Pixel>(dc: i32, alpha: i16, difference: i16, bit_depth: usize) -> T
     requires low { pos 0 ≤ℤ dc }
     requires high { dc <ℤ pos 65536 }
@@ -43,7 +43,7 @@ fn sample_from_luma<T: Pixel>(dc: i32, alpha: i16, difference: i16, bit_depth: u
     clip(dc + scaled_luma(alpha, difference), bit_depth)
 }
 
-/// The first `width` samples of a row whose DC prediction is `dc`. Its differences begin at `start` in `ac`.
+/// Predicts the first `width` samples of a row whose DC prediction is `dc`. Its differences begin at `start` in `ac`.
 #[tactic(auto, using(av1_frame::proofs::Paint::row_painting))]
 fn row_from_luma<T: Pixel>(
     row: &mut [T],
@@ -66,7 +66,7 @@ fn row_from_luma<T: Pixel>(
     }
 }
 
-/// A rectangle whose DC prediction is `dc` throughout.
+/// Predicts a rectangle whose DC prediction is `dc` throughout.
 #[tactic(auto, using(av1_frame::proofs::Paint::rectangle_painting))]
 fn block_from_luma<T: Pixel>(
     samples: &mut [T],
@@ -96,7 +96,7 @@ fn block_from_luma<T: Pixel>(
 /// adds to it at the weight `alpha`, clipped to the depth. The rows of `samples` stand `stride` apart.
 ///
 /// `ac` holds the differences of luma from its mean in eighths, row by row (see `pred_cfl_ac`), and `alpha` is in
-/// eighths, too. Without a weight `dc` is kept as it is, and `ac` is not read.
+/// also in eighths. Without a weight `dc` is kept as it is, and `ac` is not read.
 pub fn pred_cfl_to<T: Pixel>(
     samples: &mut [T],
     stride: usize,

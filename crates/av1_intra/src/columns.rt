@@ -1,5 +1,5 @@
-//! Rectangles at an angle between 90 and 180, the part of the left side by columns, that of the side above by rows; and
-//! at an angle past 180, by columns.
+//! Directional prediction past 90 degrees. What the left side gives is made and written column by column, because down
+//! a column each sample lies equally far between two entries; what the side above gives, row by row.
 
 ghost use Rattle.std.specs.Prelude.{◌≡◌, ◌+◌, ◌-◌, ◌*◌, ◌^◌, ◌<◌, ◌≤◌, ℕ, length, nat_le, slice_index, if◌then◌else◌};
 ghost use Rattle.av1_frame.specs.Areas.{AreRows};
@@ -8,11 +8,11 @@ ghost use Rattle.av1_intra.specs.Sides.{entries};
 ghost use Rattle.av1_intra.specs.Angles.{ArePair};
 ghost use Rattle.av1_intra.specs.Directional.{at, between};
 
+use crate::filtered_side::FilteredSide;
 use crate::interpolation::{interpolate_by, interpolate_row};
-use crate::prepared_side::PreparedSide;
 use av1_frame::{Pixel, StoredArea};
 
-/// How far the lines of an angle between 90 and 180 move along each side for each sample away from it, in 64ths of a
+/// How far lines of an angle between 90 and 180 move along each side for each sample away from it, in 64ths of a
 /// sample.
 #[derive(Clone, Copy)]
 pub(crate) struct Slopes {
@@ -22,11 +22,11 @@ pub(crate) struct Slopes {
     pub(crate) dy: usize,
 }
 
-/// The first `width` samples of a row, as far as the side above gives them: the line of column `j` meets it at
-/// `64 * (j + 1) - line` 64ths of a place past the corner, or misses it. The others stay.
+/// Predicts those of the first `width` samples of a row whose lines meet the side above. The line of column `j` meets
+/// it at `64 * (j + 1) - line` 64ths past the corner, if that isn't below 0. Other samples stay.
 fn row_from_above<T: Pixel>(
     row: &mut [T],
-    above: &PreparedSide,
+    above: &FilteredSide,
     line: usize,
     width: usize,
     bit_depth: usize,
@@ -47,14 +47,14 @@ fn row_from_above<T: Pixel>(
     interpolate_row(&mut row[split..width], above, n, bit_depth);
 }
 
-/// The samples of a rectangle that the side above gives at an angle between 90 and 180, whose lines move `dx` 64ths
-/// along it for each row. The others stay.
+/// Predicts the samples of a rectangle whose lines meet the side above, at an angle between 90 and 180. Lines move `dx`
+/// 64ths along the side for each row. Other samples stay.
 #[tactic(auto, using(av1_frame::proofs::Paint::rectangle_painting))]
 fn rows_from_above<T: Pixel>(
     samples: &mut [T],
     stride: usize,
     area: StoredArea,
-    above: &PreparedSide,
+    above: &FilteredSide,
     dx: usize,
     bit_depth: usize,
 )
@@ -79,11 +79,11 @@ fn rows_from_above<T: Pixel>(
     }
 }
 
-/// The first `4 * fours` numbers of a row, from the place on that its line meets at `n / 64` past the corner: four at a
-/// time, which the compiler makes at once. `UPSAMPLING` is that of the side, known to the compiler.
+/// Interpolates `4 * fours` numbers from `n / 64` past the corner on, four in each turn, which the compiler computes at
+/// once. `UPSAMPLING` is that of the side, known to the compiler.
 fn fours_by<const UPSAMPLING: usize>(
     row: &mut [u16],
-    side: &PreparedSide,
+    side: &FilteredSide,
     n: usize,
     fours: usize,
     bit_depth: usize,
@@ -105,7 +105,7 @@ fn fours_by<const UPSAMPLING: usize>(
     }
 }
 
-/// The samples of a rectangle of one column become those of the first numbers of `column`.
+/// Writes the first numbers of `column` into a rectangle of one column.
 #[tactic(auto, using(av1_frame::proofs::Paint::rectangle_painting))]
 fn write_column<T: Pixel>(samples: &mut [T], stride: usize, area: StoredArea, column: &[u16])
     requires rows { AreRows stride area (length samples.old) }
@@ -120,14 +120,14 @@ fn write_column<T: Pixel>(samples: &mut [T], stride: usize, area: StoredArea, co
     }
 }
 
-/// The samples of a rectangle of one column, from the place on that its line meets at `n / 64` past the corner: in a
-/// column each lies as far between two entries as any other. `held` is room for their numbers.
+/// Predicts a rectangle of one column from `n / 64` past the corner of the left side on. `held` is a buffer for its
+/// numbers.
 fn column_by<T: Pixel, const UPSAMPLING: usize>(
     samples: &mut [T],
     stride: usize,
     area: StoredArea,
     held: &mut [u16; 64],
-    left: &PreparedSide,
+    left: &FilteredSide,
     n: usize,
     bit_depth: usize,
 )
@@ -143,7 +143,7 @@ fn column_by<T: Pixel, const UPSAMPLING: usize>(
     write_column(samples, stride, area, held);
 }
 
-/// Column `j` of a rectangle, from its row `first` on.
+/// Returns column `j` of a rectangle, from row `first` on.
 fn column_of(area: StoredArea, j: usize, first: usize) -> StoredArea
     requires fits { (area.x + j < 2 ^ 64) × (area.y + area.height < 2 ^ 64) }
     requires first { first ≤ area.height }
@@ -157,13 +157,13 @@ fn column_of(area: StoredArea, j: usize, first: usize) -> StoredArea
     }
 }
 
-/// The samples of a rectangle that the left side gives at an angle between 90 and 180, column by column. The others
-/// stay. `UPSAMPLING` is that of the side, known to the compiler.
+/// Predicts the samples of a rectangle whose lines meet the left side, at an angle between 90 and 180, column by
+/// column. Other samples stay. `UPSAMPLING` is that of the side, known to the compiler.
 fn columns_by<T: Pixel, const UPSAMPLING: usize>(
     samples: &mut [T],
     stride: usize,
     area: StoredArea,
-    left: &PreparedSide,
+    left: &FilteredSide,
     slopes: Slopes,
     bit_depth: usize,
 )
@@ -191,12 +191,13 @@ fn columns_by<T: Pixel, const UPSAMPLING: usize>(
     }
 }
 
-/// The samples of a rectangle that the left side gives at an angle between 90 and 180. The others stay.
+/// Predicts the samples of a rectangle whose lines meet the left side, at an angle between 90 and 180. Other samples
+/// stay.
 fn columns_from_left<T: Pixel>(
     samples: &mut [T],
     stride: usize,
     area: StoredArea,
-    left: &PreparedSide,
+    left: &FilteredSide,
     slopes: Slopes,
     bit_depth: usize,
 )
@@ -220,14 +221,14 @@ fn columns_from_left<T: Pixel>(
     }
 }
 
-/// The samples of a rectangle, by an angle between 90 and 180 of these slopes: those of the left side by columns, then
-/// those of the side above by rows.
+/// Predicts a rectangle at an angle between 90 and 180 with these slopes: the samples of the left side by columns, then
+/// the samples of the side above by rows.
 pub(crate) fn rows_between<T: Pixel>(
     samples: &mut [T],
     stride: usize,
     area: StoredArea,
-    above: &PreparedSide,
-    left: &PreparedSide,
+    above: &FilteredSide,
+    left: &FilteredSide,
     slopes: Slopes,
     bit_depth: usize,
 )
@@ -248,13 +249,13 @@ pub(crate) fn rows_between<T: Pixel>(
     rows_from_above(samples, stride, area, above, slopes.dx, bit_depth);
 }
 
-/// The samples of a rectangle, by an angle past 180 of derivative `dy`, column by column. `UPSAMPLING` is that of the
-/// side, known to the compiler.
+/// Predicts a rectangle at an angle past 180 of derivative `dy`, column by column. `UPSAMPLING` is that of the side,
+/// known to the compiler.
 fn columns_past_180_by<T: Pixel, const UPSAMPLING: usize>(
     samples: &mut [T],
     stride: usize,
     area: StoredArea,
-    left: &PreparedSide,
+    left: &FilteredSide,
     dy: usize,
     bit_depth: usize,
 )
@@ -274,12 +275,12 @@ fn columns_past_180_by<T: Pixel, const UPSAMPLING: usize>(
     }
 }
 
-/// The samples of a rectangle, by an angle past 180 of derivative `dy`.
+/// Predicts a rectangle at an angle past 180 of derivative `dy`.
 pub(crate) fn columns_past_180<T: Pixel>(
     samples: &mut [T],
     stride: usize,
     area: StoredArea,
-    left: &PreparedSide,
+    left: &FilteredSide,
     dy: usize,
     bit_depth: usize,
 )

@@ -1,4 +1,4 @@
-//! DC prediction: each sample is the mean of those on the sides that lie in the tile.
+//! DC prediction: each sample is the mean of the samples on the sides that lie in the tile.
 //!
 //! AV1 specification: DC intra prediction process.
 
@@ -35,7 +35,7 @@ pub fn mean_of<T: Pixel>(left: &[T], above: &[T]) -> T
 }
 
 /// The mean of the samples of one side.
-pub(crate) fn side_mean<T: Pixel>(side: &[T]) -> T
+pub fn side_mean<T: Pixel>(side: &[T]) -> T
     requires some { 0 < length side.now }
     requires short { length side.now ≤ 64 }
     ensures { result ≡ T.pixel (mean (map T.num side.now)) }
@@ -44,7 +44,7 @@ pub(crate) fn side_mean<T: Pixel>(side: &[T]) -> T
     T::from_u32((sum_of(side) + count / 2) / count)
 }
 
-/// The sample in the middle of the range of this depth: the DC prediction of a block without sides.
+/// Half of the range of samples at this depth: the DC prediction of a block without sides.
 pub fn half_sample<T: Pixel>(bit_depth: usize) -> T
     requires low { 8 ≤ bit_depth }
     requires high { bit_depth ≤ T.BITS }

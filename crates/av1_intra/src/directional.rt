@@ -2,44 +2,38 @@
 //!
 //! AV1 specification: directional intra prediction process.
 
-ghost use Rattle.std.specs.Prelude.{◌≡◌, ℕ, ◌+◌, ◌-◌, ◌^◌, ◌<◌, ◌≤◌, length, List, map, reverse, if◌then◌else◌, nat_lt, IsTrue, pos, ◌-ℤ◌};
-ghost use Rattle.std.specs.Prelude.{FitsSigned};
-ghost use Rattle.std.specs.Int.{w64};
-ghost use Rattle.std.specs.Option.{option_map};
+ghost use Rattle.std.specs.Prelude.{◌≡◌, ℕ, ◌+◌, ◌-◌, ◌<◌, ◌≤◌, length, List, map, reverse, if◌then◌else◌, nat_lt, IsTrue};
 ghost use Rattle.av1_frame.specs.Samples.{paint};
-ghost use Rattle.av1_frame.specs.Regions.{InStorage};
-ghost use Rattle.av1_intra.specs.Neighbours.{uses_smooth_filter};
 ghost use Rattle.av1_intra.specs.Angles.{ArePair, derivative, is_interpolated};
-ghost use Rattle.av1_intra.specs.Directional.{block_at, directional};
+ghost use Rattle.av1_intra.specs.Directional.{directional};
 ghost use Rattle.av1_intra.specs.Blocks.{IsRectangle};
 
 use crate::angle::dr_intra_derivative;
 use crate::columns::{Slopes, columns_past_180, rows_between};
+use crate::filtered_side::{FilteredSide, prepare_above, prepare_left};
 use crate::interpolation::rows_below_90;
-use crate::neighbours::IntraEdgeFilterParameters;
-use crate::prepared_side::{PreparedSide, prepare_above, prepare_left};
-use av1_frame::{Pixel, PlaneRegionMut, StoredArea};
+use av1_frame::{Pixel, StoredArea};
 
-/// A block that is predicted: along a direction, or by a mode that takes none.
+/// A block as an intra mode predicts it.
 #[derive(Clone, Copy)]
 pub struct DirectionalBlock {
-    /// The angle, in degrees; not read by a mode without a direction.
+    /// The angle, in degrees. Only directional modes read it.
     pub p_angle: usize,
-    /// How many columns it has.
+    /// How many columns the block has.
     pub width: usize,
-    /// How many rows it has.
+    /// How many rows the block has.
     pub height: usize,
     /// The depth of its samples, in bits.
     pub bit_depth: usize,
-    /// Whether a neighbour has a smooth mode, where the edge filter is on.
+    /// Whether a neighbour has a smooth mode; `None` if the edge filter is off.
     pub smooth_filter: Option<bool>,
-    /// How many visible columns of the plane there are from its first on.
+    /// How many visible columns of the plane there are from the block's first on.
     pub visible_columns: usize,
-    /// How many visible rows of the plane there are from its first on.
+    /// How many visible rows of the plane there are from the block's first on.
     pub visible_rows: usize,
 }
 
-/// The samples of an angle below 90.
+/// Predicts a rectangle at an angle below 90.
 fn directional_below_90<T: Pixel>(
     samples: &mut [T],
     stride: usize,
@@ -59,12 +53,12 @@ fn directional_below_90<T: Pixel>(
     let dx = dr_intra_derivative(block.p_angle);
     let places = block.width + block.height;
     let smoothed = block.width.min(block.visible_columns) + block.height;
-    let mut side = PreparedSide::empty();
+    let mut side = FilteredSide::empty();
     prepare_above(&mut side, above, corner, block, smoothed, places);
     rows_below_90(samples, stride, area, &side, places, dx, block.bit_depth);
 }
 
-/// How far lines of an angle between 90 and 180 lead along each side.
+/// Returns how far lines of an angle between 90 and 180 move along each side.
 fn slopes_of(p_angle: usize) -> Slopes
     requires angle { IsTrue (is_interpolated p_angle) }
     requires low { 90 < p_angle }
@@ -79,7 +73,7 @@ fn slopes_of(p_angle: usize) -> Slopes
     }
 }
 
-/// The samples of an angle between 90 and 180.
+/// Predicts a rectangle at an angle between 90 and 180.
 fn directional_between<T: Pixel>(
     samples: &mut [T],
     stride: usize,
@@ -101,10 +95,10 @@ fn directional_between<T: Pixel>(
 {
     let slopes = slopes_of(block.p_angle);
     let columns = block.width.min(block.visible_columns);
-    let mut above_side = PreparedSide::empty();
+    let mut above_side = FilteredSide::empty();
     prepare_above(&mut above_side, above, corner, block, columns, block.width);
     let rows = block.height.min(block.visible_rows);
-    let mut left_side = PreparedSide::empty();
+    let mut left_side = FilteredSide::empty();
     prepare_left(&mut left_side, left, corner, block, rows, block.height);
     rows_between(
         samples,
@@ -117,7 +111,7 @@ fn directional_between<T: Pixel>(
     );
 }
 
-/// How far down a line of an angle past 180 leads for each column, in 64ths of a sample.
+/// Returns how far down a line of an angle past 180 moves for each column, in 64ths of a sample.
 fn derivative_past_180(p_angle: usize) -> usize
     requires angle { IsTrue (is_interpolated p_angle) }
     requires range { 180 < p_angle }
@@ -128,7 +122,7 @@ fn derivative_past_180(p_angle: usize) -> usize
     dr_intra_derivative(270 - p_angle)
 }
 
-/// The samples of an angle past 180.
+/// Predicts a rectangle at an angle past 180.
 fn directional_past_180<T: Pixel>(
     samples: &mut [T],
     stride: usize,
@@ -148,14 +142,19 @@ fn directional_past_180<T: Pixel>(
     let dy = derivative_past_180(block.p_angle);
     let places = block.height + block.width;
     let smoothed = block.height.min(block.visible_rows) + block.width;
-    let mut side = PreparedSide::empty();
+    let mut side = FilteredSide::empty();
     prepare_left(&mut side, left, corner, block, smoothed, places);
     columns_past_180(samples, stride, area, &side, dy, block.bit_depth);
 }
 
-/// Predicts the samples of a rectangle along the angle of `block`, whose width and height are the rectangle's: as
-/// `pred_directional`, from sides of the same places and the sample `corner` above the left one. The rows of `samples`
-/// stand `stride` apart.
+/// Predicts the samples of a rectangle along the angle of `block`: one that a directional mode and an angle step from
+/// -3 to 3 give, except 90 and 180, which copy a side. The rows of `samples` stand `stride` apart.
+///
+/// `above` runs from the left, and has `block.height` more samples if the angle is below 90. `left` runs from the
+/// bottom up, its last sample stands beside the first row, and it has `block.width` more samples if the angle is past
+/// 180. `corner` stands between them. A side that the angle doesn't meet is not read.
+///
+/// AV1 specification: directional intra prediction process.
 pub fn pred_directional_to<T: Pixel>(
     samples: &mut [T],
     stride: usize,
@@ -179,48 +178,5 @@ pub fn pred_directional_to<T: Pixel>(
         directional_between(samples, stride, area, above, left, corner, block);
     } else {
         directional_past_180(samples, stride, area, left, corner, block);
-    }
-}
-
-/// Whether a neighbour is smooth, where the edge filter is on.
-fn smooth_choice(ief_params: Option<IntraEdgeFilterParameters>) -> Option<bool>
-    ensures { result ≡ option_map uses_smooth_filter ief_params }
-{
-    match ief_params {
-        Some(parameters) => Some(parameters.use_smooth_filter()),
-        None => None,
-    }
-}
-
-/// How many of `visible` samples there are from `first` on, which counts from the first of them and may lie before it.
-fn visible_from(visible: usize, first: isize) -> usize
-    requires visible { visible < 2 ^ 63 }
-    requires fits { FitsSigned w64 (pos visible -ℤ first) }
-    ensures { (origin place : ℕ) → first ≡ pos place -ℤ pos origin → result ≡ origin + visible - place }
-{
-    (visible as isize - first).max(0) as usize
-}
-
-/// The block of these sides at the first sample of a region, along an angle.
-pub(crate) fn block_in<T: Pixel>(
-    region: &PlaneRegionMut<'_, T>,
-    p_angle: usize,
-    width: usize,
-    height: usize,
-    bit_depth: usize,
-    ief_params: Option<IntraEdgeFilterParameters>,
-) -> DirectionalBlock
-    requires fits { InStorage region.now }
-    ensures { result ≡ block_at region.now p_angle width height bit_depth ief_params }
-{
-    let rect = *region.rect();
-    DirectionalBlock {
-        p_angle,
-        width,
-        height,
-        bit_depth,
-        smooth_filter: smooth_choice(ief_params),
-        visible_columns: visible_from(region.plane_cfg.width, rect.x),
-        visible_rows: visible_from(region.plane_cfg.height, rect.y),
     }
 }

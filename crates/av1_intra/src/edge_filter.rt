@@ -1,4 +1,4 @@
-//! The filter of a side before it is interpolated.
+//! The edge filter: how strongly a side is smoothed before it is interpolated, and by which weights.
 
 ghost use Rattle.std.specs.Prelude.{◌≡◌, ℕ, ◌+◌, ◌-◌, ◌/◌, ◌^◌, ◌<◌, ◌≤◌, List, [], ◌∷◌, length, min, unsigned_abs, true, false};
 ghost use Rattle.av1_frame.specs.Samples.{paint_row};
@@ -35,7 +35,7 @@ pub fn select_ief_strength(
     }
 }
 
-/// The strength beside a neighbour with a smooth mode.
+/// Returns the strength if a neighbour has a smooth mode.
 #[tactic(auto, using(std::proofs::lemmas::Bool::Decides::nat_tests))]
 fn smooth_strength(sides: usize, delta: usize) -> u8
     ensures value { result ≡ filter_strength sides true delta }
@@ -53,7 +53,7 @@ fn smooth_strength(sides: usize, delta: usize) -> u8
     }
 }
 
-/// The strength where no neighbour has one.
+/// Returns the strength if no neighbour has a smooth mode.
 #[tactic(auto, using(std::proofs::lemmas::Bool::Decides::nat_tests))]
 fn plain_strength(sides: usize, delta: usize) -> u8
     ensures value { result ≡ filter_strength sides false delta }
@@ -74,7 +74,7 @@ fn plain_strength(sides: usize, delta: usize) -> u8
     }
 }
 
-/// Five samples by the weights of a strength, rounded.
+/// Returns the mean of five samples by the weights of a strength, rounded.
 #[tactic(auto, using(std::proofs::lemmas::Bool::Decides::nat_tests))]
 fn smoothed<const STRENGTH: usize>(a: u32, b: u32, c: u32, d: u32, e: u32) -> u32
     requires strength { (1 ≤ STRENGTH) × (STRENGTH ≤ 3) }
@@ -94,8 +94,8 @@ fn smoothed<const STRENGTH: usize>(a: u32, b: u32, c: u32, d: u32, e: u32) -> u3
     (sum + 8) / 16
 }
 
-/// Smooths entry `i`, of which `next` and `second` are those on its right, and returns what it was; `a` and `b` are
-/// what the two before it were.
+/// Smooths entry `i` and returns what it was. `next` and `second` are the indices of the two entries on its right; `a`
+/// and `b` are what the two entries before it were.
 fn smooth_entry<T: Pixel, const STRENGTH: usize>(
     edge: &mut [T],
     i: usize,
@@ -121,8 +121,8 @@ fn smooth_entry<T: Pixel, const STRENGTH: usize>(
     c
 }
 
-/// Smooths four entries with two behind them, which the compiler smooths at once, and returns what the last two of them
-/// were; `a` and `b` are what the two before them were.
+/// Smooths four entries that two others follow, and returns what the last two of the four were. The compiler smooths
+/// the four at once. `a` and `b` are what the two entries before them were.
 fn smooth_four<T: Pixel, const STRENGTH: usize>(
     edge: &mut [T],
     first: usize,
@@ -179,7 +179,7 @@ fn smooth_rest<T: Pixel, const STRENGTH: usize>(
     }
 }
 
-/// As `filter_edge`, where two entries or more are smoothed by a strength that the compiler knows.
+/// Smooths two entries or more as `filter_edge` does, by a strength that the compiler knows.
 fn filter_by<T: Pixel, const STRENGTH: usize>(size: usize, edge: &mut [T])
     requires strength { (1 ≤ STRENGTH) × (STRENGTH ≤ 3) }
     requires some { 2 ≤ size }

@@ -1,4 +1,4 @@
-//! Rows of a block along a direction.
+//! Rows of a block that a line interpolates between the samples of one side.
 
 ghost use Rattle.std.specs.Prelude.{◌≡◌, ◌+◌, ◌-◌, ◌*◌, ◌/◌, ◌^◌, ◌<◌, ◌≤◌, length};
 ghost use Rattle.av1_frame.specs.Areas.{AreRows};
@@ -6,15 +6,15 @@ ghost use Rattle.av1_frame.specs.Samples.{paint, paint_row};
 ghost use Rattle.av1_intra.specs.Sides.{entries};
 ghost use Rattle.av1_intra.specs.Directional.{at, below_90};
 
-use crate::prepared_side::PreparedSide;
+use crate::filtered_side::FilteredSide;
 use av1_frame::{Pixel, StoredArea, clip, fill_row};
 
-/// The samples of a row from the place on that its line meets at `n / 64` past the corner. `UPSAMPLING` is that of the
-/// side, known to the compiler.
+/// Interpolates a row of samples from `n / 64` past the corner of the side on. `UPSAMPLING` is that of the side, known
+/// to the compiler.
 #[tactic(auto, using(av1_frame::proofs::Paint::row_painting), unfolding(crate::specs::Directional::at))]
 pub(crate) fn interpolate_by<T: Pixel, const UPSAMPLING: usize>(
     row: &mut [T],
-    side: &PreparedSide,
+    side: &FilteredSide,
     n: usize,
     bit_depth: usize,
 )
@@ -32,10 +32,10 @@ pub(crate) fn interpolate_by<T: Pixel, const UPSAMPLING: usize>(
     }
 }
 
-/// The samples of a row from the place on that its line meets at `n / 64` past the corner.
+/// Interpolates a row of samples from `n / 64` past the corner of the side on.
 pub(crate) fn interpolate_row<T: Pixel>(
     row: &mut [T],
-    side: &PreparedSide,
+    side: &FilteredSide,
     n: usize,
     bit_depth: usize,
 )
@@ -53,12 +53,12 @@ pub(crate) fn interpolate_row<T: Pixel>(
     }
 }
 
-/// The first `width` samples of a row whose line meets the side above at `n / 64` of a place past the corner; past the
-/// last of its `sides` places that is repeated.
+/// Predicts the first `width` samples of a row whose line meets the side above at `n / 64` past the corner. Past the
+/// last of its `sides` samples that sample is repeated.
 #[tactic(auto, unfolding(crate::specs::Directional::below_90))]
 fn row_below_90<T: Pixel>(
     row: &mut [T],
-    above: &PreparedSide,
+    above: &FilteredSide,
     sides: usize,
     n: usize,
     width: usize,
@@ -80,14 +80,14 @@ fn row_below_90<T: Pixel>(
     fill_row(&mut row[count..width], end, width - count);
 }
 
-/// The samples of a rectangle, by an angle below 90 of derivative `dx`; past the last of its `sides` places the side
-/// above repeats.
+/// Predicts a rectangle at an angle below 90 of derivative `dx`. Past the last of the `sides` samples above, that
+/// sample is repeated.
 #[tactic(auto, using(av1_frame::proofs::Paint::rectangle_painting))]
 pub(crate) fn rows_below_90<T: Pixel>(
     samples: &mut [T],
     stride: usize,
     area: StoredArea,
-    above: &PreparedSide,
+    above: &FilteredSide,
     sides: usize,
     dx: usize,
     bit_depth: usize,

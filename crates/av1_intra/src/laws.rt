@@ -35,7 +35,7 @@ pub fn lines_meet_their_sides()
         → entry u ((j + 1) * derivative (270 - p) + 64) i + 1 ≤ (w + h) * 2 ^ u }
 {}
 
-/// A directional mode turned by at most three steps of 3 degrees has an angle that `pred_directional` admits, but for
+/// A directional mode turned by at most three steps of 3 degrees has an angle that `pred_directional_to` takes, except
 /// 90 and 180.
 pub fn modes_have_angles()
     ensures { (mode : PredictionMode) (step : ℤ) (p : ℕ) → IsTrue (is_directional mode) → unsigned_abs step ≤ 3

@@ -1,4 +1,4 @@
-//! How far the luma over each sample of chroma is from its mean.
+//! The luma over each sample of chroma, less its mean: what chroma from luma adds to a block.
 //!
 //! AV1 specification: predict chroma from luma process.
 
@@ -51,7 +51,7 @@ pub(crate) struct ChromaBlock {
     pub(crate) xdec: usize,
     /// 1 where chroma has half of the rows, else 0.
     pub(crate) ydec: usize,
-    /// The last column of luma from which a sample of chroma takes its luma; those past it take theirs there, too.
+    /// The last column of luma from which a sample of chroma takes its luma; those past it take theirs there as well.
     pub(crate) last_column: usize,
     /// The last row of luma from which a sample of chroma takes its luma.
     pub(crate) last_row: usize,
@@ -320,7 +320,7 @@ impl LumaLeaf {
     }
 
     /// How many samples of chroma it has.
-    pub(crate) fn area(self) -> usize
+    pub fn area(self) -> usize
         requires xdec { self.xdec ≤ 1 }
         requires ydec { self.ydec ≤ 1 }
         ensures { result ≡ (chroma_block self).width * (chroma_block self).height }

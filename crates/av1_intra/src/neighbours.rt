@@ -1,4 +1,4 @@
-//! What the edge filter is told of the neighbours of a block.
+//! What the edge filter reads of the neighbours of a block: whether one has a smooth mode.
 //!
 //! AV1 specification: intra filter type process.
 
@@ -121,5 +121,15 @@ impl IntraEdgeFilterParameters {
     {
         is_smooth_in(self.plane, self.above_ref_frame_types, self.above_mode)
             || is_smooth_in(self.plane, self.left_ref_frame_types, self.left_mode)
+    }
+}
+
+/// Whether a neighbour has a smooth mode, if the edge filter is on. Without parameters it is off.
+pub fn smooth_filter_of(ief_params: Option<IntraEdgeFilterParameters>) -> Option<bool>
+    ensures { result ≡ option_map uses_smooth_filter ief_params }
+{
+    match ief_params {
+        Some(parameters) => Some(parameters.use_smooth_filter()),
+        None => None,
     }
 }

@@ -2,7 +2,7 @@
 //!
 //! AV1 specification: basic intra prediction process.
 
-ghost use Rattle.std.specs.Prelude.{◌≡◌, ◌^◌, ◌<◌, ◌≤◌, ℕ, length, slice_index, ◌⊎◌};
+ghost use Rattle.std.specs.Prelude.{◌≡◌, ◌^◌, ◌<◌, ◌≤◌, length, ◌⊎◌};
 ghost use Rattle.av1_frame.specs.Areas.{AreRows};
 ghost use Rattle.av1_frame.specs.Samples.{paint, paint_row};
 ghost use Rattle.av1_intra.specs.Sides.{numbers, from_top};
@@ -11,7 +11,7 @@ ghost use Rattle.av1_intra.specs.Paeth.{paeth};
 use crate::samples::number_at;
 use av1_frame::{Pixel, StoredArea};
 
-/// The one of `left`, `above` and `corner` that is nearest to `above + left - corner`.
+/// Returns the one of `left`, `above` and `corner` that is nearest to `above + left - corner`.
 #[tactic(auto, using(std::proofs::lemmas::Bool::Decides::nat_tests), unfolding(crate::specs::Paeth::paeth))]
 fn nearest(above: u32, left: u32, corner: u32) -> u32
     requires above { above < 2 ^ 16 }
@@ -32,7 +32,7 @@ fn nearest(above: u32, left: u32, corner: u32) -> u32
     }
 }
 
-/// The first `width` samples of a row beside the sample at place `k` of `left`.
+/// Predicts the first `width` samples of the row beside sample `k` of `left`.
 #[tactic(auto, using(av1_frame::proofs::Paint::row_painting))]
 fn paeth_row<T: Pixel>(
     row: &mut [T],
@@ -54,76 +54,14 @@ fn paeth_row<T: Pixel>(
     }
 }
 
-/// The numbers of the first `width` samples of the side above, in the first entries of `held`.
-#[inline(always)]
-#[tactic(auto, using(av1_frame::proofs::Paint::row_painting))]
-fn hold_above<T: Pixel>(held: &mut [u32; 16], above: &[T], width: usize)
-    requires width { width ≤ 16 }
-    requires above_long { width ≤ length above.now }
-    ensures painted { held.new ≡ paint_row width (λ c _. numbers T.num above.now c) held.old }
-    ensures fits { (c : ℕ) → c < width → numbers T.num above.now c < 2 ^ T.BITS }
-{
-    for c in 0..width {
-        held[c] = number_at(above, c);
-    }
-}
-
-/// As `paeth_row`, where `above` has the numbers of the side above.
-#[inline(always)]
-#[tactic(auto, using(av1_frame::proofs::Paint::row_painting))]
-fn row_below<T: Pixel>(
-    row: &mut [T],
-    above: &[u32; 16],
-    left: &[T],
-    k: usize,
-    above_left: T,
-    width: usize,
-)
-    requires row_long { width ≤ length row.old }
-    requires width { width ≤ 16 }
-    requires left_long { k < length left.now }
-    requires fits { (c : ℕ) → c < width → slice_index above.now c < 2 ^ T.BITS }
-    ensures { row.new ≡ paint_row width (λ c _. T.pixel (paeth (slice_index above.now c) (numbers T.num left.now k) (T.num above_left))) row.old }
-{
-    let side = number_at(left, k);
-    let corner = above_left.to_u32();
-    for c in 0..width {
-        row[c] = T::from_u32(nearest(above[c], side, corner));
-    }
-}
-
-/// As `pred_paeth_to`, in line, so that the compiler knows the width of the rows, and reads the side above once.
-#[inline(always)]
+/// Predicts the samples of a rectangle: each becomes the one of the sample `above` its column, the `left` one of its
+/// row and the corner `above_left` that is nearest to the first two less the third. The rows of `samples` stand
+/// `stride` apart.
+///
+/// `above` runs from the left, and `left` from the bottom up: of as many samples as the rectangle has rows, the last is
+/// that of the first row. Samples past those beside the rectangle are not read.
 #[tactic(auto, using(av1_frame::proofs::Paint::rectangle_painting))]
-fn paeth_below<T: Pixel>(
-    samples: &mut [T],
-    stride: usize,
-    area: StoredArea,
-    above: &[T],
-    left: &[T],
-    above_left: T,
-    width: usize,
-)
-    requires rows { AreRows stride area (length samples.old) }
-    requires width { area.width ≡ width }
-    requires few { width ≤ 16 }
-    requires above_long { width ≤ length above.now }
-    requires left_long { area.height ≤ length left.now }
-    ensures { samples.new ≡ paint stride area (λ r c _. T.pixel (paeth (numbers T.num above.now c) (from_top T.num area.height left.now r) (T.num above_left)))
-        samples.old }
-{
-    let mut held = [0; 16];
-    hold_above(&mut held, above, width);
-    for r in 0..area.height {
-        let k = area.height - 1 - r;
-        let (_, row) = samples.split_at_mut((area.y + r) * stride + area.x);
-        row_below(row, &held, left, k, above_left, width);
-    }
-}
-
-/// As `pred_paeth_to`, row by row.
-#[tactic(auto, using(av1_frame::proofs::Paint::rectangle_painting))]
-fn paeth_rows<T: Pixel>(
+pub fn pred_paeth_to<T: Pixel>(
     samples: &mut [T],
     stride: usize,
     area: StoredArea,
@@ -141,33 +79,5 @@ fn paeth_rows<T: Pixel>(
         let k = area.height - 1 - r;
         let (_, row) = samples.split_at_mut((area.y + r) * stride + area.x);
         paeth_row(row, above, left, k, above_left, area.width);
-    }
-}
-
-/// Predicts the samples of a rectangle: each becomes the one of the sample `above` its column, the `left` one of its
-/// row and the corner `above_left` that is nearest to the first two less the third. The rows of `samples` stand
-/// `stride` apart.
-///
-/// `above` runs from the left, and `left` from the bottom up: of as many samples as the rectangle has rows, the last is
-/// that of the first row. Samples past those beside the rectangle are not read.
-pub fn pred_paeth_to<T: Pixel>(
-    samples: &mut [T],
-    stride: usize,
-    area: StoredArea,
-    above: &[T],
-    left: &[T],
-    above_left: T,
-)
-    requires rows { AreRows stride area (length samples.old) }
-    requires above_long { area.width ≤ length above.now }
-    requires left_long { area.height ≤ length left.now }
-    ensures { samples.new ≡ paint stride area (λ r c _. T.pixel (paeth (numbers T.num above.now c) (from_top T.num area.height left.now r) (T.num above_left)))
-        samples.old }
-{
-    match area.width {
-        4 => paeth_below(samples, stride, area, above, left, above_left, 4),
-        8 => paeth_below(samples, stride, area, above, left, above_left, 8),
-        16 => paeth_below(samples, stride, area, above, left, above_left, 16),
-        _ => paeth_rows(samples, stride, area, above, left, above_left),
     }
 }

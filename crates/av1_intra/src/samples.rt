@@ -1,11 +1,11 @@
-//! Samples as numbers.
+//! Reads a sample as a number.
 
 ghost use Rattle.std.specs.Prelude.{◌≡◌, ◌^◌, ◌<◌, length};
 ghost use Rattle.av1_intra.specs.Sides.{numbers};
 
 use av1_frame::Pixel;
 
-/// The number of the sample at place `k`.
+/// Returns the number of sample `k`.
 pub(crate) fn number_at<T: Pixel>(samples: &[T], k: usize) -> u32
     requires { k < length samples.now }
     ensures value { result ≡ numbers T.num samples.now k }

@@ -31,7 +31,7 @@ const WEIGHTS_64: [u8; 64] = [
     35, 32, 29, 27, 25, 22, 20, 18, 16, 15, 13, 12, 10, 9, 8, 7, 6, 6, 5, 5, 4, 4, 4,
 ];
 
-/// The weights of the places of a side of `n` samples, in 256ths, from the first place on.
+/// Returns the weights of the samples of a side of `n`, in 256ths, from the first sample on.
 #[tactic(auto, using(std::proofs::lemmas::Bool::Decides::nat_tests), unfolding(crate::specs::Smooth::weights))]
 fn smooth_weights(n: usize) -> &'static [u8]
     requires { IsTransformSide n }
@@ -47,7 +47,7 @@ fn smooth_weights(n: usize) -> &'static [u8]
     }
 }
 
-/// 256 times the mean of `a`, by `weight` in 256ths, and `b`.
+/// Returns 256 times the mean of `a`, which weighs `weight` 256ths, and `b`.
 #[tactic(auto, using(crate::proofs::Mixes::mix_within))]
 fn mixed(weight: u8, a: u32, b: u32) -> u32
     requires a { a < 2 ^ 16 }
@@ -60,8 +60,8 @@ fn mixed(weight: u8, a: u32, b: u32) -> u32
     weight * a + (256 - weight) * b
 }
 
-/// The first `width` samples of a row, from the samples above it, the one at place `k` of `left`, the lowest one on the
-/// left and the last one above.
+/// Predicts the first `width` samples of a row from the samples above it, sample `k` of `left`, the lowest sample on
+/// the left and the last one above.
 #[tactic(auto, using(av1_frame::proofs::Paint::row_painting))]
 fn smooth_row<T: Pixel>(
     row: &mut [T],
@@ -93,7 +93,7 @@ fn smooth_row<T: Pixel>(
     }
 }
 
-/// The first `width` samples of a row, from the samples above it and the lowest one on the left.
+/// Predicts the first `width` samples of a row from the samples above it and the lowest sample on the left.
 #[tactic(auto, using(av1_frame::proofs::Paint::row_painting))]
 fn smooth_v_row<T: Pixel>(row: &mut [T], above: &[T], left: &[T], weight: u8, width: usize)
     requires row_long { width ≤ length row.old }
@@ -108,7 +108,7 @@ fn smooth_v_row<T: Pixel>(row: &mut [T], above: &[T], left: &[T], weight: u8, wi
     }
 }
 
-/// The first `width` samples of a row, from the sample at place `k` of `left` and the last one above.
+/// Predicts the first `width` samples of a row from sample `k` of `left` and the last sample above.
 #[tactic(auto, using(av1_frame::proofs::Paint::row_painting))]
 fn smooth_h_row<T: Pixel>(
     row: &mut [T],

@@ -1,4 +1,4 @@
-//! Straight prediction: a row or a column of samples, copied over the block.
+//! Prediction straight down and across: a row or a column of samples is copied over the block.
 //!
 //! AV1 specification: directional intra prediction process, for the angles 90 and 180.
 
@@ -20,9 +20,6 @@ pub fn pred_v_to<T: Pixel>(samples: &mut [T], stride: usize, area: StoredArea, a
     match area.width {
         4 => copy_down(samples, stride, area, above, 4),
         8 => copy_down(samples, stride, area, above, 8),
-        16 => copy_down(samples, stride, area, above, 16),
-        32 => copy_down(samples, stride, area, above, 32),
-        64 => copy_down(samples, stride, area, above, 64),
         _ => copy_down(samples, stride, area, above, area.width),
     }
 }
@@ -48,8 +45,8 @@ fn copy_down<T: Pixel>(
     }
 }
 
-/// Predicts the samples of a rectangle: each row becomes its sample of `left`, again and again. The rows of `samples`
-/// stand `stride` apart.
+/// Predicts the samples of a rectangle: each row becomes its sample of `left`, repeated. The rows of `samples` stand
+/// `stride` apart.
 ///
 /// `left` runs from the bottom up: of as many samples as the rectangle has rows, the last is that of the first row.
 /// Samples past those are not read.
@@ -61,14 +58,11 @@ pub fn pred_h_to<T: Pixel>(samples: &mut [T], stride: usize, area: StoredArea, l
     match area.width {
         4 => copy_across(samples, stride, area, left, 4),
         8 => copy_across(samples, stride, area, left, 8),
-        16 => copy_across(samples, stride, area, left, 16),
-        32 => copy_across(samples, stride, area, left, 32),
-        64 => copy_across(samples, stride, area, left, 64),
         _ => copy_across(samples, stride, area, left, area.width),
     }
 }
 
-/// The first `width` samples of a row become the sample at place `k` of `left`.
+/// Fills the first `width` samples of a row with sample `k` of `left`.
 #[inline(always)]
 fn copy_along<T: Pixel>(row: &mut [T], left: &[T], k: usize, width: usize)
     requires row_long { width ≤ length row.old }

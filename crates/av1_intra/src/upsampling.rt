@@ -1,4 +1,4 @@
-//! Upsampling: twice the places of a side, before it is interpolated.
+//! Upsampling: a side gets a new sample between each two, before it is interpolated.
 
 ghost use Rattle.std.specs.Prelude.{◌≡◌, ◌+◌, ◌-◌, ◌*◌, ◌/◌, ◌^◌, ◌<◌, ◌≤◌, length, unsigned_abs, pos};
 ghost use Rattle.av1_frame.specs.Arithmetic.{clip};

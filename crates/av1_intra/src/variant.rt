@@ -8,9 +8,9 @@ ghost use Rattle.av1_intra.specs.Predicted.{variant_at};
 pub enum PredictionVariant {
     /// Neither.
     NONE,
-    /// The left one alone.
+    /// Only the left one.
     LEFT,
-    /// The one above alone.
+    /// Only the one above.
     TOP,
     /// Both.
     BOTH,

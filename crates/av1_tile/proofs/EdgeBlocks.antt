@@ -1,23 +1,27 @@
 -- A transform block that is predicted from its edge: what the two calls of prediction say, in the walk's words.
-use Rattle.std.proofs.Common.{ℕ, ◌+◌, ◌-◌, ◌*◌, ◌/◌, ◌%◌, ◌<◌, ◌≤◌, ◌≡◌, List, [], ◌∷◌, length, map, reverse, refl, ap, arith, ◌∙◌, sym, subst, Option, Some, ℤ}
-use Rattle.std.proofs.Common.{pos}
+use Rattle.std.proofs.Common.{ℕ, ◌-◌, ◌*◌, ◌+◌, ◌/◌, ◌%◌, ◌<◌, ◌≤◌, ◌≡◌, ◌≢◌, List, length, map, reverse, refl, ap, arith, ◌∙◌, sym, subst, Option, Some, ℤ}
+use Rattle.std.proofs.Common.{pos, true, false}
 use Rattle.std.specs.Prelude.{unsigned_abs, option_map}
 use Rattle.std.proofs.lemmas.List.{reverse-reverse, length-reverse}
 use mathlib.Core.Path.{fun_ext}
 use Rattle.av1_blocks.specs.declared.predict.PredictionMode.{PredictionMode}
+use Rattle.av1_blocks.specs.declared.predict.PredictionMode.TheVariants.{UV_CFL_PRED}
 use Rattle.av1_blocks.specs.declared.predict.IntraParam.{IntraParam}
+use Rattle.av1_blocks.specs.Modes.{is_cfl, is_directional}
 use Rattle.av1_blocks.specs.Transforms.{tx_width, tx_height}
 use Rattle.av1_avail.specs.Asked.{takes_above_right, takes_below_left}
-use Rattle.av1_edges.specs.declared.edge.IntraEdge.{IntraEdge}
 use Rattle.av1_edges.specs.Edges.{Edge, prepared_edge, region_sample, visible_columns, visible_rows}
 use Rattle.av1_edges.specs.Edges.{position_of}
 use Rattle.av1_edges.specs.Parts.{effective, step_of}
 use Rattle.av1_lists.proofs.Lists.{length-by_index, length_shown}
-use Rattle.av1_intra.specs.Predicted.{edge_of, predicted, places_above, places_left, variant_at, angle_or_alpha, column_in, row_in, mode_of_block}
-use Rattle.av1_intra.specs.Predicted.{variant_of_block}
-use Rattle.av1_intra.specs.Directional.{block_at}
+use Rattle.av1_intra.specs.Angles.{is_interpolated}
+use Rattle.av1_intra.specs.ChromaFromLuma.{ac_at}
+use Rattle.av1_intra.specs.Predicted.{edge_round, predicted, places_above, places_left, variant_at, alpha_of, angle_or_alpha}
 use Rattle.av1_intra.specs.Neighbours.{uses_smooth_filter}
+use Rattle.av1_intra.specs.declared.directional.DirectionalBlock.{DirectionalBlock}
 use Rattle.av1_intra.specs.declared.neighbours.IntraEdgeFilterParameters.{IntraEdgeFilterParameters}
+use Rattle.av1_intra.specs.declared.variant.PredictionVariant.{PredictionVariant}
+use Rattle.av1_intra.proofs.ByMode.{angle_fine, angle_given, weighed_alike}
 use Rattle.av1_intra.proofs.EdgeLengths.{enough_above, enough_left}
 use Rattle.av1_edges.proofs.WholePlane.{IsAllVisible, whole_columns, whole_rows, whole_sample}
 use Rattle.av1_frame.specs.declared.block_unit.TileBlockOffset.{TileBlockOffset}
@@ -25,9 +29,6 @@ use Rattle.av1_frame.specs.declared.plane.Plane.{Plane}
 use Rattle.av1_frame.specs.declared.plane.PlaneConfig.{PlaneConfig}
 use Rattle.av1_frame.specs.declared.plane.PlaneOffset.{PlaneOffset}
 use Rattle.av1_frame.specs.declared.plane_region.PlaneRegion.{PlaneRegion}
-use Rattle.av1_frame.specs.declared.plane_region.PlaneRegionMut.{PlaneRegionMut}
-use Rattle.av1_frame.specs.declared.plane_region.StoredArea.{StoredArea}
-use Rattle.av1_frame.specs.declared.tile_state.TileRect.{TileRect}
 use Rattle.av1_frame.specs.Areas.{all_visible, stored_area}
 use Rattle.av1_frame.specs.Planes.{sample_at}
 use Rattle.av1_plan.specs.declared.header.Header.{Header}
@@ -96,79 +97,82 @@ module _ {T : Type 0} (num : T → ℕ) (h : Header) (block : PlaneBlock) (at : 
 -- ---- the edge in its buffer
 
 -- the edge that is handed on is the one whose numbers these are
-pub edge_held : {T : Type 0} (num : T → ℕ) (e : IntraEdge T) (E : Edge) → map num e.left.now ≡ reverse E.left → map num e.top_left.now ≡ E.corner ∷ [] →
-    map num e.above.now ≡ E.above → edge_of num e ≡ E
-edge_held num e E left corner above = rw (left, corner, above, reverse-reverse E.left) refl
+pub edge_held : {T : Type 0} (num : T → ℕ) (left : List T) (corner : T) (above : List T) (E : Edge) → map num left ≡ reverse E.left → num corner ≡ E.corner →
+    map num above ≡ E.above → edge_round num left (num corner) above ≡ E
+edge_held num left corner above E l k a = rw (l, k, a, reverse-reverse E.left) refl
 
--- ---- the region that is predicted
+-- ---- the rectangle that is predicted
 
--- the block's rectangle of its plane
-module _ {T : Type 0} (num : T → ℕ) (h : Header) (block : PlaneBlock) (at : BlockPlace) (r : PlaneRegionMut T) (tile : TileRect) (tile_x : tile.x ≡ 0)
-    (tile_y : tile.y ≡ 0)
-    (place : r.area ≡ stored_area r.plane_cfg (area_at block at)) where
-  column_at : column_in r tile ≡ at.x
-  column_at = let e : r.area.x ≡ r.plane_cfg.xorigin + at.x = ap (λ (a : StoredArea). a.x) place in omega (arith, e, tile_x)
+-- the block as a mode predicts it
+abbrev pub rectangle_by : Header → PlaneBlock → BlockPlace → Option IntraEdgeFilterParameters → PredictionMode → IntraParam → DirectionalBlock
+rectangle_by h block at filter mode param = record {
+  p_angle = unsigned_abs (angle_or_alpha mode param);
+  width = tx_width block.area.tx_size;
+  height = tx_height block.area.tx_size;
+  bit_depth = h.depth;
+  smooth_filter = option_map uses_smooth_filter filter;
+  visible_columns = plane_width h block.plane - at.x;
+  visible_rows = plane_height h block.plane - at.y;
+}
 
-  row_at : row_in r tile ≡ at.y
-  row_at = let e : r.area.y ≡ r.plane_cfg.yorigin + at.y = ap (λ (a : StoredArea). a.y) place in omega (arith, e, tile_y)
+-- the weight of luma is what the mode takes, if it takes one
+weight_taken : (mode : PredictionMode) (param : IntraParam) → is_cfl mode ≡ true → alpha_of param ≡ angle_or_alpha mode param
+weight_taken mode param =
+    elim mode as (λ m. is_cfl m ≡ true → alpha_of param ≡ angle_or_alpha m param) [
+      | UV_CFL_PRED ↦ λ h. refl
+      | _ ↦ λ h. (let f : false ≡ true = h in cc)
+    ]
 
+-- the mode in effect, the sides in the tile and the rectangle, as the code has them
+module _ {T : Type 0} (num : T → ℕ) (h : Header) (block : PlaneBlock) (at : BlockPlace) (plane : Plane T) (filter : Option IntraEdgeFilterParameters)
+    (mode : PredictionMode) (param : IntraParam) (m : PredictionMode) (v : PredictionVariant) (b : DirectionalBlock) (m_is : m ≡ effective mode at.x at.y)
+    (v_is : v ≡ variant_at at.x at.y)
+    (b_is : b ≡ rectangle_by h block at filter m param) where
   -- sides with these numbers are as long as the mode reads
-  pub above_enough : (mode : PredictionMode) (param : IntraParam) (xs : List T) → map num xs ≡ (edge_for h block at mode param num r.plane.now).above
-      → places_above (mode_of_block r tile mode) (variant_of_block r tile) (unsigned_abs (angle_or_alpha (mode_of_block r tile mode) param))
-      (tx_width block.area.tx_size) (tx_height block.area.tx_size) ≤ length xs
-  above_enough mode param xs e =
+  pub above_enough : (xs : List T) → map num xs ≡ (edge_for h block at mode param num plane).above → places_above m v b.p_angle b.width b.height ≤ length xs
+  above_enough xs e =
       let w = tx_width block.area.tx_size in
       let d = tx_height block.area.tx_size in
-      let P : ℕ → ℕ → Type 0 =
-      λ x y. places_above (effective mode x y) (variant_at x y) (unsigned_abs (angle_or_alpha (effective mode x y) param)) w d ≤ length xs in
       let long = length_shown num xs _ e ∙ length-by_index _ _ in
-      let here : P at.x at.y = omega (arith, enough_above h.edge_filter (effective mode at.x at.y) param at.x at.y w d, long) in
-      subst (λ x. P x (row_in r tile)) (sym column_at) (subst (λ y. P at.x y) (sym row_at) here)
+      let M = effective mode at.x at.y in
+      let here : places_above M (variant_at at.x at.y) (unsigned_abs (angle_or_alpha M param)) w d ≤ length xs =
+      omega (arith, enough_above h.edge_filter M param at.x at.y w d, long) in
+      subst (λ (k : DirectionalBlock). places_above m v k.p_angle k.width k.height ≤ length xs) (sym b_is)
+      (subst (λ (n : PredictionMode). places_above n v (unsigned_abs (angle_or_alpha n param)) w d ≤ length xs) (sym m_is)
+      (subst (λ (u : PredictionVariant). places_above M u (unsigned_abs (angle_or_alpha M param)) w d ≤ length xs) (sym v_is) here))
 
-  pub left_enough : (mode : PredictionMode) (param : IntraParam) (xs : List T) → unsigned_abs (step_of param) ≤ 3 →
-      map num xs ≡ reverse (edge_for h block at mode param num r.plane.now).left
-      → places_left (mode_of_block r tile mode) (variant_of_block r tile) (unsigned_abs (angle_or_alpha (mode_of_block r tile mode) param))
-      (tx_width block.area.tx_size) (tx_height block.area.tx_size) ≤ length xs
-  left_enough mode param xs few e =
+  pub left_enough : (xs : List T) → unsigned_abs (step_of param) ≤ 3 → map num xs ≡ reverse (edge_for h block at mode param num plane).left →
+      places_left m v b.p_angle b.width b.height ≤ length xs
+  left_enough xs few e =
       let w = tx_width block.area.tx_size in
       let d = tx_height block.area.tx_size in
-      let P : ℕ → ℕ → Type 0 =
-      λ x y. places_left (effective mode x y) (variant_at x y) (unsigned_abs (angle_or_alpha (effective mode x y) param)) w d ≤ length xs in
-      let long = length_shown num xs _ e ∙ length-reverse (edge_for h block at mode param num r.plane.now).left ∙ length-by_index _ _ in
-      let here : P at.x at.y = omega (arith, enough_left h.edge_filter (effective mode at.x at.y) param at.x at.y w d few, long) in
-      subst (λ x. P x (row_in r tile)) (sym column_at) (subst (λ y. P at.x y) (sym row_at) here)
+      let long = length_shown num xs _ e ∙ length-reverse (edge_for h block at mode param num plane).left ∙ length-by_index _ _ in
+      let M = effective mode at.x at.y in
+      let here : places_left M (variant_at at.x at.y) (unsigned_abs (angle_or_alpha M param)) w d ≤ length xs =
+      omega (arith, enough_left h.edge_filter M param at.x at.y w d few, long) in
+      subst (λ (k : DirectionalBlock). places_left m v k.p_angle k.width k.height ≤ length xs) (sym b_is)
+      (subst (λ (n : PredictionMode). places_left n v (unsigned_abs (angle_or_alpha n param)) w d ≤ length xs) (sym m_is)
+      (subst (λ (u : PredictionVariant). places_left M u (unsigned_abs (angle_or_alpha M param)) w d ≤ length xs) (sym v_is) here))
+
+  -- its angle is one that directional prediction takes
+  pub angle_taken : unsigned_abs (step_of param) ≤ 3 → unsigned_abs (alpha_of param) ≤ 16 → is_directional m ≡ true → b.p_angle ≢ 90 → b.p_angle ≢ 180 →
+      is_interpolated b.p_angle ≡ true
+  angle_taken few small has =
+      let P : ℕ → Type 0 = λ n. n ≢ 90 → n ≢ 180 → is_interpolated n ≡ true in
+      subst (λ (k : DirectionalBlock). P k.p_angle) (sym b_is) (angle_fine m has (angle_or_alpha m param) (angle_given m param few small))
 
   -- the sample at row q and column p that is predicted
-  pub region_predicted : (filter : Option IntraEdgeFilterParameters) (mode : PredictionMode) (param : IntraParam) (luma : ℕ → ℕ → ℤ) (depth : ℕ)
-      (e : IntraEdge T) (q p : ℕ)
-      → r.plane_cfg.width ≡ plane_width h block.plane → r.plane_cfg.height ≡ plane_height h block.plane → depth ≡ h.depth →
-      edge_of num e ≡ edge_for h block at mode param num r.plane.now
-      → predicted (block_at r (unsigned_abs (angle_or_alpha (mode_of_block r tile mode) param)) (tx_width block.area.tx_size)
-      (tx_height block.area.tx_size) depth filter) (variant_of_block r tile) (mode_of_block r tile mode)
-      (angle_or_alpha (mode_of_block r tile mode) param) luma (edge_of num e) q p
+  pub rectangle_predicted : (luma : List ℤ) (z : ℤ) (e : Edge) (q p : ℕ) → z ≡ alpha_of param → e ≡ edge_for h block at mode param num plane
+      → predicted b v m z (ac_at b.width luma) e q p
       ≡ by_mode (extent_of h block.plane) filter mode param (area_at block at)
-      (placed_edge h block.plane block at.number (area_at block at) num r.plane.now) luma q p
-  region_predicted filter mode param luma depth e q p width height deep held =
-      let first_x : r.area.x ≡ r.plane_cfg.xorigin + at.x = ap (λ (a : StoredArea). a.x) place in
-      let first_y : r.area.y ≡ r.plane_cfg.yorigin + at.y = ap (λ (a : StoredArea). a.y) place in
-      let columns : r.plane_cfg.xorigin + r.plane_cfg.width - r.area.x ≡ plane_width h block.plane - at.x = omega (arith, first_x, width) in
-      let rows : r.plane_cfg.yorigin + r.plane_cfg.height - r.area.y ≡ plane_height h block.plane - at.y = omega (arith, first_y, height) in
-      let f : ℕ → ℕ → ℕ → ℕ → ℕ → Edge → ℕ = λ x y c d b k. predicted (record {
-        p_angle = unsigned_abs (angle_or_alpha (effective mode x y) param);
-        width = tx_width block.area.tx_size;
-        height = tx_height block.area.tx_size;
-        bit_depth = b;
-        smooth_filter = option_map uses_smooth_filter filter;
-        visible_columns = c;
-        visible_rows = d;
-      }) (variant_at x y) (effective mode x y) (angle_or_alpha (effective mode x y) param) luma k q p in
-      let c = plane_width h block.plane - at.x in
-      let d = plane_height h block.plane - at.y in
-      let wide = r.plane_cfg.xorigin + r.plane_cfg.width - r.area.x in
-      let high = r.plane_cfg.yorigin + r.plane_cfg.height - r.area.y in
-      ap (λ x. f x (row_in r tile) wide high depth (edge_of num e)) column_at
-      ∙ ap (λ y. f at.x y wide high depth (edge_of num e)) row_at
-      ∙ ap (λ k. f at.x at.y k high depth (edge_of num e)) columns
-      ∙ ap (λ k. f at.x at.y c k depth (edge_of num e)) rows
-      ∙ ap (λ b. f at.x at.y c d b (edge_of num e)) deep
-      ∙ ap (f at.x at.y c d h.depth) held
+      (placed_edge h block.plane block at.number (area_at block at) num plane) (ac_at (tx_width block.area.tx_size) luma) q p
+  rectangle_predicted luma z e q p z_is e_is =
+      let R = λ (n : PredictionMode). rectangle_by h block at filter n param in
+      let L = ac_at (tx_width block.area.tx_size) luma in
+      let M = effective mode at.x at.y in
+      let V = variant_at at.x at.y in
+      ap (λ (k : DirectionalBlock). predicted k v m z (ac_at k.width luma) e q p) b_is
+      ∙ ap (λ (n : PredictionMode). predicted (R n) v n z L e q p) m_is
+      ∙ ap (λ (u : PredictionVariant). predicted (R M) u M z L e q p) v_is
+      ∙ weighed_alike (R M) V M z (angle_or_alpha M param) L e q p (λ c. z_is ∙ weight_taken M param c)
+      ∙ ap (λ (k : Edge). predicted (R M) V M (angle_or_alpha M param) L k q p) e_is

@@ -1,6 +1,6 @@
 //! One transform block: its prediction from the samples round it, and its residue.
 
-ghost use Rattle.std.specs.Prelude.{◌≡◌, ◌-◌, ◌^◌, ◌<◌, ◌≤◌, length, All, IsTrue, pos, map, reverse, [], ◌∷◌};
+ghost use Rattle.std.specs.Prelude.{◌≡◌, ◌-◌, ◌^◌, ◌<◌, ◌≤◌, length, All, IsTrue, pos, map, reverse, [], ◌∷◌, option_map, unsigned_abs};
 ghost use Rattle.av1_blocks.specs.Depths.{IsDepth};
 ghost use Rattle.av1_blocks.specs.Transforms.{tx_width, tx_height, valid_av1_transform};
 ghost use Rattle.av1_blocks.specs.declared.transform.TxSize.TheVariants.{TX_4X4};
@@ -9,6 +9,8 @@ ghost use Rattle.av1_lists.specs.Counts.{counted};
 ghost use Rattle.av1_frame.specs.Areas.{stored_area};
 ghost use Rattle.av1_frame.specs.Planes.{InPlane, painted_plane};
 ghost use Rattle.av1_frame.specs.Regions.{InStorage, painted};
+ghost use Rattle.av1_intra.specs.Neighbours.{uses_smooth_filter};
+ghost use Rattle.av1_intra.specs.Predicted.{angle_or_alpha};
 ghost use Rattle.av1_plan.specs.Geometry.{follows_av1, plane_width, plane_height};
 ghost use Rattle.av1_tile.specs.Reference.{added, block_residue};
 ghost use Rattle.av1_tile.specs.Walk.{area_at, edge_for, predicted_at, EdgePredictionFits, IsPlaceIn, Stores, TripleFits};
@@ -17,11 +19,14 @@ use crate::buffers::ResidueRoom;
 use crate::coefficients::{coefficients_up_to, load_coefficients};
 use crate::plane_block::PlaneBlock;
 use av1_blocks::{IntraParam, PredictionMode};
-use av1_edges::{IntraEdge, IntraEdgeBuffer, get_intra_edges};
+use av1_edges::{IntraEdge, IntraEdgeBuffer, effective, get_intra_edges};
 use av1_frame::{
-    BlockOffset, Pixel, Plane, PlaneOffset, PlaneRegionMut, TileBlockOffset, TileRect, visible_area,
+    BlockOffset, Pixel, Plane, PlaneOffset, PlaneRegionMut, TileBlockOffset, visible_area,
 };
-use av1_intra::{IntraEdgeFilterParameters, predict_intra};
+use av1_intra::{
+    DirectionalBlock, IntraEdgeFilterParameters, PredictionVariant, alpha_of, angle_or_alpha,
+    dispatch_predict_intra_to, smooth_filter_of,
+};
 use av1_itx::{TxScratch, inverse_transform_add_with};
 use av1_plan::{Header, Triple};
 
@@ -63,21 +68,40 @@ fn offset_at(x: usize, y: usize) -> PlaneOffset
     }
 }
 
-/// The whole of plane `p`, as a tile of it.
-fn whole_plane(header: &Header, p: usize) -> TileRect
-    ensures x { result.x ≡ 0 }
-    ensures y { result.y ≡ 0 }
+/// The rectangle of a transform block, as a mode with this parameter predicts it.
+#[inline(always)]
+fn rectangle_of(
+    header: &Header,
+    block: &PlaneBlock,
+    at: BlockPlace,
+    how: EdgePrediction,
+    mode: PredictionMode,
+) -> DirectionalBlock
+    ensures { result ≡ record {
+      p_angle = unsigned_abs (angle_or_alpha mode how.param);
+      width = tx_width block.now.area.tx_size;
+      height = tx_height block.now.area.tx_size;
+      bit_depth = header.now.depth;
+      smooth_filter = option_map uses_smooth_filter how.filter;
+      visible_columns = plane_width header.now block.now.plane - at.x;
+      visible_rows = plane_height header.now block.now.plane - at.y;
+    } }
 {
-    TileRect {
-        x: 0,
-        y: 0,
-        width: header.plane_width(p),
-        height: header.plane_height(p),
+    let tx_size = block.area.tx_size;
+    DirectionalBlock {
+        p_angle: angle_or_alpha(mode, how.param).unsigned_abs(),
+        width: tx_size.width(),
+        height: tx_size.height(),
+        bit_depth: usize::from(header.depth),
+        smooth_filter: smooth_filter_of(how.filter),
+        visible_columns: header.plane_width(block.plane).saturating_sub(at.x),
+        visible_rows: header.plane_height(block.plane).saturating_sub(at.y),
     }
 }
 
 /// Predicts a transform block by an intra mode, from its edge, in the region that is its rectangle. `luma` holds how
-/// far luma is from its mean, row by row, where the mode asks for it.
+/// far luma is from its mean, row by row, if the mode reads it.
+#[tactic(auto, using(av1_frame::proofs::Regions::region_lending))]
 fn predict_region<T: Pixel>(
     region: &mut PlaneRegionMut<'_, T>,
     edge: &IntraEdge<'_, T>,
@@ -89,8 +113,6 @@ fn predict_region<T: Pixel>(
 )
     requires fits { InStorage region.old }
     requires area { region.old.area ≡ stored_area region.old.plane_cfg (area_at block.now at) }
-    requires width { region.old.plane_cfg.width ≡ plane_width header.now block.now.plane }
-    requires height { region.old.plane_cfg.height ≡ plane_height header.now block.now.plane }
     requires low { 8 ≤ header.now.depth }
     requires depth { header.now.depth ≤ T.BITS }
     requires how { EdgePredictionFits block.now luma.now how }
@@ -101,18 +123,24 @@ fn predict_region<T: Pixel>(
         (λ r c _. T.pixel (predicted_at header.now block.now at how luma.now T.num region.old.plane.now r c)) }
     ensures fits { InStorage region.new }
 {
-    let tile = whole_plane(header, block.plane);
-    let bit_depth = usize::from(header.depth);
-    predict_intra(
-        how.mode,
-        tile,
-        region,
-        block.area.tx_size,
-        bit_depth,
+    let mode = effective(how.mode, at.x, at.y);
+    let rectangle = rectangle_of(header, block, at, how, mode);
+    let (left, top_left, above) = edge.as_slices();
+    let alpha = alpha_of(how.param);
+    let stride = region.plane_cfg.stride;
+    let area = region.corner(rectangle.width, rectangle.height);
+    dispatch_predict_intra_to(
+        mode,
+        PredictionVariant::new(at.x, at.y),
+        region.rows_mut(),
+        stride,
+        area,
+        rectangle,
+        left,
+        top_left[0],
+        above,
         luma,
-        how.param,
-        how.filter,
-        edge,
+        alpha,
     );
 }
 

@@ -3,7 +3,8 @@ use super::support::four_rows;
 use av1_blocks::{BlockSize, FilterMode, PredictionMode, TxSize};
 use av1_edges::IntraEdge;
 use av1_frame::{BlockOffset, FrameInvariants, Plane, TileBlockOffset, TileStateMut};
-use av1_intra::{PredictionVariant, dispatch_predict_intra, luma_ac};
+use av1_intra::PredictionVariant;
+use av1_rav1e::{dispatch_predict_intra, luma_ac};
 use std::test::Fail;
 
 /// Two rows of dark luma over two rows of light luma, as differences from their mean in eighths.

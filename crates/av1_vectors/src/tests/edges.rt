@@ -1,5 +1,5 @@
 // Sides that are smoothed and upsampled.
-use av1_intra::rust::{filter_edge, upsample_edge};
+use av1_rav1e::rust::{filter_edge, upsample_edge};
 
 #[test]
 fn the_strongest_filter_takes_five_samples(rt: HostRuntime) {

@@ -4,7 +4,7 @@ ghost use Rattle.av1_frame.specs.Regions.{InStorage};
 
 use super::support::four_rows;
 use av1_frame::{Plane, PlaneRegionMut};
-use av1_intra::rust::{
+use av1_rav1e::rust::{
     pred_dc, pred_dc_left, pred_dc_top, pred_directional, pred_paeth, pred_smooth, pred_smooth_h,
     pred_smooth_v,
 };

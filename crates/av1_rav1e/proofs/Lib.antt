@@ -1,0 +1,4 @@
+pub mod Lending
+pub mod Places
+pub mod Unchanged
+pub mod NearLeaf
