@@ -1,4 +1,4 @@
-//! One transform block: its prediction from the samples round it, and its residue.
+//! One transform block: the prediction from its neighbouring samples, and the addition of its residual.
 
 ghost use Rattle.std.specs.Prelude.{◌≡◌, ◌-◌, ◌^◌, ◌<◌, ◌≤◌, length, All, IsTrue, pos, map, reverse, [], ◌∷◌};
 ghost use Rattle.av1_blocks.specs.Depths.{IsDepth};
@@ -16,42 +16,43 @@ ghost use Rattle.av1_tile.specs.Walk.{area_at, edge_for, predicted_at, EdgePredi
 use crate::buffers::ResidueRoom;
 use crate::coefficients::{coefficients_up_to, load_coefficients};
 use crate::plane_block::PlaneBlock;
+use crate::references::whole_plane;
 use av1_blocks::{IntraParam, PredictionMode};
 use av1_edges::{IntraEdge, IntraEdgeBuffer, get_intra_edges};
 use av1_frame::{
-    BlockOffset, Pixel, Plane, PlaneOffset, PlaneRegionMut, TileBlockOffset, TileRect, visible_area,
+    BlockOffset, Pixel, Plane, PlaneOffset, PlaneRegionMut, TileBlockOffset, visible_area,
 };
 use av1_intra::{IntraEdgeFilterParameters, predict_intra};
 use av1_itx::{TxScratch, inverse_transform_add_with};
 use av1_plan::{Header, Triple};
 
-/// Where a transform block stands in its leaf's block, and in the plane.
+/// The position of a transform block in its leaf's block and in the plane.
 #[derive(Clone, Copy, Debug)]
 pub struct BlockPlace {
-    /// Its number, in raster order over the leaf's block.
+    /// The number of the transform block, in raster order over the leaf's block.
     pub number: usize,
-    /// Its column, counted in transforms.
+    /// The column in the leaf's block, counted in transform blocks.
     pub column: usize,
-    /// Its row.
+    /// The row in the leaf's block, counted in transform blocks.
     pub row: usize,
-    /// The column of its first sample in the plane.
+    /// The column of the first sample in the plane.
     pub x: usize,
-    /// The row of its first sample.
+    /// The row of the first sample in the plane.
     pub y: usize,
 }
 
-/// How a transform block is predicted from its edge.
+/// How an intra mode predicts a transform block.
 #[derive(Clone, Copy)]
 pub struct EdgePrediction {
     /// The intra mode.
     pub mode: PredictionMode,
-    /// The steps that it turns, or its weight of luma.
+    /// The angle delta of the mode, in steps of 3 degrees, or the weight of luma.
     pub param: IntraParam,
-    /// What the edge filter is told of the neighbours, where it is on.
+    /// The neighbours' parameters for the edge filter, if the filter is on.
     pub filter: Option<IntraEdgeFilterParameters>,
 }
 
-/// The place at column `x` of row `y`.
+/// The offset of column `x` and row `y` in a plane.
 fn offset_at(x: usize, y: usize) -> PlaneOffset
     requires x { x < 2 ^ 63 }
     requires y { y < 2 ^ 63 }
@@ -63,21 +64,8 @@ fn offset_at(x: usize, y: usize) -> PlaneOffset
     }
 }
 
-/// The whole of plane `p`, as a tile of it.
-fn whole_plane(header: &Header, p: usize) -> TileRect
-    ensures x { result.x ≡ 0 }
-    ensures y { result.y ≡ 0 }
-{
-    TileRect {
-        x: 0,
-        y: 0,
-        width: header.plane_width(p),
-        height: header.plane_height(p),
-    }
-}
-
-/// Predicts a transform block by an intra mode, from its edge, in the region that is its rectangle. `luma` holds how
-/// far luma is from its mean, row by row, where the mode asks for it.
+/// Predicts a transform block from its prepared edge by an intra mode. `region` is the rectangle of the block. If the
+/// mode predicts chroma from luma, `luma` holds the distance of luma from its mean, row by row.
 fn predict_region<T: Pixel>(
     region: &mut PlaneRegionMut<'_, T>,
     edge: &IntraEdge<'_, T>,
@@ -116,7 +104,7 @@ fn predict_region<T: Pixel>(
     );
 }
 
-/// Predicts a transform block by an intra mode, from the samples round it.
+/// Predicts a transform block by an intra mode, from its neighbouring samples in the plane.
 pub fn predict_from_edge<T: Pixel>(
     plane: &mut Plane<T>,
     edges: &mut IntraEdgeBuffer<T>,
@@ -158,8 +146,8 @@ pub fn predict_from_edge<T: Pixel>(
     predict_region(&mut region, &edge, luma, header, block, at, how);
 }
 
-/// Adds a transform block's residue to the first rows and columns of the region; `coefficients` is room for its
-/// coefficients.
+/// Adds the residual of a transform block to the first rows and columns of the region. `coefficients` is a buffer for
+/// the coefficients of the block.
 fn add_residue<T: Pixel>(
     output: &mut PlaneRegionMut<'_, T>,
     coefficients: &mut [T::Coeff],
@@ -194,7 +182,7 @@ fn add_residue<T: Pixel>(
     );
 }
 
-/// Adds the residue of a transform block to its samples. Without triples the samples stay: they lie within the depth.
+/// Adds the residual of a transform block to its samples. If the block has no triples, the samples don't change.
 pub fn add_block<T: Pixel>(
     plane: &mut Plane<T>,
     room: &mut ResidueRoom<T>,
