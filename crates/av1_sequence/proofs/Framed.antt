@@ -19,7 +19,7 @@ use Rattle.av1_plan.specs.Plan.{LeafValue, PlanValue}
 use Rattle.av1_plan.specs.ReadPlans.{IsReadFrame}
 use Rattle.av1_plan.specs.Spelling.{AreText, IsSpelled}
 use Rattle.av1_plan.specs.Validity.{fault_from, first_fault}
-use Rattle.av1_references.specs.References.{ServesPlan}
+use Rattle.av1_tile.specs.Motion.{ServesPlan}
 use Rattle.av1_tile.specs.declared.planes.Planes.{Planes}
 use Rattle.av1_tile.specs.Memory.{HasRoomFor, IsPlanOver, ShowsPlan, WalkRoom}
 use Rattle.av1_tile.specs.Walk.{SameLayout, StoresAll}

@@ -13,7 +13,7 @@ use Rattle.av1_frame.specs.Frames.{plane_of}
 use Rattle.av1_frame.specs.Planes.{padded}
 use Rattle.av1_lists.proofs.Lists.{by_index-same}
 use Rattle.av1_plan.specs.declared.header.Header.{Header}
-use Rattle.av1_references.specs.References.{HoldsPlane}
+use Rattle.av1_tile.specs.Motion.{HoldsPlane}
 use Rattle.av1_tile.specs.declared.planes.Planes.{Planes}
 use Rattle.av1_sequence.specs.Kept.{AreFrames, AreReady, IsKeptAt, KeepsFrames, coded_planes, shown_plane, plane_shown, planes_shown, shown_at, shown_in}
 use Rattle.av1_sequence.specs.Kept.{slots_shown}

@@ -15,7 +15,7 @@ use Rattle.av1_plan.specs.Spelling.{AreText, IsSpelled}
 use Rattle.av1_plan.proofs.Composed.{AreListedSlots, IsListedSlot, plan_listed}
 use Rattle.av1_sequence.specs.declared.head.FrameHead.{FrameHead}
 use Rattle.av1_sequence.specs.Frames.{IsHead, frame_header, frame_references}
-use Rattle.av1_references.specs.References.{HoldsPlane}
+use Rattle.av1_tile.specs.Motion.{HoldsPlane}
 use Rattle.av1_sequence.specs.Kept.{IsKeptAt, KeepsFrames, plane_shown, planes_shown, shown_in, slots_shown}
 use Rattle.av1_sequence.specs.Slots.{Slots, is_named, is_read, slot_of}
 use Rattle.av1_sequence.proofs.Serving.{mask_is, read_header, slot_shown}

@@ -21,8 +21,8 @@ use Rattle.av1_plan.specs.Geometry.{coded_width, coded_height, follows_av1, has_
 use Rattle.av1_plan.specs.Plan.{LeafValue, PlanValue, carried_plane}
 use Rattle.av1_plan.specs.ReadPlans.{IsReadFrame}
 use Rattle.av1_plan.specs.Validity.{has_reference}
-use Rattle.av1_references.specs.References.{HoldsPlane, ServesPlan, slot_in, slot_samples}
-use Rattle.av1_references.proofs.Served.{offered}
+use Rattle.av1_tile.specs.Motion.{HoldsPlane, ServesPlan, slot_in, slot_samples}
+use Rattle.av1_tile.proofs.Served.{offered}
 use Rattle.av1_sequence.specs.declared.head.FrameHead.{FrameHead}
 use Rattle.av1_sequence.specs.Frames.{IsHead, frame_header, frame_references}
 use Rattle.av1_plan.proofs.ReadFrames.{depth_is}

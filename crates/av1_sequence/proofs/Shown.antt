@@ -18,7 +18,7 @@ use Rattle.av1_plan.specs.declared.header.Header.{Header}
 use Rattle.av1_plan.specs.Geometry.{plane_height, plane_width, shown_columns, shown_rows, xdec, ydec}
 use Rattle.av1_plan.specs.ReadPlans.{ArePlane}
 use Rattle.av1_plan.proofs.Shown.{columns_shown, rows_shown}
-use Rattle.av1_references.specs.References.{HoldsPlane}
+use Rattle.av1_tile.specs.Motion.{HoldsPlane}
 use Rattle.av1_tile.specs.PlaneBlocks.{shown_of}
 use Rattle.av1_tile.specs.Walk.{HasPad, Stores}
 use Rattle.av1_sequence.specs.declared.head.FrameHead.{FrameHead}

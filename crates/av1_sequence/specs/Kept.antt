@@ -11,7 +11,7 @@ use Rattle.av1_plan.specs.declared.header.Header.{Header}
 use Rattle.av1_plan.specs.Grammar.{is_depth}
 use Rattle.av1_plan.specs.Geometry.{plane_width, plane_height, shown_columns, shown_rows, coded_width, coded_height}
 use Rattle.av1_plan.specs.ReadPlans.{IsSide, IsShown}
-use Rattle.av1_references.specs.References.{HoldsPlane}
+use Rattle.av1_tile.specs.Motion.{HoldsPlane}
 use Rattle.av1_tile.specs.declared.planes.Planes.{Planes}
 use Rattle.av1_tile.specs.Output.{by_rows}
 use Rattle.av1_tile.specs.PlaneBlocks.{shown_of}

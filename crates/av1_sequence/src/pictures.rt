@@ -9,7 +9,7 @@ ghost use Rattle.std.specs.Prelude.{IfOk, IfSome};
 ghost use Rattle.std.specs.Option.{option_map};
 ghost use Rattle.av1_plan.specs.Geometry.{plane_len, shown_columns, shown_rows};
 ghost use Rattle.av1_plan.specs.Plan.{PlanValue};
-ghost use Rattle.av1_references.specs.References.{ServesPlan};
+ghost use Rattle.av1_tile.specs.Motion.{ServesPlan};
 ghost use Rattle.av1_plan.specs.Lengths.{slot_bytes};
 ghost use Rattle.av1_sequence.specs.Frames.{IsHead, frame_header, frame_references};
 ghost use Rattle.av1_sequence.specs.Kept.{AreFrames, AreReady, IsKeptAt, KeepsFrames, coded_plane, coded_planes, plane_shown, planes_shown, shown_at};

@@ -16,8 +16,8 @@ use Rattle.av1_blocks.specs.declared.mc.FilterMode.TheVariants.{REGULAR}
 use Rattle.av1_plan.specs.declared.header.Header.{Header}
 use Rattle.av1_plan.specs.declared.leaf.Triple.{Triple}
 use Rattle.av1_plan.specs.Geometry.{block_count, blocks_across, follows_av1, transform_block}
-use Rattle.av1_references.specs.declared.tile.TileReferences.{TileReferences}
-use Rattle.av1_references.specs.References.{leaf_area}
+use Rattle.av1_tile.specs.declared.references.TileReferences.{TileReferences}
+use Rattle.av1_tile.specs.Motion.{leaf_area}
 use Rattle.av1_tile.specs.declared.block.BlockPlace.{BlockPlace}
 use Rattle.av1_tile.specs.declared.plane_block.PlaneBlock.{PlaneBlock}
 use Rattle.av1_tile.specs.declared.plane_block.Prediction.{Prediction}
@@ -62,10 +62,6 @@ module _ (h : Header) (block : PlaneBlock) (at : BlockPlace) where
           ≡ step (fold step start (if t then [] else predict block at.number (area_at block at) ∷ [])) (add block triples at.number (area_at block at))
       go true = refl
       go false = refl
-
-  pub block_counted : (count after : ℕ) (triples : List Triple) → transform_block h block.plane block.area at.number ≡ Some (record { x = at.x; y = at.y })
-      → after ≡ fold edges_in count (own_prediction block at.number (area_at block at)) → after ≡ fold edges_in count (steps_at h block triples at.number)
-  block_counted count after triples found e = e ∙ two_steps edges_in count triples found
 
 -- a scene of which nothing is asked
 no_scene : Scene
@@ -121,14 +117,7 @@ module _ {T : Type 0} (num : T → ℕ) (pixel : ℕ → T) (law : (v : ℕ) →
     unfolding fast_in
     added_is value = painted
 
-    -- after them they are the plane that has gone through the block's steps
-    pub block_walked : transform_block h block.plane block.area at.number ≡ Some (record { x = at.x; y = at.y }) → (value : Scene) →
-        after ≡ fold (turn value) before (steps_at h block triples at.number)
-    block_walked found value =
-        added_is value ∙ ap (λ (p : Plane T). turn value p (add block triples at.number (area_at block at))) (predicted value)
-        ∙ two_steps h block at (turn value) before triples found
-
-    -- whose samples lie within the depth
+    -- after them they do too
     pub after_stores : Stores num h block.plane before → 8 ≤ h.depth → Stores num h block.plane after
     after_stores stores deep =
         subst (Stores num h block.plane) (sym (added_is no_scene))
@@ -167,8 +156,7 @@ module _ {A : Type 0} (step : A → Step → A) (h : Header) (block : PlaneBlock
 no_edge : (of : Prediction) → is_whole of ≡ true → has_edge of ≡ false
 no_edge (predictions.Intra mode step filter) e = absurd cc
 no_edge (predictions.FromLuma alpha) e = absurd cc
-no_edge (predictions.Single mode reference mv) e = refl
-no_edge (predictions.Compound mode references mvs) e = refl
+no_edge (predictions.Inter motion) e = refl
 no_edge (predictions.Parts parts) e = refl
 
 -- a whole area is predicted without an edge

@@ -26,10 +26,9 @@ use Rattle.av1_plan.specs.Geometry.{block_count, follows_av1, transform_block}
 use Rattle.av1_tile.specs.declared.plane_block.PlaneBlock.{PlaneBlock}
 use Rattle.av1_tile.specs.PlaneBlocks.{is_whole}
 use Rattle.av1_tile.specs.Reference.{Scene, added, block_residue, coefficients, with_triple}
-use Rattle.av1_tile.specs.declared.predicted.PredictedPlanes.{PredictedPlanes}
-use Rattle.av1_tile.specs.Predicted.{Keeping, keeping_in, kept_in}
+use Rattle.av1_tile.specs.Predicted.{Gathered, Keeping, keeping_in, kept_in}
 use Rattle.av1_tile.specs.Steps.{Step, predict, add, block_area, block_steps, joined, steps_at}
-use Rattle.av1_tile.specs.Walk.{AreRising, BlockFits, TripleFits, edges_in, fast_in}
+use Rattle.av1_tile.specs.Walk.{AreRising, BlockFits, TripleFits, fast_in}
 use Rattle.av1_tile.proofs.Loops.{fold_joined_same}
 
 -- triples of other blocks change no coefficient of this one
@@ -95,22 +94,14 @@ module _ (block : PlaneBlock) (ts : List Triple) (whole : is_whole block.predict
       go n None = refl
       go n (Some b) = same n (block_area block b) ∙ ap (fold step start) (sym (alone n b))
 
-  -- so they prepare no edge
-  pub none_counted : (h : Header) (count : ℕ) → count ≡ fold edges_in count (joined (block_count block.area) (steps_at h block ts))
-  none_counted h count = none_taken edges_in h count (λ n a. refl)
-
-  -- and add nothing
+  -- so they add nothing, prepare no edge, and no more is kept
   module _ {T : Type 0} (num : T → ℕ) (pixel : ℕ → T) (back : (x : T) → pixel (num x) ≡ x) (plan : Scene) (luma : PlaneBlock → ℕ → ℕ → ℤ)
       (plane : Plane T) (none : length ts ≡ 0) (within : All (λ v. num v < 2 ^ plan.header.depth) plane.samples) where
     none_adds : (n : ℕ) (a : VisibleArea) → plane ≡ fast_in num pixel plan block.plane luma plane (add block ts n a)
     unfolding fast_in
     none_adds n a = none_painted num pixel back (follows_av1 plan.header) plan.header.depth block ts n plane a none within
 
-    pub none_walked : plane ≡ fold (fast_in num pixel plan block.plane luma) plane (joined (block_count block.area) (steps_at plan.header block ts))
-    none_walked = none_taken (fast_in num pixel plan block.plane luma) plan.header plane none_adds
-
-    -- nor is more kept
-    pub none_kept : (kept : PredictedPlanes T) → (plane, kept) ≡
+    pub none_kept : (kept : Gathered T) → (plane, kept) ≡
         fold (keeping_in num pixel plan block.plane luma) (plane, kept) (joined (block_count block.area) (steps_at plan.header block ts))
     unfolding keeping_in kept_in
     none_kept kept =
@@ -200,24 +191,12 @@ module _ {T : Type 0} (num : T → ℕ) (pixel : ℕ → T) (plan : Scene) (p : 
       (own_coefficients block.area.tx_size n all at end is)
 
   -- so its own triples do as well as all
-  pub own_steps : (plane : Plane T) → fold (fast_in num pixel plan p luma) plane (steps_at h block (take (end - at) (drop at all)) n) ≡
-      fold (fast_in num pixel plan p luma) plane (steps_at h block all n)
-  unfolding steps_at
-  own_steps plane = alike_at (fast_in num pixel plan p luma) block _ all n plane (transform_block h block.plane block.area n) own_adds
-
-  -- for what is kept too,
   pub own_kept : (s : Keeping (Plane T) T) → fold (keeping_in num pixel plan p luma) s (steps_at h block (take (end - at) (drop at all)) n) ≡
       fold (keeping_in num pixel plan p luma) s (steps_at h block all n)
   unfolding steps_at keeping_in kept_in
   own_kept s =
       alike_at (keeping_in num pixel plan p luma) block _ all n s (transform_block h block.plane block.area n)
       (λ q a. ap (λ (z : Plane T). (z, q.1)) (own_adds q.0 a))
-
--- and for the edges that are prepared
-pub own_edges : (h : Header) (block : PlaneBlock) (own all : List Triple) (n count : ℕ) →
-    fold edges_in count (steps_at h block own n) ≡ fold edges_in count (steps_at h block all n)
-unfolding steps_at
-own_edges h block own all n count = alike_at edges_in block own all n count (transform_block h block.plane block.area n) (λ q a. refl)
 
 -- ---- the run of a block's triples
 

@@ -18,16 +18,16 @@ use Rattle.av1_frame.proofs.Update.{get_or-update, length-update, update_is}
 use Rattle.av1_plan.specs.declared.header.Header.{Header}
 use Rattle.av1_plan.specs.declared.leaf.Triple.{Triple}
 use Rattle.av1_plan.specs.Geometry.{follows_av1, transform_block}
-use Rattle.av1_references.specs.References.{leaf_area}
+use Rattle.av1_tile.specs.Motion.{leaf_area}
 use Rattle.av1_tile.specs.declared.block.BlockPlace.{BlockPlace}
 use Rattle.av1_tile.specs.declared.plane_block.PlaneBlock.{PlaneBlock}
 use Rattle.av1_tile.specs.declared.predicted.PredictedPlanes.{PredictedPlanes}
 use Rattle.av1_tile.specs.PlaneBlocks.{component, is_whole}
-use Rattle.av1_tile.specs.Predicted.{Keeping, copied, keeping_in, kept_in, rows_in, stored_in, with_rows}
-use Rattle.av1_references.specs.References.{visible_in}
+use Rattle.av1_tile.specs.Predicted.{Gathered, Keeping, gathered, gathered_in, copied, keeping_in, kept_in, rows_in, stored_in, with_rows}
+use Rattle.av1_tile.specs.Motion.{visible_in}
 use Rattle.av1_tile.specs.Reference.{Scene, added, block_residue}
 use Rattle.av1_tile.specs.Steps.{Step, predict, add, own_prediction, steps_at, whole_steps}
-use Rattle.av1_tile.specs.Walk.{area_at, fast_in}
+use Rattle.av1_tile.specs.Walk.{area_at, edges_in, fast_in}
 use Rattle.av1_tile.proofs.BlockSteps.{some_factor, two_steps}
 
 -- ---- a rectangle that is copied
@@ -104,38 +104,46 @@ paint_unseen width height a f s long past =
 -- ---- steps
 
 module _ {T : Type 0} (num : T → ℕ) (pixel : ℕ → T) (plan : Scene) (p : ℕ) (luma : PlaneBlock → ℕ → ℕ → ℤ) (plane after : Plane T)
-    (kept next : PredictedPlanes T) where
+    (kept next : Gathered T) where
   -- no step, and one
   no_step_kept : after ≡ plane → next ≡ kept → ◌≡◌ {A = Keeping (Plane T) T} (after, next) (plane, kept)
-  no_step_kept e h = ap (λ (z : Plane T). (z, next)) e ∙ ap (λ (k : PredictedPlanes T). (plane, k)) h
+  no_step_kept e h = ap (λ (z : Plane T). (z, next)) e ∙ ap (λ (k : Gathered T). (plane, k)) h
 
-  one_kept : (step : Step) → after ≡ fast_in num pixel plan p luma plane step → next ≡ kept_in num pixel p after kept step →
+  one_kept : (step : Step) → after ≡ fast_in num pixel plan p luma plane step → next ≡ gathered_in num pixel p after kept step →
       (after, next) ≡ keeping_in num pixel plan p luma (plane, kept) step
   unfolding keeping_in
-  one_kept step e h = ap (λ (k : PredictedPlanes T). (after, k)) h ∙ ap (λ (z : Plane T). (z, kept_in num pixel p z kept step)) e
+  one_kept step e h = ap (λ (k : Gathered T). (after, k)) h ∙ ap (λ (z : Plane T). (z, gathered_in num pixel p z kept step)) e
 
   -- a transform block's own prediction, and that of a whole area
   pub own_prediction_kept : (block : PlaneBlock) (n : ℕ) (a : VisibleArea) → after ≡ fold (fast_in num pixel plan p luma) plane (own_prediction block n a)
-      → next ≡ fold (kept_in num pixel p after) kept (own_prediction block n a)
+      → next ≡ fold (gathered_in num pixel p after) kept (own_prediction block n a)
       → (after, next) ≡ fold (keeping_in num pixel plan p luma) (plane, kept) (own_prediction block n a)
   own_prediction_kept block n a = go (is_whole block.prediction)
     where
       go : (t : Bool) → after ≡ fold (fast_in num pixel plan p luma) plane (if t then [] else predict block n a ∷ [])
-          → next ≡ fold (kept_in num pixel p after) kept (if t then [] else predict block n a ∷ [])
+          → next ≡ fold (gathered_in num pixel p after) kept (if t then [] else predict block n a ∷ [])
           → (after, next) ≡ fold (keeping_in num pixel plan p luma) (plane, kept) (if t then [] else predict block n a ∷ [])
       go true = no_step_kept
       go false = one_kept (predict block n a)
 
   pub whole_steps_kept : (block : PlaneBlock) → after ≡ fold (fast_in num pixel plan p luma) plane (whole_steps block)
-      → next ≡ fold (kept_in num pixel p after) kept (whole_steps block)
+      → next ≡ fold (gathered_in num pixel p after) kept (whole_steps block)
       → (after, next) ≡ fold (keeping_in num pixel plan p luma) (plane, kept) (whole_steps block)
   whole_steps_kept block = go (is_whole block.prediction)
     where
       go : (t : Bool) → after ≡ fold (fast_in num pixel plan p luma) plane (if t then predict block 0 (leaf_area block.area) ∷ [] else [])
-          → next ≡ fold (kept_in num pixel p after) kept (if t then predict block 0 (leaf_area block.area) ∷ [] else [])
+          → next ≡ fold (gathered_in num pixel p after) kept (if t then predict block 0 (leaf_area block.area) ∷ [] else [])
           → (after, next) ≡ fold (keeping_in num pixel plan p luma) (plane, kept) (if t then predict block 0 (leaf_area block.area) ∷ [] else [])
       go true = one_kept (predict block 0 (leaf_area block.area))
       go false = no_step_kept
+
+-- what is had beside the planes after steps in a plane that stays so, of either part
+pub gathered_taken : {T : Type 0} (num : T → ℕ) (pixel : ℕ → T) (p : ℕ) (plane : Plane T) (b : Gathered T) (steps : List Step) (kept : PredictedPlanes T)
+    (count : ℕ) → kept ≡ fold (kept_in num pixel p plane) b.predictions steps → count ≡ fold edges_in b.edges steps →
+    gathered kept count ≡ fold (gathered_in num pixel p plane) b steps
+gathered_taken num pixel p plane b [] kept count e f = ap (λ (k : PredictedPlanes _). gathered k count) e ∙ ap (gathered b.predictions) f
+gathered_taken num pixel p plane b (step ∷ rest) kept count e f =
+    gathered_taken num pixel p plane (gathered_in num pixel p plane b step) rest kept count e f
 
 -- what is kept of a transform block's own prediction, and of that of a whole area; where there is none, nothing is
 module _ {T : Type 0} (num : T → ℕ) (pixel : ℕ → T) (p : ℕ) (plane : Plane T) (kept : PredictedPlanes T) (block : PlaneBlock) where
@@ -165,10 +173,10 @@ module _ {T : Type 0} (num : T → ℕ) (pixel : ℕ → T) (p : ℕ) (plane : P
 
 -- the two steps of a transform block, of which an addition keeps nothing more
 pub block_kept : {T : Type 0} (num : T → ℕ) (pixel : ℕ → T) (plan : Scene) (luma : PlaneBlock → ℕ → ℕ → ℤ) (h : Header) (block : PlaneBlock)
-    (at : BlockPlace) (triples : List Triple) (plane between after : Plane T) (kept next : PredictedPlanes T)
+    (at : BlockPlace) (triples : List Triple) (plane between after : Plane T) (kept next : Gathered T)
     → transform_block h block.plane block.area at.number ≡ Some (record { x = at.x; y = at.y })
     → between ≡ fold (fast_in num pixel plan block.plane luma) plane (own_prediction block at.number (area_at block at))
-    → next ≡ fold (kept_in num pixel block.plane between) kept (own_prediction block at.number (area_at block at))
+    → next ≡ fold (gathered_in num pixel block.plane between) kept (own_prediction block at.number (area_at block at))
     → after ≡ painted_plane between (area_at block at)
     (λ r c v.
     pixel (added plan.header.depth (num v) (block_residue (follows_av1 plan.header) plan.header.depth block triples at.number r c)))

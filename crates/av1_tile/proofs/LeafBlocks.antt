@@ -1,5 +1,5 @@
 -- The block of a leaf, from what is said of it: one that is predicted from references has no edge, another shares no block.
-use Rattle.std.proofs.Common.{ℕ, ◌<◌, ◌≡◌, ◌||◌, ◌/◌, Bool, true, false, Option, Some, None, List, ℤ, refl, sym, ap, subst, ◌∙◌}
+use Rattle.std.proofs.Common.{ℕ, ◌<◌, ◌≡◌, ◌||◌, ◌/◌, Bool, true, false, Option, None, List, ℤ, refl, sym, ap, subst, ◌∙◌}
 use Rattle.std.specs.List.{fold}
 use Rattle.av1_blocks.specs.Chroma.{is_low, is_narrow}
 use Rattle.av1_blocks.specs.declared.transform.TxType.{TxType}
@@ -11,44 +11,36 @@ use Rattle.av1_intra.specs.declared.neighbours.IntraEdgeFilterParameters.{IntraE
 use Rattle.av1_order.specs.Plans.{is_inter}
 use Rattle.av1_plan.specs.declared.geometry.PlaneArea.{PlaneArea}
 use Rattle.av1_plan.specs.declared.header.Header.{Header}
-use Rattle.av1_plan.specs.declared.leaf.ChromaMode.TheVariants.{Plain, Cfl}
 use Rattle.av1_plan.specs.declared.leaf.LeafKind.{LeafKind}
 use Rattle.av1_plan.specs.declared.leaf.Triple.{Triple}
 use Rattle.av1_plan.specs.declared.leaf.LeafKind.TheVariants.{Intra, Single, Compound}
 use Rattle.av1_plan.specs.Geometry.{plane_area, xdec, ydec}
 use Rattle.av1_plan.specs.Plan.{LeafValue}
+use Rattle.av1_tile.specs.declared.motion.Motion.{Motion}
 use Rattle.av1_tile.specs.declared.plane_block.Nearby.{Nearby}
-use Rattle.av1_tile.specs.declared.plane_block.Parts.{Parts}
+use Rattle.av1_tile.specs.declared.shared_chroma.MotionParts.{MotionParts}
 use Rattle.av1_tile.specs.declared.plane_block.PlaneBlock.{PlaneBlock}
 use Rattle.av1_tile.specs.declared.plane_block.Prediction.{Prediction}
-use Rattle.av1_tile.specs.Canvas.{Component, Y, U, V}
-use Rattle.av1_tile.specs.PlaneBlocks.{block_told, component, prediction_in, type_in}
+use Rattle.av1_tile.specs.Canvas.{Component}
+use Rattle.av1_tile.specs.Motion.{from_one, from_two}
+use Rattle.av1_tile.specs.PlaneBlocks.{block_told, component, intra_in, prediction_in, shared, type_in}
 use Rattle.av1_tile.specs.Predicted.{Keeping, keeping_in}
 use Rattle.av1_tile.specs.Reference.{Scene}
-use Rattle.av1_tile.specs.Shared.{parts_at}
+use Rattle.av1_tile.specs.SharedChroma.{parts_at}
 use Rattle.av1_tile.specs.Steps.{plane_steps}
-use Rattle.av1_tile.specs.Walk.{BlockFits, KeepsPlane, Known, Movers, Stores, block_by, edges_in, fast_in, near_by, parameters_by, parts_by, with_mover}
+use Rattle.av1_tile.specs.Walk.{BlockFits, KeepsPlane, Known, Motions, Stores, block_by, near_by, parameters_by, parts_by, with_motion}
 use Rattle.av1_tile.proofs.Lifts.{number_component}
 
 -- the edge filter is told nothing of a leaf that is predicted from references
 unasked : (f g : Nearby) (k : Component) (kind : LeafKind) → is_inter kind ≡ true → f.parts ≡ g.parts → prediction_in f k kind ≡ prediction_in g k kind
 unasked f g k (Intra mode step chroma) e same = absurd cc
-unasked f g Y (Single mode reference mv) e same = rw same refl
-unasked f g U (Single mode reference mv) e same = rw same refl
-unasked f g V (Single mode reference mv) e same = rw same refl
-unasked f g Y (Compound mode references mvs) e same = rw same refl
-unasked f g U (Compound mode references mvs) e same = rw same refl
-unasked f g V (Compound mode references mvs) e same = rw same refl
+unasked f g k (Single mode reference mv) e same = ap (λ (parts : Option MotionParts). shared parts (from_one mode reference mv)) same
+unasked f g k (Compound mode references mvs) e same = ap (λ (parts : Option MotionParts). shared parts (from_two mode references mvs)) same
 
 -- and another shares no block
 unshared : (f g : Nearby) (k : Component) (kind : LeafKind) → is_inter kind ≡ false → f.filter ≡ g.filter → prediction_in f k kind ≡ prediction_in g k kind
-unshared f g Y (Intra mode step chroma) e same = rw same refl
-unshared f g U (Intra mode step (Some (Plain uv_mode uv_step))) e same = rw same refl
-unshared f g V (Intra mode step (Some (Plain uv_mode uv_step))) e same = rw same refl
-unshared f g U (Intra mode step (Some (Cfl alpha_u alpha_v))) e same = refl
-unshared f g V (Intra mode step (Some (Cfl alpha_u alpha_v))) e same = refl
-unshared f g U (Intra mode step None) e same = rw same refl
-unshared f g V (Intra mode step None) e same = rw same refl
+unshared f g k (Intra mode step chroma) e same =
+    ap (λ (filter : Option IntraEdgeFilterParameters). intra_in filter k mode step chroma) same
 unshared f g k (Single mode reference mv) e same = absurd cc
 unshared f g k (Compound mode references mvs) e same = absurd cc
 
@@ -58,9 +50,9 @@ same_told : (h : Header) (f g : Nearby) (k : Component) (l : LeafValue) → pred
 same_told h f g k l e = ap (λ (o : Prediction). record (block_told h f k l) { prediction = o }) e
 
 -- what is said at plane p is said at its component
-parts_there : (h : Header) (known : Known) (p : ℕ) (l : LeafValue) (parts : Option Parts) → p < 3 → parts ≡ parts_by h known.movers p l →
+parts_there : (h : Header) (known : Known) (p : ℕ) (l : LeafValue) (parts : Option MotionParts) → p < 3 → parts ≡ parts_by h known.motions p l →
     parts ≡ (near_by h known (component p) l).parts
-parts_there h known p l parts few e = e ∙ ap (λ (n : ℕ). parts_by h known.movers n l) (sym (number_component p few))
+parts_there h known p l parts few e = e ∙ ap (λ (n : ℕ). parts_by h known.motions n l) (sym (number_component p few))
 
 filter_there : (h : Header) (known : Known) (p : ℕ) (l : LeafValue) (area : PlaneArea) (filter : Option IntraEdgeFilterParameters) → p < 3
     → area ≡ plane_area h l.x l.y l.size l.tx_size p → filter ≡ parameters_by h known.told p area → filter ≡ (near_by h known (component p) l).filter
@@ -82,19 +74,19 @@ pub told : (h : Header) (near : Nearby) (p : ℕ) (l : LeafValue) (x y : ℕ) (a
 told h near p l x y area prediction type few column row at how of = rw (column, row, at, how, of, number_component p few) refl
 
 -- a block that is neither narrow nor low has no parts
-whole_alone : (narrow low : Bool) (at : ℕ → ℕ → Option LeafKind) (cx cy : ℕ) → (narrow || low) ≡ false → parts_at narrow low at cx cy ≡ None
+whole_alone : (narrow low : Bool) (at : ℕ → ℕ → Option Motion) (cx cy : ℕ) → (narrow || low) ≡ false → parts_at narrow low at cx cy ≡ None
 whole_alone true low at cx cy e = absurd cc
 whole_alone false true at cx cy e = absurd cc
 whole_alone false false at cx cy e = refl
 
-pub no_parts : (h : Header) (movers : Movers) (p : ℕ) (l : LeafValue) → (is_narrow l.size (xdec h p) || is_low l.size (ydec h p)) ≡ false
-    → None ≡ parts_by h movers p l
-no_parts h movers p l e =
-    sym (whole_alone (is_narrow l.size (xdec h p)) (is_low l.size (ydec h p)) (with_mover movers l) (l.x / 4) (l.y / 4) e)
+pub no_parts : (h : Header) (motions : Motions) (p : ℕ) (l : LeafValue) → (is_narrow l.size (xdec h p) || is_low l.size (ydec h p)) ≡ false
+    → None ≡ parts_by h motions p l
+no_parts h motions p l e =
+    sym (whole_alone (is_narrow l.size (xdec h p)) (is_low l.size (ydec h p)) (with_motion motions l) (l.x / 4) (l.y / 4) e)
 
 module _ (h : Header) (known : Known) (p : ℕ) (l : LeafValue) (few : p < 3) (block : PlaneBlock) where
   -- a leaf from references by its parts
-  pub by_parts : (parts : Option Parts) → is_inter l.kind ≡ true → parts ≡ parts_by h known.movers p l →
+  pub by_parts : (parts : Option MotionParts) → is_inter l.kind ≡ true → parts ≡ parts_by h known.motions p l →
       block ≡ block_told h (record { filter = None; parts = parts }) (component p) l → block ≡ block_by h known (component p) l
   by_parts parts inter e is =
       let near : Nearby = record { filter = None; parts = parts } in
@@ -129,26 +121,11 @@ module _ {T : Type 0} (num : T → ℕ) (pixel : ℕ → T) (h : Header) (known 
   pub kept_there : (before after : Plane T) → KeepsPlane num h block.plane before after → KeepsPlane num h p before after
   kept_there before after = subst (λ (n : ℕ). KeepsPlane num h n before after) in_plane
 
-  pub counted_there : (prepared after : ℕ) → after ≡ fold edges_in prepared (plane_steps h block triples) →
-      after ≡ fold edges_in prepared (plane_steps h (block_by h known (component p) l) triples)
-  counted_there prepared after e = e ∙ ap (λ (b : PlaneBlock). fold edges_in prepared (plane_steps h b triples)) is
-
-  pub walked_there : (luma : List ℤ) (scene : Scene) (before after : Plane T) →
-      after ≡ fold (fast_in num pixel scene block.plane (λ _. ac_at (tx_width block.area.tx_size) luma)) before (plane_steps h block triples)
-      → let own = block_by h known (component p) l in
-      after ≡ fold (fast_in num pixel scene p (λ _. ac_at (tx_width own.area.tx_size) luma)) before (plane_steps h own triples)
-  walked_there luma scene before after e =
-      let own = block_by h known (component p) l in
-      e
-      ∙ ap (λ (b : PlaneBlock). fold (fast_in num pixel scene b.plane (λ _. ac_at (tx_width b.area.tx_size) luma)) before (plane_steps h b triples)) is
-      ∙ ap (λ (n : ℕ). fold (fast_in num pixel scene n (λ _. ac_at (tx_width own.area.tx_size) luma)) before (plane_steps h own triples))
-      (number_component p few)
-
-  pub predicted_there : (luma : List ℤ) (scene : Scene) (start after : Keeping (Plane T) T) →
+  pub walked_there : (luma : List ℤ) (scene : Scene) (start after : Keeping (Plane T) T) →
       after ≡ fold (keeping_in num pixel scene block.plane (λ _. ac_at (tx_width block.area.tx_size) luma)) start (plane_steps h block triples)
       → let own = block_by h known (component p) l in
       after ≡ fold (keeping_in num pixel scene p (λ _. ac_at (tx_width own.area.tx_size) luma)) start (plane_steps h own triples)
-  predicted_there luma scene start after e =
+  walked_there luma scene start after e =
       let own = block_by h known (component p) l in
       e
       ∙ ap (λ (b : PlaneBlock). fold (keeping_in num pixel scene b.plane (λ _. ac_at (tx_width b.area.tx_size) luma)) start (plane_steps h b triples)) is

@@ -9,11 +9,11 @@ use Rattle.av1_plan.specs.declared.leaf.LeafKind.{LeafKind}
 use Rattle.av1_plan.specs.declared.leaf.LeafKind.TheVariants.{Intra, Single, Compound}
 use Rattle.av1_plan.specs.Geometry.{plane_area, plane_tx_size, xdec, ydec}
 use Rattle.av1_plan.specs.Plan.{LeafValue}
+use Rattle.av1_tile.specs.Motion.{from_one, from_two}
+use Rattle.av1_tile.specs.declared.motion.Motion.{Motion}
 use Rattle.av1_tile.specs.declared.plane_block.Nearby.{Nearby}
-use Rattle.av1_tile.specs.declared.plane_block.Parts.{Parts}
+use Rattle.av1_tile.specs.declared.shared_chroma.MotionParts.{MotionParts}
 use Rattle.av1_tile.specs.declared.plane_block.PlaneBlock.{PlaneBlock}
-use Rattle.av1_tile.specs.declared.plane_block.Prediction.{Prediction}
-use Rattle.av1_tile.specs.declared.plane_block.Prediction.TheVariants as predictions
 use Rattle.av1_tile.specs.Canvas.{Y, U, V}
 use Rattle.av1_tile.specs.PlaneBlocks.{block_told, is_from_luma, prediction_in, shared}
 use Rattle.av1_tile.specs.Reference.{luma_for, luma_of}
@@ -21,17 +21,16 @@ use Rattle.av1_tile.specs.Walk.{luma_block}
 use Rattle.av1_tile.proofs.Lifts.{SameFor, SameLuma}
 
 -- a block in parts isn't predicted from luma
-shared_same : (parts : Option Parts) (own : Prediction) (block : PlaneBlock) (f g : PlaneBlock → ℕ → ℕ → ℤ) → SameFor block own f g →
-    SameFor block (shared parts own) f g
-shared_same (Some parts) own block f g same = tt
-shared_same None own block f g same = same
+shared_same : (parts : Option MotionParts) (own : Motion) (block : PlaneBlock) (f g : PlaneBlock → ℕ → ℕ → ℤ) → SameFor block (shared parts own) f g
+shared_same (Some parts) own block f g = tt
+shared_same None own block f g = tt
 
 -- the luma of a leaf is predicted from the samples round it or from references
 same_y : (near : Nearby) (kind : LeafKind) (block : PlaneBlock) (f g : PlaneBlock → ℕ → ℕ → ℤ) →
     SameFor block (prediction_in near Y kind) f g
 same_y near (Intra mode step chroma) block f g = tt
-same_y near (Single mode reference mv) block f g = shared_same near.parts (predictions.Single mode reference mv) block f g tt
-same_y near (Compound mode references mvs) block f g = shared_same near.parts (predictions.Compound mode references mvs) block f g tt
+same_y near (Single mode reference mv) block f g = shared_same near.parts (from_one mode reference mv) block f g
+same_y near (Compound mode references mvs) block f g = shared_same near.parts (from_two mode references mvs) block f g
 
 -- whatever its block is told, nothing hangs on it
 pub plain_in_y : (h : Header) (l : LeafValue) (near : Nearby) (luma : ℕ → ℕ → ℕ) (w : ℕ) (ac : List ℤ) →
@@ -47,16 +46,16 @@ same_u : (near : Nearby) (kind : LeafKind) (block : PlaneBlock) (f g : PlaneBloc
 same_u near (Intra mode step (Some (Cfl alpha_u alpha_v))) block f g same = same refl
 same_u near (Intra mode step (Some (Plain chroma_mode chroma_step))) block f g same = tt
 same_u near (Intra mode step None) block f g same = tt
-same_u near (Single mode reference mv) block f g same = shared_same near.parts (predictions.Single mode reference mv) block f g tt
-same_u near (Compound mode references mvs) block f g same = shared_same near.parts (predictions.Compound mode references mvs) block f g tt
+same_u near (Single mode reference mv) block f g same = shared_same near.parts (from_one mode reference mv) block f g
+same_u near (Compound mode references mvs) block f g same = shared_same near.parts (from_two mode references mvs) block f g
 
 same_v : (near : Nearby) (kind : LeafKind) (block : PlaneBlock) (f g : PlaneBlock → ℕ → ℕ → ℤ) → SameWhere kind block f g →
     SameFor block (prediction_in near V kind) f g
 same_v near (Intra mode step (Some (Cfl alpha_u alpha_v))) block f g same = same refl
 same_v near (Intra mode step (Some (Plain chroma_mode chroma_step))) block f g same = tt
 same_v near (Intra mode step None) block f g same = tt
-same_v near (Single mode reference mv) block f g same = shared_same near.parts (predictions.Single mode reference mv) block f g tt
-same_v near (Compound mode references mvs) block f g same = shared_same near.parts (predictions.Compound mode references mvs) block f g tt
+same_v near (Single mode reference mv) block f g same = shared_same near.parts (from_one mode reference mv) block f g
+same_v near (Compound mode references mvs) block f g same = shared_same near.parts (from_two mode references mvs) block f g
 
 -- both planes of chroma are transformed alike
 chroma_size : (h : Header) (l : LeafValue) → (plane_area h l.x l.y l.size l.tx_size 2).tx_size ≡ (plane_area h l.x l.y l.size l.tx_size 1).tx_size

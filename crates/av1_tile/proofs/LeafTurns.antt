@@ -64,8 +64,7 @@ ready_always h k before (predict block n a) e = go block.prediction e
     go : (p : Prediction) → is_whole p ≡ true → PredictionReady h k before block n a p
     go (predictions.Intra mode step filter) e = absurd cc
     go (predictions.FromLuma alpha) e = absurd cc
-    go (predictions.Single mode reference mv) e = tt
-    go (predictions.Compound mode references mvs) e = tt
+    go (predictions.Inter motion) e = tt
     go (predictions.Parts parts) e = tt
 
 each_always : (h : Header) (k : Component) (before : List PlaneStep) (ss : List Step) → AllByRecursion (λ s. needs_nothing s ≡ true) ss →

@@ -1,3 +1,10 @@
+pub mod Sides
+pub mod Filled
+pub mod FilledSlots
+pub mod Served
+pub mod Painted
+pub mod MotionWithin
+pub mod TestFrames
 pub mod ListValues
 pub mod Loops
 pub mod CoefficientLists

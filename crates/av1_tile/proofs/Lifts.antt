@@ -15,19 +15,18 @@ use Rattle.av1_plan.specs.declared.header.Header.{Header}
 use Rattle.av1_plan.specs.declared.leaf.Triple.{Triple}
 use Rattle.av1_plan.specs.Geometry.{carries_chroma, block_count, transform_block}
 use Rattle.av1_plan.specs.Plan.{LeafValue}
-use Rattle.av1_references.specs.References.{leaf_area}
+use Rattle.av1_tile.specs.Motion.{leaf_area}
 use Rattle.av1_tile.specs.declared.plane_block.PlaneBlock.{PlaneBlock}
 use Rattle.av1_tile.specs.declared.plane_block.Prediction.{Prediction}
 use Rattle.av1_tile.specs.declared.plane_block.Prediction.TheVariants as predictions
 use Rattle.av1_tile.specs.declared.planes.Planes.{Planes}
 use Rattle.av1_tile.specs.Canvas.{Component, Y, U, V}
-use Rattle.av1_tile.specs.declared.predicted.PredictedPlanes.{PredictedPlanes}
 use Rattle.av1_tile.specs.PlaneBlocks.{number, component, components_of, is_whole, triples_in}
-use Rattle.av1_tile.specs.Predicted.{Keeping, keeping_in, keeping_step, kept_in}
+use Rattle.av1_tile.specs.Predicted.{Gathered, Keeping, gathered_in, keeping_in, keeping_step}
 use Rattle.av1_tile.specs.Reference.{Scene, by_prediction, luma_for}
 use Rattle.av1_tile.specs.Steps.{Step, PlaneStep, predict, add, joined, block_area, block_steps, steps_at, whole_steps, plane_steps, in_component}
 use Rattle.av1_tile.specs.Steps.{component_steps, steps_of}
-use Rattle.av1_tile.specs.Walk.{edges_in, edges_after, fast_in, fast_step, placed_edge, plane_of, with_plane, SameLayout}
+use Rattle.av1_tile.specs.Walk.{edges_after, fast_in, fast_step, placed_edge, plane_of, with_plane, SameLayout}
 
 -- ---- steps that do alike
 
@@ -82,8 +81,7 @@ module _ {A : Type 0} (F G : A → Step → A) (block : PlaneBlock)
 abbrev pub SameFor : PlaneBlock → Prediction → (f g : PlaneBlock → ℕ → ℕ → ℤ) → Type 0
 SameFor block (predictions.FromLuma alpha) f g = (r c : ℕ) → r < tx_height block.area.tx_size → c < tx_width block.area.tx_size → f block r c ≡ g block r c
 SameFor block (predictions.Intra mode step filter) f g = ⊤
-SameFor block (predictions.Single mode reference mv) f g = ⊤
-SameFor block (predictions.Compound mode references mvs) f g = ⊤
+SameFor block (predictions.Inter motion) f g = ⊤
 SameFor block (predictions.Parts parts) f g = ⊤
 
 abbrev pub SameLuma : PlaneBlock → (f g : PlaneBlock → ℕ → ℕ → ℤ) → Type 0
@@ -97,8 +95,7 @@ module _ {T : Type 0} (num : T → ℕ) (pixel : ℕ → T) (plan : Scene) (p : 
   unfolding by_prediction
   whole_same (predictions.Intra mode step filter) e a q r c = refl
   whole_same (predictions.FromLuma alpha) e a q r c = absurd cc
-  whole_same (predictions.Single mode reference mv) e a q r c = refl
-  whole_same (predictions.Compound mode references mvs) e a q r c = refl
+  whole_same (predictions.Inter motion) e a q r c = refl
   whole_same (predictions.Parts parts) e a q r c = refl
 
   whole_one : is_whole block.prediction ≡ true → (q : Plane T) →
@@ -119,8 +116,7 @@ module _ {T : Type 0} (num : T → ℕ) (pixel : ℕ → T) (plan : Scene) (p : 
   unfolding by_prediction
   by_luma (predictions.Intra mode step filter) s n b q r c hr hc = refl
   by_luma (predictions.FromLuma alpha) s n b q r c hr hc = predicted_luma _ _ _ _ (f block) (g block) _ r c (s r c hr hc)
-  by_luma (predictions.Single mode reference mv) s n b q r c hr hc = refl
-  by_luma (predictions.Compound mode references mvs) s n b q r c hr hc = refl
+  by_luma (predictions.Inter motion) s n b q r c hr hc = refl
   by_luma (predictions.Parts parts) s n b q r c hr hc = refl
 
   one_same : (n : ℕ) (b : TransformBlock) (q : Plane T) →
@@ -138,7 +134,7 @@ module _ {T : Type 0} (num : T → ℕ) (pixel : ℕ → T) (plan : Scene) (p : 
       fold (keeping_in num pixel plan p f) s (plane_steps h block triples) ≡ fold (keeping_in num pixel plan p g) s (plane_steps h block triples)
   unfolding keeping_in
   kept_same h triples s =
-      let after : (q : Keeping (Plane T) T) (step : Step) → Plane T → Keeping (Plane T) T = λ q step z. (z, kept_in num pixel p z q.1 step) in
+      let after : (q : Keeping (Plane T) T) (step : Step) → Plane T → Keeping (Plane T) T = λ q step z. (z, gathered_in num pixel p z q.1 step) in
       steps_alike (keeping_in num pixel plan p f) (keeping_in num pixel plan p g) block
       (λ e q. ap (after q (predict block 0 (leaf_area block.area))) (whole_one num pixel plan p f g block e q.0))
       (λ n b q. ap (after q (predict block n (block_area block b))) (one_same n b q.0))
@@ -160,8 +156,15 @@ module _ {T : Type 0} (num : T → ℕ) (pixel : ℕ → T) (plan : Scene) where
   kept_walked s [] = refl
   kept_walked s (step ∷ rest) = kept_walked (keeping_step num pixel plan s step) rest
 
+  -- and the count of edges is theirs
+  pub kept_counted : (s : Keeping (Planes T) T) (steps : List PlaneStep) →
+      (fold (keeping_step num pixel plan) s steps).1.edges ≡ fold edges_after s.1.edges steps
+  unfolding keeping_step
+  kept_counted s [] = refl
+  kept_counted s (step ∷ rest) = kept_counted (keeping_step num pixel plan s step) rest
+
   -- what is kept beside steps in plane k
-  fold_keeping : (k : Component) (planes : Planes T) (kept : PredictedPlanes T) (steps : List Step) →
+  fold_keeping : (k : Component) (planes : Planes T) (kept : Gathered T) (steps : List Step) →
       let r = fold (keeping_in num pixel plan (number k) (luma_for plan.header (sample_at num planes.y) k)) (plane_of k planes, kept) steps in
       fold (keeping_step num pixel plan) (planes, kept) (in_component k steps) ≡ (with_plane k planes r.0, r.1)
   unfolding fast_step keeping_step keeping_in
@@ -170,20 +173,20 @@ module _ {T : Type 0} (num : T → ℕ) (pixel : ℕ → T) (plan : Scene) where
   fold_keeping V planes kept [] = refl
   fold_keeping Y planes kept (step ∷ rest) =
       let next = fast_in num pixel plan 0 (luma_for plan.header (sample_at num planes.y) Y) planes.y step in
-      fold_keeping Y (with_plane Y planes next) (kept_in num pixel 0 next kept step) rest
+      fold_keeping Y (with_plane Y planes next) (gathered_in num pixel 0 next kept step) rest
   fold_keeping U planes kept (step ∷ rest) =
       let next = fast_in num pixel plan 1 (luma_for plan.header (sample_at num planes.y) U) planes.u step in
-      fold_keeping U (with_plane U planes next) (kept_in num pixel 1 next kept step) rest
+      fold_keeping U (with_plane U planes next) (gathered_in num pixel 1 next kept step) rest
   fold_keeping V planes kept (step ∷ rest) =
       let next = fast_in num pixel plan 2 (luma_for plan.header (sample_at num planes.y) V) planes.v step in
-      fold_keeping V (with_plane V planes next) (kept_in num pixel 2 next kept step) rest
+      fold_keeping V (with_plane V planes next) (gathered_in num pixel 2 next kept step) rest
 
   -- a plane and what is kept, after the steps of a block in plane k
   abbrev pub kept_block : Component → (luma : ℕ → ℕ → ℕ) → PlaneBlock → List Triple → Keeping (Plane T) T → Keeping (Plane T) T
   kept_block k luma block triples s = fold (keeping_in num pixel plan (number k) (luma_for plan.header luma k)) s (plane_steps plan.header block triples)
 
   -- what is kept beside a leaf's steps in each plane is what is kept beside its steps in all
-  pub leaf_kept : (p q : Planes T) (k0 k1 k2 k3 : PredictedPlanes T) (told : Component → PlaneBlock) (leaf : LeafValue) →
+  pub leaf_kept : (p q : Planes T) (k0 k1 k2 k3 : Gathered T) (told : Component → PlaneBlock) (leaf : LeafValue) →
       carries_chroma plan.header leaf.x leaf.y leaf.size ≡ true
       → (q.y, k1) ≡ kept_block Y (sample_at num p.y) (told Y) (triples_in Y leaf) (p.y, k0)
       → (q.u, k2) ≡ kept_block U (sample_at num q.y) (told U) (triples_in U leaf) (p.u, k1)
@@ -213,7 +216,7 @@ module _ {T : Type 0} (num : T → ℕ) (pixel : ℕ → T) (plan : Scene) where
       ∙ ap (λ (z : Keeping (Plane T) T). (with_plane V (with_plane U (with_plane Y q y.0) u.0) z.0, z.1)) ev ∙ sym all ∙ ap (fold s (p, k0)) (sym list)
 
   -- the same where it carries no chroma
-  pub luma_kept : (p q : Planes T) (k0 k1 : PredictedPlanes T) (told : Component → PlaneBlock) (leaf : LeafValue) →
+  pub luma_kept : (p q : Planes T) (k0 k1 : Gathered T) (told : Component → PlaneBlock) (leaf : LeafValue) →
       carries_chroma plan.header leaf.x leaf.y leaf.size ≡ false
       → (q.y, k1) ≡ kept_block Y (sample_at num p.y) (told Y) (triples_in Y leaf) (p.y, k0) → q.u ≡ p.u → q.v ≡ p.v
       → (q, k1) ≡ fold (keeping_step num pixel plan) (p, k0) (steps_of plan.header told leaf)
@@ -229,41 +232,7 @@ module _ {T : Type 0} (num : T → ℕ) (pixel : ℕ → T) (plan : Scene) where
       ∙ ap (λ (z : Plane T). (with_plane V (with_plane U (with_plane Y q y.0) p.u) z, y.1)) j
       ∙ sym (fold_keeping Y p k0 (plane_steps h (told Y) (triples_in Y leaf))) ∙ ap (fold s (p, k0)) (sym list)
 
--- ---- the count of edges
-
-fold_edges : (k : Component) (count : ℕ) (steps : List Step) → fold edges_after count (in_component k steps) ≡ fold edges_in count steps
-fold_edges k count [] = refl
-fold_edges k count (step ∷ rest) = fold_edges k (edges_in count step) rest
-
-pub leaf_counted : (h : Header) (told : Component → PlaneBlock) (leaf : LeafValue) (count y u v : ℕ) → carries_chroma h leaf.x leaf.y leaf.size ≡ true
-    → y ≡ fold edges_in count (plane_steps h (told Y) (triples_in Y leaf)) → u ≡ fold edges_in y (plane_steps h (told U) (triples_in U leaf)) →
-    v ≡ fold edges_in u (plane_steps h (told V) (triples_in V leaf))
-    → v ≡ fold edges_after count (steps_of h told leaf)
-unfolding steps_of
-leaf_counted h told leaf count y u v carried e i j =
-    let a = component_steps h told leaf Y in
-    let b = component_steps h told leaf U in
-    let c = component_steps h told leaf V in
-    let list : flat_map (component_steps h told leaf) (components_of h leaf) ≡ a ++ (b ++ c) =
-    ap (λ (t : Bool). flat_map (component_steps h told leaf) (if t then Y ∷ U ∷ V ∷ [] else Y ∷ [])) carried ∙ ap (λ xs. a ++ (b ++ xs)) (append-nil c) in
-    j ∙ ap (λ (n : ℕ). fold edges_in n (plane_steps h (told V) (triples_in V leaf)))
-    (i ∙ ap (λ (n : ℕ). fold edges_in n (plane_steps h (told U) (triples_in U leaf))) e)
-    ∙ sym (fold-append edges_after count a (b ++ c) ∙ fold-append edges_after (fold edges_after count a) b c
-    ∙ ap (λ (n : ℕ). fold edges_after (fold edges_after n b) c) (fold_edges Y count (plane_steps h (told Y) (triples_in Y leaf)))
-    ∙ ap (λ (n : ℕ). fold edges_after n c)
-    (fold_edges U (fold edges_in count (plane_steps h (told Y) (triples_in Y leaf))) (plane_steps h (told U) (triples_in U leaf)))
-    ∙ fold_edges V (fold edges_in (fold edges_in count (plane_steps h (told Y) (triples_in Y leaf))) (plane_steps h (told U) (triples_in U leaf)))
-    (plane_steps h (told V) (triples_in V leaf)))
-    ∙ ap (fold edges_after count) (sym list)
-
-pub luma_counted : (h : Header) (told : Component → PlaneBlock) (leaf : LeafValue) (count y : ℕ) → carries_chroma h leaf.x leaf.y leaf.size ≡ false
-    → y ≡ fold edges_in count (plane_steps h (told Y) (triples_in Y leaf)) → y ≡ fold edges_after count (steps_of h told leaf)
-unfolding steps_of
-luma_counted h told leaf count y carried e =
-    let a = component_steps h told leaf Y in
-    let list : flat_map (component_steps h told leaf) (components_of h leaf) ≡ a =
-    ap (λ (t : Bool). flat_map (component_steps h told leaf) (if t then Y ∷ U ∷ V ∷ [] else Y ∷ [])) carried ∙ append-nil a in
-    e ∙ sym (fold_edges Y count (plane_steps h (told Y) (triples_in Y leaf))) ∙ ap (fold edges_after count) (sym list)
+-- ---- layouts
 
 pub layout_kept : {T : Type 0} (p q r : Planes T) → SameLayout p q → SameLayout q r → SameLayout p r
 layout_kept p q r e f = record { y = f.y ∙ e.y; u = f.u ∙ e.u; v = f.v ∙ e.v }

@@ -17,7 +17,7 @@ use Rattle.av1_plan.specs.Plan.{LeafValue, PlanValue}
 use Rattle.av1_plan.specs.Spelling.{IsSpelled}
 use Rattle.av1_plan.specs.Validity.{first_fault}
 use Rattle.av1_plan.proofs.ReadPlans.{spelled_frame, spelled_leaves}
-use Rattle.av1_references.specs.References.{leaf_area}
+use Rattle.av1_tile.specs.Motion.{leaf_area}
 use Rattle.av1_tile.specs.declared.extent.PlaneExtent.{PlaneExtent}
 use Rattle.av1_tile.specs.declared.plane_block.PlaneBlock.{PlaneBlock}
 use Rattle.av1_tile.specs.declared.plane_block.Prediction.{Prediction}
@@ -210,8 +210,7 @@ module _ (plan : Scene) (before : List PlaneStep) (k : Component) where
     edge_there _ _ a _ _ (ready.edge (walked plan before k) (walk_written plan before k)),
     (λ x y hx hy. walk_written plan before Y _ _ ∙ ready.luma x y hx hy),
   )
-  prediction_finds block n a (predictions.Single mode reference mv) ready = tt
-  prediction_finds block n a (predictions.Compound mode references mvs) ready = tt
+  prediction_finds block n a (predictions.Inter motion) ready = tt
   prediction_finds block n a (predictions.Parts parts) ready = tt
 
   step_finds : (step : Step) → StepReadyIn plan.header k before step → AddsTo before k step → StepFinds plan.header (walked plan before) k step
@@ -227,8 +226,7 @@ module _ (plan : Scene) (before : List PlaneStep) (k : Component) where
           (answer_low plan.header (number k) block n a)
       by (predictions.Intra mode step filter) ready edge = ready (walked plan before k) (walk_written plan before k)
       by (predictions.FromLuma alpha) ready edge = ready.edge (walked plan before k) (walk_written plan before k)
-      by (predictions.Single mode reference mv) ready edge = absurd cc
-      by (predictions.Compound mode references mvs) ready edge = absurd cc
+      by (predictions.Inter motion) ready edge = absurd cc
       by (predictions.Parts parts) ready edge = absurd cc
 
 -- ---- plans

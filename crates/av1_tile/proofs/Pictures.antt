@@ -21,7 +21,7 @@ use Rattle.av1_frame.proofs.Within.{filled_all}
 use Rattle.av1_order.specs.Plans.{coding_in}
 use Rattle.av1_order.specs.Turns.{IsCodedPlan}
 use Rattle.av1_plan.specs.declared.header.Header.{Header}
-use Rattle.av1_plan.specs.declared.leaf.LeafKind.{LeafKind}
+use Rattle.av1_tile.specs.declared.motion.Motion.{Motion}
 use Rattle.av1_plan.specs.declared.plan.Plan.{Plan}
 use Rattle.av1_plan.specs.Values.{plan_value}
 use Rattle.av1_plan.specs.Geometry.{xdec, ydec, plane_width, plane_height, shown_columns, shown_rows, carries_chroma}
@@ -39,8 +39,7 @@ use Rattle.av1_tile.specs.Canvas.{Component, Y, U, V}
 use Rattle.av1_tile.specs.Edge.{sample_of}
 use Rattle.av1_tile.specs.Output.{visible, planes_of}
 use Rattle.av1_tile.specs.PlaneBlocks.{component, shown_of, number}
-use Rattle.av1_tile.specs.declared.predicted.PredictedPlanes.{PredictedPlanes}
-use Rattle.av1_tile.specs.Predicted.{AreBlank, Keeping, ShowsPredictions, keeping_step}
+use Rattle.av1_tile.specs.Predicted.{AreBlank, Gathered, Keeping, ShowsPredictions, keeping_step}
 use Rattle.av1_tile.specs.Reference.{Scene, scene, slow_walk}
 use Rattle.av1_tile.specs.Memory.{ShowsPlan, ShowsScene}
 use Rattle.av1_tile.specs.State.{ShowsRows, edges_of, shown}
@@ -156,7 +155,7 @@ module _ (plan : PlanValue) (spelled : ∥ IsSpelled grammar plan ∥₁) (valid
 
   -- planes that have gone through its steps, whatever its leaves predict from references, show the samples that they come to
   pub plan_shows : {T : Type 0} (num : T → ℕ) (pixel : ℕ → T) (law : (v : ℕ) → num (pixel v) ≡ v) (back : (x : T) → pixel (num x) ≡ x) (p q : Planes T)
-      (told : Told) (motion : ℕ → LeafKind → VisibleArea → ℕ → ℕ → ℕ) → let own : Scene = record { header = plan.header; motion = motion }
+      (told : Told) (motion : ℕ → Motion → VisibleArea → ℕ → ℕ → ℕ) → let own : Scene = record { header = plan.header; motion = motion }
       in StoresAll num plan.header p → HasRoom plan.header p → StoresAll num plan.header q
       → q ≡ fold (fast_step num pixel own) p (steps_by plan.header (at_start told) plan.leaves) → ShowsScene num own plan.leaves q
   plan_shows num pixel law back p q told motion stores room after walked k x y hx hy =
@@ -174,14 +173,15 @@ module _ (plan : PlanValue) (spelled : ∥ IsSpelled grammar plan ∥₁) (valid
 
   -- what they have kept beside is what its Predict steps say
   pub plan_predicts : {T : Type 0} (num : T → ℕ) (pixel : ℕ → T) (law : (v : ℕ) → num (pixel v) ≡ v) (back : (x : T) → pixel (num x) ≡ x) (p q : Planes T)
-      (kept last : PredictedPlanes T) (told : Told) → StoresAll num plan.header p → HasRoom plan.header p → AreBlank pixel plan.header kept
-      → (q, last) ≡ fold (keeping_step num pixel (scene plan)) (p, kept) (steps_by plan.header (at_start told) plan.leaves) → ShowsPredictions num plan last
+      (kept last : Gathered T) (told : Told) → StoresAll num plan.header p → HasRoom plan.header p → AreBlank pixel plan.header kept.predictions
+      → (q, last) ≡ fold (keeping_step num pixel (scene plan)) (p, kept) (steps_by plan.header (at_start told) plan.leaves) →
+      ShowsPredictions num plan last.predictions
   plan_predicts num pixel law back p q kept last told stores room empty walked k =
       ∥∥₁_elim spelled (hlevel (List-set ℕ_set))
-      (λ s. predictions_shown num pixel law back plan p kept last (plan_ready plan.header plan.leaves (λ k. coded plan valid s (number k))
+      (λ s. predictions_shown num pixel law back plan p kept last.predictions (plan_ready plan.header plan.leaves (λ k. coded plan valid s (number k))
       (spelled_frame plan s) (λ i d within. (spelled_leaves plan s i d within).quarter))
       (record { plane = all_placed num plan.header p stores; room = room.y }) empty
-      (ap (λ (r : Keeping (Planes _) _). r.1) (walked ∙ ap (fold (keeping_step num pixel (scene plan)) (p, kept)) (same_steps s told))) k)
+      (ap (λ (r : Keeping (Planes _) _). r.1.predictions) (walked ∙ ap (fold (keeping_step num pixel (scene plan)) (p, kept)) (same_steps s told))) k)
 
   -- and the count of edges is that of its predictions
   pub plan_counts : (count after : ℕ) (told : Told) → after ≡ fold edges_after count (steps_by plan.header (at_start told) plan.leaves) →

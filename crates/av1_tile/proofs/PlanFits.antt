@@ -19,11 +19,10 @@ use Rattle.av1_blocks.specs.declared.transform.TxType.{TxType}
 use Rattle.av1_blocks.specs.declared.transform.TxType.TheVariants.{WHT_WHT, DCT_DCT}
 use Rattle.av1_frame.specs.declared.plane.PlaneConfig.{PlaneConfig}
 use Rattle.av1_inter.specs.Reference.{reference_of}
+use Rattle.av1_tile.specs.declared.motion.Motion.{Motion}
 use Rattle.av1_tile.specs.declared.plane_block.Nearby.{Nearby}
-use Rattle.av1_tile.specs.declared.plane_block.Parts.{Parts}
-use Rattle.av1_tile.specs.declared.plane_block.Prediction.{Prediction}
-use Rattle.av1_tile.specs.declared.plane_block.Prediction.TheVariants as predictions
-use Rattle.av1_order.specs.Plans.{IsWholeFrame, is_inter}
+use Rattle.av1_tile.specs.declared.shared_chroma.MotionParts.{MotionParts}
+use Rattle.av1_order.specs.Plans.{IsWholeFrame}
 use Rattle.av1_order.proofs.Plans.{halved_x, halved_y}
 use Rattle.av1_order.proofs.Sizes.{block_some}
 use Rattle.av1_plan.specs.ReadPlans.{IsOtherFrame, IsReadFrame, IsReadLeaf, IsReadKind}
@@ -41,11 +40,12 @@ use Rattle.av1_plan.specs.declared.header.Header.{Header}
 use Rattle.av1_plan.specs.declared.leaf.ChromaMode.TheVariants.{Plain, Cfl}
 use Rattle.av1_plan.specs.declared.leaf.LeafKind.{LeafKind}
 use Rattle.av1_plan.specs.declared.leaf.LeafKind.TheVariants.{Intra, Single, Compound}
-use Rattle.av1_references.proofs.Served.{accepted}
+use Rattle.av1_tile.proofs.Served.{accepted}
 use Rattle.av1_tile.specs.declared.planes.Planes.{Planes}
 use Rattle.av1_tile.specs.Canvas.{Component, Y, U, V, is_same}
+use Rattle.av1_tile.specs.Motion.{from_one, from_two, motion_of}
 use Rattle.av1_tile.specs.PlaneBlocks.{number, type_in, block_told, prediction_in, shared, triples_in, is_from_luma}
-use Rattle.av1_tile.specs.Walk.{HasRoom, HasRoomIn, Begins, BlockFits, FromLumaFits, KindServes, LeafFits, NearServes, PartsServe, PredictionFits}
+use Rattle.av1_tile.specs.Walk.{HasRoom, HasRoomIn, Begins, BlockFits, FromLumaFits, MotionServes, LeafFits, NearServes, PartsServe, PredictionFits}
 use Rattle.av1_tile.specs.Walk.{ReferenceFits}
 use Rattle.av1_tile.proofs.CflSizes.{from_luma_fits, luma_fits}
 use Rattle.av1_tile.proofs.UnitSteps.{covers, block_x, block_y, block_columns, block_rows, block_tx_size}
@@ -176,40 +176,34 @@ record HasMotionSides (h : Header) (p : ℕ) (area : PlaneArea) : Type 0 where
 reference_fits : (h : Header) (reference : RefType) → IsOtherFrame reference → HasPlanes h reference → ReferenceFits h reference
 reference_fits h reference other has = record { other = other; has = accepted h reference has }
 
--- a leaf from references can be predicted
-kind_serves : (h : Header) (carried : Bool) (kind : LeafKind) → IsReadKind carried kind → HasValidReferences h kind → is_inter kind ≡ true → KindServes h kind
-kind_serves h carried (Intra mode step chroma) read has inter = absurd cc
-kind_serves h carried (Single mode reference mv) read has inter = (read.inter, reference_fits h reference read.reference_read has)
-kind_serves h carried (Compound mode references mvs) read has inter =
+-- the motion of a leaf from references can be predicted
+single_serves : (h : Header) (carried : Bool) (mode : PredictionMode) (reference : RefType) (mv : MotionVector) →
+    IsReadKind carried (Single mode reference mv) → HasValidReferences h (Single mode reference mv) → MotionServes h (from_one mode reference mv)
+single_serves h carried mode reference mv read has =
+    record { mode = read.inter; first = reference_fits h reference read.reference_read has; second = λ e. absurd cc }
+
+compound_serves : (h : Header) (carried : Bool) (mode : PredictionMode) (references : List RefType) (mvs : List MotionVector) →
+    IsReadKind carried (Compound mode references mvs) → HasValidReferences h (Compound mode references mvs) → MotionServes h (from_two mode references mvs)
+compound_serves h carried mode references mvs read has =
     let first : 0 < length references = omega (arith, read.two_references) in
-    let second : 1 < length references = omega (arith, read.two_references) in (
-      compound_inter mode read.compound,
-      (
-        reference_fits h (reference_of references 0) (read.references_read 0 INTRA_FRAME first) (has 0 INTRA_FRAME first),
-        reference_fits h (reference_of references 1) (read.references_read 1 INTRA_FRAME second) (has 1 INTRA_FRAME second),
-      ),
-    )
+    let second : 1 < length references = omega (arith, read.two_references) in
+    record {
+      mode = compound_inter mode read.compound;
+      first = reference_fits h (reference_of references 0) (read.references_read 0 INTRA_FRAME first) (has 0 INTRA_FRAME first);
+      second = λ _. reference_fits h (reference_of references 1) (read.references_read 1 INTRA_FRAME second) (has 1 INTRA_FRAME second);
+    }
+
+kind_serves : (h : Header) (carried : Bool) (kind : LeafKind) → IsReadKind carried kind → HasValidReferences h kind →
+    IfSome (motion_of kind) (MotionServes h)
+kind_serves h carried (Intra mode step chroma) read has = tt
+kind_serves h carried (Single mode reference mv) read has = single_serves h carried mode reference mv read has
+kind_serves h carried (Compound mode references mvs) read has = compound_serves h carried mode references mvs read has
 
 -- so can its block, in parts or not
-shared_fits : (h : Header) (p : ℕ) (area : PlaneArea) (parts : Option Parts) (own : Prediction) → IfSome parts (PartsServe h) → HasMotionSides h p area →
-    PredictionFits h p area own → PredictionFits h p area (shared parts own)
-shared_fits h p area (Some parts) own serve sides fits = record { wide = sides.wide; high = sides.high; serve = serve }
-shared_fits h p area None own serve sides fits = fits
-
-single_fits : (h : Header) (p : ℕ) (area : PlaneArea) (near : Nearby) (carried : Bool) (mode : PredictionMode) (reference : RefType) (mv : MotionVector) →
-    NearServes h near → HasMotionSides h p area → IsReadKind carried (Single mode reference mv) → HasValidReferences h (Single mode reference mv)
-    → PredictionFits h p area (shared near.parts (predictions.Single mode reference mv))
-single_fits h p area near carried mode reference mv serve sides read has =
-    shared_fits h p area near.parts (predictions.Single mode reference mv) serve sides
-    (record { wide = sides.wide; high = sides.high; serves = kind_serves h carried (Single mode reference mv) read has refl })
-
-compound_fits : (h : Header) (p : ℕ) (area : PlaneArea) (near : Nearby) (carried : Bool) (mode : PredictionMode) (references : List RefType)
-    (mvs : List MotionVector) → NearServes h near → HasMotionSides h p area → IsReadKind carried (Compound mode references mvs) →
-    HasValidReferences h (Compound mode references mvs)
-    → PredictionFits h p area (shared near.parts (predictions.Compound mode references mvs))
-compound_fits h p area near carried mode references mvs serve sides read has =
-    shared_fits h p area near.parts (predictions.Compound mode references mvs) serve sides
-    (record { wide = sides.wide; high = sides.high; serves = kind_serves h carried (Compound mode references mvs) read has refl })
+shared_fits : (h : Header) (p : ℕ) (area : PlaneArea) (parts : Option MotionParts) (own : Motion) → IfSome parts (PartsServe h) →
+    HasMotionSides h p area → MotionServes h own → PredictionFits h p area (shared parts own)
+shared_fits h p area (Some parts) own serve sides serves = record { wide = sides.wide; high = sides.high; serve = serve }
+shared_fits h p area None own serve sides serves = record { wide = sides.wide; high = sides.high; serves = serves }
 
 -- a leaf whose chroma may be predicted from its luma, and which may be predicted from references
 mode_fits : (h : Header) (near : Nearby) (k : Component) (area : PlaneArea) (carried : Bool) (size : BlockSize) (kind : LeafKind) →
@@ -228,18 +222,10 @@ mode_fits h near V area carried size (Intra mode step (Some (Cfl alpha_u alpha_v
     luma refl refl alpha_v valid.chroma_valid.v
 mode_fits h near U area carried size (Intra mode step None) serve read valid has sides luma = record { intra = refl; plain = refl; few_steps = omega arith }
 mode_fits h near V area carried size (Intra mode step None) serve read valid has sides luma = record { intra = refl; plain = refl; few_steps = omega arith }
-mode_fits h near Y area carried size (Single mode reference mv) serve read valid has sides luma =
-    single_fits h 0 area near carried mode reference mv serve sides read has
-mode_fits h near Y area carried size (Compound mode references mvs) serve read valid has sides luma =
-    compound_fits h 0 area near carried mode references mvs serve sides read has
-mode_fits h near U area carried size (Single mode reference mv) serve read valid has sides luma =
-    single_fits h 1 area near carried mode reference mv serve sides read has
-mode_fits h near U area carried size (Compound mode references mvs) serve read valid has sides luma =
-    compound_fits h 1 area near carried mode references mvs serve sides read has
-mode_fits h near V area carried size (Single mode reference mv) serve read valid has sides luma =
-    single_fits h 2 area near carried mode reference mv serve sides read has
-mode_fits h near V area carried size (Compound mode references mvs) serve read valid has sides luma =
-    compound_fits h 2 area near carried mode references mvs serve sides read has
+mode_fits h near k area carried size (Single mode reference mv) serve read valid has sides luma =
+    shared_fits h (number k) area near.parts (from_one mode reference mv) serve sides (single_serves h carried mode reference mv read has)
+mode_fits h near k area carried size (Compound mode references mvs) serve read valid has sides luma =
+    shared_fits h (number k) area near.parts (from_two mode references mvs) serve sides (compound_serves h carried mode references mvs read has)
 
 -- ---- leaves
 

@@ -15,31 +15,32 @@ use Rattle.av1_frame.specs.declared.plane.PlaneConfig.{PlaneConfig}
 use Rattle.av1_frame.specs.declared.tile_state.CodedBlockInfo.{CodedBlockInfo}
 use Rattle.av1_intra.specs.declared.neighbours.IntraEdgeFilterParameters.{IntraEdgeFilterParameters}
 use Rattle.av1_order.specs.Neighbours.{area_of, last_cell, leaf_holds, noted, NeighboursAreNoted}
-use Rattle.av1_order.specs.Plans.{IsWholeFrame, is_inter}
+use Rattle.av1_order.specs.Plans.{IsWholeFrame}
 use Rattle.av1_order.specs.Turns.{IsCodedPlan}
 use Rattle.av1_order.proofs.Cuts.{at_cut}
 use Rattle.av1_order.proofs.Neighbours.{last_cells_lie_inside, leaves_find_neighbours}
 use Rattle.av1_plan.specs.declared.geometry.PlaneArea.{PlaneArea}
 use Rattle.av1_plan.specs.declared.header.Header.{Header}
 use Rattle.av1_plan.specs.declared.leaf.Leaf.{Leaf}
-use Rattle.av1_plan.specs.declared.leaf.LeafKind.{LeafKind}
 use Rattle.av1_plan.specs.declared.leaf.Triple.{Triple}
 use Rattle.av1_plan.specs.declared.leaves.Leaves.{Leaves}
 use Rattle.av1_plan.specs.Values.{leaf_list, leaves_value, triple_list}
 use Rattle.av1_plan.specs.Geometry.{carries_chroma, covers_plane, plane_area, plane_width, plane_height, xdec, ydec, coded_width, coded_height}
 use Rattle.av1_plan.specs.Plan.{LeafValue, leaf_triples, leaf_value, leaf_values}
 use Rattle.av1_tile.specs.declared.plane_block.Nearby.{Nearby}
-use Rattle.av1_tile.specs.declared.plane_block.Parts.{Parts}
+use Rattle.av1_tile.specs.declared.shared_chroma.MotionParts.{MotionParts}
 use Rattle.av1_tile.specs.declared.plane_block.PlaneBlock.{PlaneBlock}
 use Rattle.av1_tile.specs.declared.planes.Planes.{Planes}
 use Rattle.av1_tile.specs.Canvas.{Component, Y, U, V}
 use Rattle.av1_tile.specs.PlaneBlocks.{number, coded_info, block_told, filter_parameters, near_at, neighbour_above, neighbour_left, plane_block, told_of}
 use Rattle.av1_tile.specs.PlaneBlocks.{triples_in}
-use Rattle.av1_tile.specs.Shared.{in_parts, moved, parts_at, parts_in}
+use Rattle.av1_tile.specs.declared.motion.Motion.{Motion}
+use Rattle.av1_tile.specs.Motion.{motion_of}
+use Rattle.av1_tile.specs.SharedChroma.{in_parts, motion_in, parts_at, parts_in}
 use Rattle.av1_tile.specs.Steps.{PlaneStep, component_steps, steps_of, leaf_steps, steps_after, steps}
-use Rattle.av1_tile.specs.Walk.{Known, KindServes, Movers, MoversServe, Told, at_start, told_by, parameters_by, parts_by, block_by, leaf_steps_by}
-use Rattle.av1_tile.specs.Walk.{movers_of, near_by}
-use Rattle.av1_tile.specs.Walk.{no_movers, steps_by, with_all_known, with_known, with_leaf, with_mover, Begins, BlockFits, LeafFits}
+use Rattle.av1_tile.specs.Walk.{Known, MotionServes, Motions, MotionsServe, Told, at_start, told_by, parameters_by, parts_by, block_by, leaf_steps_by}
+use Rattle.av1_tile.specs.Walk.{motions_of, near_by}
+use Rattle.av1_tile.specs.Walk.{no_motions, steps_by, with_all_known, with_known, with_leaf, with_motion, Begins, BlockFits, LeafFits}
 use Rattle.av1_tile.specs.Walk.{LumaFits, PartsServe, SameLayout, leaf_with}
 use Rattle.av1_tile.proofs.UnitSteps.{covers, covers_is}
 
@@ -194,41 +195,42 @@ module _ (h : Header) (p : ℕ) (earlier : List LeafValue) (leaf : LeafValue) (l
 -- ---- leaves that share a block
 
 -- of each cell the leaf that was noted last in it is known, where that is predicted from references
-abbrev pub MoveAs : Movers → List LeafValue → Type 0
-MoveAs movers earlier = (cx cy : ℕ) → movers cx cy ≡ moved (noted earlier cx cy)
+abbrev pub AreMotionsOf : Motions → List LeafValue → Type 0
+AreMotionsOf motions earlier = (cx cy : ℕ) → motions cx cy ≡ motion_in (noted earlier cx cy)
 
 -- one more leaf
-moves_more : (movers : Movers) (earlier : List LeafValue) (leaf : LeafValue) → MoveAs movers earlier → MoveAs (with_mover movers leaf) (earlier ++ leaf ∷ [])
-moves_more movers earlier leaf before cx cy =
+motions_of_more : (motions : Motions) (earlier : List LeafValue) (leaf : LeafValue) → AreMotionsOf motions earlier →
+    AreMotionsOf (with_motion motions leaf) (earlier ++ leaf ∷ [])
+motions_of_more motions earlier leaf before cx cy =
     go (leaf_holds leaf cx cy)
-    ∙ ap moved (sym (fold_push (λ (shown : Option LeafValue) (m : LeafValue). if leaf_holds m cx cy then Some m else shown) None earlier leaf))
+    ∙ ap motion_in (sym (fold_push (λ (shown : Option LeafValue) (m : LeafValue). if leaf_holds m cx cy then Some m else shown) None earlier leaf))
   where
-    go : (t : Bool) → (if t then moved (Some leaf) else movers cx cy) ≡ moved (if t then Some leaf else noted earlier cx cy)
+    go : (t : Bool) → (if t then motion_of leaf.kind else motions cx cy) ≡ motion_in (if t then Some leaf else noted earlier cx cy)
     go true = refl
     go false = before cx cy
 
 -- what is known before a leaf is what the leaves before it say
 pub record KnowsOf (h : Header) (known : Known) (earlier : List LeafValue) : Type 0 where
   pub told : TellsOf h known.told earlier
-  pub movers : MoveAs known.movers earlier
+  pub motions : AreMotionsOf known.motions earlier
 
 knows_nothing : (h : Header) (told : Told) → KnowsOf h (at_start told) []
-knows_nothing h told = record { told = tells_nothing h told; movers = λ cx cy. refl }
+knows_nothing h told = record { told = tells_nothing h told; motions = λ cx cy. refl }
 
 knows_more : (h : Header) (known : Known) (earlier : List LeafValue) (leaf : LeafValue) → KnowsOf h known earlier →
     KnowsOf h (with_known known leaf) (earlier ++ leaf ∷ [])
 knows_more h known earlier leaf is = record {
   told = tells_more h known.told earlier leaf is.told;
-  movers = moves_more known.movers earlier leaf is.movers;
+  motions = motions_of_more known.motions earlier leaf is.motions;
 }
 
 -- so a leaf's block has the parts that they give it
 parts_known : (h : Header) (known : Known) (earlier : List LeafValue) (leaf : LeafValue) (p : ℕ) → KnowsOf h known earlier →
-    parts_by h known.movers p leaf ≡ parts_in h earlier p leaf
+    parts_by h known.motions p leaf ≡ parts_in h earlier p leaf
 parts_known h known earlier leaf p is =
     ap (λ (at : ℕ → ℕ →
-    Option LeafKind). parts_at (is_narrow leaf.size (xdec h p)) (is_low leaf.size (ydec h p)) at (leaf.x / 4) (leaf.y / 4))
-    (fun_ext (λ cx. fun_ext (λ cy. moves_more known.movers earlier leaf is.movers cx cy)))
+    Option Motion). parts_at (is_narrow leaf.size (xdec h p)) (is_low leaf.size (ydec h p)) at (leaf.x / 4) (leaf.y / 4))
+    (fun_ext (λ cx. fun_ext (λ cy. motions_of_more known.motions earlier leaf is.motions cx cy)))
 
 -- two records that tell the same of each cell of the frame
 abbrev pub TellSame : Header → (f g : Told) → Type 0
@@ -237,19 +239,19 @@ TellSame h f g = (cx cy : ℕ) → cx < coded_width h / 4 → cy < coded_height 
 -- two that are known alike
 pub record KnowSame (h : Header) (f g : Known) : Type 0 where
   pub told : TellSame h f.told g.told
-  pub movers : (cx cy : ℕ) → f.movers cx cy ≡ g.movers cx cy
+  pub motions : (cx cy : ℕ) → f.motions cx cy ≡ g.motions cx cy
 
 -- say the same of a leaf's parts
-parts_same : (h : Header) (f g : Known) (leaf : LeafValue) (p : ℕ) → KnowSame h f g → parts_by h f.movers p leaf ≡ parts_by h g.movers p leaf
+parts_same : (h : Header) (f g : Known) (leaf : LeafValue) (p : ℕ) → KnowSame h f g → parts_by h f.motions p leaf ≡ parts_by h g.motions p leaf
 parts_same h f g leaf p same =
-    ap (λ (movers : Movers). parts_by h movers p leaf) (fun_ext (λ cx. fun_ext (λ cy. same.movers cx cy)))
+    ap (λ (motions : Motions). parts_by h motions p leaf) (fun_ext (λ cx. fun_ext (λ cy. same.motions cx cy)))
 
 -- a block by what is said of it
 near_same : (h : Header) (k : Component) (leaf : LeafValue) (f g : Nearby) → f.filter ≡ g.filter → f.parts ≡ g.parts →
     block_told h f k leaf ≡ block_told h g k leaf
 near_same h k leaf f g filter parts =
     ap (λ (o : Option IntraEdgeFilterParameters). block_told h (record { filter = o; parts = f.parts }) k leaf) filter
-    ∙ ap (λ (o : Option Parts). block_told h (record { filter = g.filter; parts = o }) k leaf) parts
+    ∙ ap (λ (o : Option MotionParts). block_told h (record { filter = g.filter; parts = o }) k leaf) parts
 
 -- a leaf's steps by what is known are its steps behind the leaves before it
 leaf_told : (h : Header) (earlier : List LeafValue) (leaf : LeafValue) (later : List LeafValue) (known : Known) →
@@ -356,21 +358,21 @@ all_known_more leaves i w known inside is =
     ∙ fold_push with_known known (take i xs) w
 
 -- the leaves in memory up to one more
-pub movers_more : (ls : List Leaf) (i : ℕ) (l : Leaf) → i < length ls → l ≡ get_or ls i l → (cx cy : ℕ) →
-    movers_of (take (i + 1) ls) cx cy ≡ with_mover (movers_of (take i ls)) (leaf_with l [] [] []) cx cy
-movers_more ls i l inside is cx cy =
-    let note : Movers → Leaf → Movers = λ movers leaf. with_mover movers (leaf_with leaf [] [] []) in
-    ap (λ (movers : Movers). movers cx cy) (ap (λ (ms : List Leaf). fold note no_movers ms)
+pub motions_more : (ls : List Leaf) (i : ℕ) (l : Leaf) → i < length ls → l ≡ get_or ls i l → (cx cy : ℕ) →
+    motions_of (take (i + 1) ls) cx cy ≡ with_motion (motions_of (take i ls)) (leaf_with l [] [] []) cx cy
+motions_more ls i l inside is cx cy =
+    let note : Motions → Leaf → Motions = λ motions leaf. with_motion motions (leaf_with leaf [] [] []) in
+    ap (λ (motions : Motions). motions cx cy) (ap (λ (ms : List Leaf). fold note no_motions ms)
     (take_more ls i l inside ∙ ap (λ (m : Leaf). take i ls ++ m ∷ []) (sym is))
-    ∙ fold_push note no_movers (take i ls) l)
+    ∙ fold_push note no_motions (take i ls) l)
 
 -- what is known once leaf i is noted
 pub known_more : (leaves : Leaves) (h : Header) (i : ℕ) (l : Leaf) (known : Known) (old new : Told) → i < length (leaves_value leaves) →
     i < length (leaf_list leaves) → l ≡ get_or (leaf_list leaves) i l →
     leaf_value (triple_list leaves) l ≡ get_or (leaves_value leaves) i (leaf_value (triple_list leaves) l)
-    → KnowSame h (record { told = old; movers = movers_of (take i (leaf_list leaves)) }) (with_all_known known (take i (leaves_value leaves)))
+    → KnowSame h (record { told = old; motions = motions_of (take i (leaf_list leaves)) }) (with_all_known known (take i (leaves_value leaves)))
     → TellSame h new (with_leaf old (leaf_with l [] [] []))
-    → KnowSame h (record { told = new; movers = movers_of (take (i + 1) (leaf_list leaves)) }) (with_all_known known (take (i + 1) (leaves_value leaves)))
+    → KnowSame h (record { told = new; motions = motions_of (take (i + 1) (leaf_list leaves)) }) (with_all_known known (take (i + 1) (leaves_value leaves)))
 known_more leaves h i l known old new inside stored own is before noted =
     let w = leaf_value (triple_list leaves) l in
     let was = with_all_known known (take i (leaves_value leaves)) in
@@ -379,57 +381,56 @@ known_more leaves h i l known old new inside stored own is before noted =
       told = λ cx cy hx hy.
           noted cx cy hx hy ∙ ap (λ (z : CodedBlockInfo). if leaf_holds w cx cy then coded_info l.kind else z) (before.told cx cy hx hy)
           ∙ sym (ap (λ (k : Known). k.told cx cy) next);
-      movers = λ cx cy.
-          movers_more (leaf_list leaves) i l stored own cx cy
-          ∙ ap (λ (z : Option LeafKind). if leaf_holds w cx cy then moved (Some w) else z) (before.movers cx cy)
-          ∙ sym (ap (λ (k : Known). k.movers cx cy) next);
+      motions = λ cx cy.
+          motions_more (leaf_list leaves) i l stored own cx cy
+          ∙ ap (λ (z : Option Motion). if leaf_holds w cx cy then motion_of l.kind else z) (before.motions cx cy)
+          ∙ sym (ap (λ (k : Known). k.motions cx cy) next);
     }
 
 -- leaves that serve
-pub no_mover_serves : (h : Header) → MoversServe h no_movers
-no_mover_serves h cx cy kind e = absurd cc
+pub no_motion_serves : (h : Header) → MotionsServe h no_motions
+no_motion_serves h cx cy = tt
 
-mover_serves : (h : Header) (movers : Movers) (leaf : LeafValue) → MoversServe h movers → (is_inter leaf.kind ≡ true → KindServes h leaf.kind) →
-    MoversServe h (with_mover movers leaf)
-mover_serves h movers leaf before own cx cy kind e = go (leaf_holds leaf cx cy) (is_inter leaf.kind) refl e
+motion_serves : (h : Header) (motions : Motions) (leaf : LeafValue) → MotionsServe h motions → IfSome (motion_of leaf.kind) (MotionServes h) →
+    MotionsServe h (with_motion motions leaf)
+motion_serves h motions leaf before own cx cy = go (leaf_holds leaf cx cy)
   where
-    go : (t i : Bool) → is_inter leaf.kind ≡ i → (if t then (if i then Some leaf.kind else None) else movers cx cy) ≡ Some kind → KindServes h kind
-    go true true inter is = subst (KindServes h) (same_Some _ _ is) (own inter)
-    go true false inter is = absurd cc
-    go false i inter is = before cx cy kind is
+    go : (t : Bool) → IfSome (if t then motion_of leaf.kind else motions cx cy) (MotionServes h)
+    go true = own
+    go false = before cx cy
 
-pub movers_serve : (h : Header) (ls : List Leaf) (i : ℕ) (l : Leaf) → i < length ls → l ≡ get_or ls i l → MoversServe h (movers_of (take i ls)) →
-    (is_inter l.kind ≡ true → KindServes h l.kind) → MoversServe h (movers_of (take (i + 1) ls))
-movers_serve h ls i l inside is before own cx cy kind e =
-    mover_serves h (movers_of (take i ls)) (leaf_with l [] [] []) before own cx cy kind (sym (movers_more ls i l inside is cx cy) ∙ e)
+pub motions_serve : (h : Header) (ls : List Leaf) (i : ℕ) (l : Leaf) → i < length ls → l ≡ get_or ls i l → MotionsServe h (motions_of (take i ls)) →
+    IfSome (motion_of l.kind) (MotionServes h) → MotionsServe h (motions_of (take (i + 1) ls))
+motions_serve h ls i l inside is before own cx cy =
+    subst (λ (o : Option Motion). IfSome o (MotionServes h)) (sym (motions_more ls i l inside is cx cy))
+    (motion_serves h (motions_of (take i ls)) (leaf_with l [] [] []) before own cx cy)
 
 -- the parts that these leaves and one more give its block do
-four_serve : (h : Header) (narrow low : Bool) (corner over side own : Option LeafKind) → ((k : LeafKind) → corner ≡ Some k → KindServes h k) →
-    ((k : LeafKind) → over ≡ Some k → KindServes h k) → ((k : LeafKind) → side ≡ Some k → KindServes h k) → ((k : LeafKind) → own ≡ Some k → KindServes h k)
-    → IfSome (in_parts narrow low corner over side own) (PartsServe h)
+four_serve : (h : Header) (narrow low : Bool) (corner over side own : Option Motion) → IfSome corner (MotionServes h) → IfSome over (MotionServes h) →
+    IfSome side (MotionServes h) → IfSome own (MotionServes h) → IfSome (in_parts narrow low corner over side own) (PartsServe h)
 four_serve h narrow low (Some i) (Some j) (Some k) (Some l) first second third last =
-    record { corner = first i refl; over = second j refl; side = third k refl; own = last l refl }
+    record { corner = first; over = second; side = third; own = last }
 four_serve h narrow low None j k l first second third last = tt
 four_serve h narrow low (Some i) None k l first second third last = tt
 four_serve h narrow low (Some i) (Some j) None l first second third last = tt
 four_serve h narrow low (Some i) (Some j) (Some k) None first second third last = tt
 
-shared_serve : (h : Header) (shared : Bool) (parts : Option Parts) → IfSome parts (PartsServe h) →
+shared_serve : (h : Header) (shared : Bool) (parts : Option MotionParts) → IfSome parts (PartsServe h) →
     IfSome (if shared then parts else None) (PartsServe h)
 shared_serve h true parts serve = serve
 shared_serve h false parts serve = tt
 
-pub parts_serve : (h : Header) (movers : Movers) (p : ℕ) (leaf : LeafValue) → MoversServe h movers → (is_inter leaf.kind ≡ true → KindServes h leaf.kind) →
-    IfSome (parts_by h movers p leaf) (PartsServe h)
-parts_serve h movers p leaf before inter =
+pub parts_serve : (h : Header) (motions : Motions) (p : ℕ) (leaf : LeafValue) → MotionsServe h motions → IfSome (motion_of leaf.kind) (MotionServes h) →
+    IfSome (parts_by h motions p leaf) (PartsServe h)
+parts_serve h motions p leaf before own =
     let narrow = is_narrow leaf.size (xdec h p) in
     let low = is_low leaf.size (ydec h p) in
-    let at = with_mover movers leaf in
+    let at = with_motion motions leaf in
     let cx = leaf.x / 4 in
     let cy = leaf.y / 4 in
     let left = if narrow then cx - 1 else cx in
     let top = if low then cy - 1 else cy in
-    let serve = mover_serves h movers leaf before inter in
+    let serve = motion_serves h motions leaf before own in
     shared_serve h (narrow || low) (in_parts narrow low (at left top) (at cx top) (at left cy) (at cx cy))
     (four_serve h narrow low (at left top) (at cx top) (at left cy) (at cx cy) (serve left top) (serve cx top) (serve left cy) (serve cx cy))
 

@@ -11,17 +11,17 @@ use Rattle.av1_plan.specs.ReadPlans.{IsReadFrame}
 use Rattle.av1_plan.specs.Validity.{first_fault}
 use Rattle.av1_plan.proofs.ReadPlans.{kept_frame}
 use Rattle.av1_plan.specs.Geometry.{coded_width, coded_height}
-use Rattle.av1_references.specs.References.{HoldsReferences, IsWholeFrame, ServesPlan, in_frame, rect_of}
-use Rattle.av1_references.specs.declared.tile.TileReferences.{TileReferences}
-use Rattle.av1_references.proofs.Served.{holds_serves}
+use Rattle.av1_tile.specs.Motion.{HoldsReferences, IsWholeFrame, ServesPlan, in_frame, plan_motion, rect_of}
+use Rattle.av1_tile.specs.declared.references.TileReferences.{TileReferences}
+use Rattle.av1_tile.proofs.Served.{holds_serves}
 use Rattle.av1_tile.specs.declared.planes.Planes.{Planes}
 use Rattle.av1_tile.specs.Memory.{HasRoomFor, IsPlanOver, IsTileOver, ShowsPlan, ShowsScene, WalkRoom}
-use Rattle.av1_tile.specs.declared.predicted.PredictedPlanes.{PredictedPlanes}
-use Rattle.av1_tile.specs.Predicted.{AreBlank, ShowsPredictions, keeping_step}
-use Rattle.av1_tile.specs.Reference.{Scene, kind_motion, scene, slow_walk}
+use Rattle.av1_tile.specs.Predicted.{AreBlank, Gathered, Keeping, ShowsPredictions, keeping_step}
+use Rattle.av1_tile.specs.Reference.{Scene, scene, slow_walk}
 use Rattle.av1_tile.specs.State.{MadeFor, Picture, edges_of, with_settings}
 use Rattle.av1_tile.specs.Walk.{at_start, HasRoom, LeafFits, ServesScene, StoresAll, Told, edges_after, fast_step, steps_by, with_header}
 use Rattle.av1_tile.proofs.Layouts.{alike_same}
+use Rattle.av1_tile.proofs.Lifts.{kept_counted, kept_walked}
 use Rattle.av1_tile.proofs.Pictures.{plan_counts, plan_predicts, plan_shows}
 use Rattle.av1_tile.proofs.PlanFits.{plan_fits}
 
@@ -55,7 +55,7 @@ module _ {T : Type 0} (from : TileReferences T) (whole : IsWholeFrame from) wher
     has = λ reference. refl;
     near_x = λ p. omega (arith, first_x p);
     near_y = λ p. omega (arith, first_y p);
-    motion = λ p kind a r c. ap (λ (b : VisibleArea). kind_motion plan p kind b r c) (same_place p a);
+    motion = λ p m a r c. ap (λ (b : VisibleArea). plan_motion plan p m b r c) (same_place p a);
   }
 
   -- a plan over a frame is one over that tile
@@ -89,13 +89,15 @@ module _ {T : Type 0} (num : T → ℕ) (h : Header) (leaves : List LeafValue) (
       subst (λ (ls : List LeafValue). All (LeafFits h planes) ls) is.leaves (subst (λ (k : Header). All (LeafFits k planes) plan.leaves) is.header own)
 
   -- planes that have gone through the steps of its leaves show what it comes to
-  pub over_shows : (pixel : ℕ → T) (law : (v : ℕ) → num (pixel v) ≡ v) (back : (x : T) → pixel (num x) ≡ x) (p q : Planes T) (told : Told) → StoresAll num h p →
-      HasRoom h p → StoresAll num h q
-      → q ≡ fold (fast_step num pixel (with_header h seen)) p (steps_by h (at_start told) leaves) → ShowsScene num seen leaves q
-  over_shows pixel law back p q told stores room after walked =
+  pub over_shows : (pixel : ℕ → T) (law : (v : ℕ) → num (pixel v) ≡ v) (back : (x : T) → pixel (num x) ≡ x) (p q : Planes T) (kept last : Gathered T)
+      (told : Told) → StoresAll num h p → HasRoom h p → StoresAll num h q
+      → (q, last) ≡ fold (keeping_step num pixel (with_header h seen)) (p, kept) (steps_by h (at_start told) leaves) → ShowsScene num seen leaves q
+  over_shows pixel law back p q kept last told stores room after walked =
+      let planes : q ≡ fold (fast_step num pixel (with_header h seen)) p (steps_by h (at_start told) leaves) =
+      ap (λ (r : Keeping (Planes T) T). r.0) walked ∙ kept_walked num pixel (with_header h seen) (p, kept) (steps_by h (at_start told) leaves) in
       let own : q ≡ fold (fast_step num pixel (with_header plan.header seen)) p (steps_by plan.header (at_start told) plan.leaves) =
       subst (λ (ls : List LeafValue). q ≡ fold (fast_step num pixel (with_header plan.header seen)) p (steps_by plan.header (at_start told) ls)) (sym is.leaves)
-      (subst (λ (k : Header). q ≡ fold (fast_step num pixel (with_header k seen)) p (steps_by k (at_start told) leaves)) (sym is.header) walked) in
+      (subst (λ (k : Header). q ≡ fold (fast_step num pixel (with_header k seen)) p (steps_by k (at_start told) leaves)) (sym is.header) planes) in
       let shows : ShowsScene num (with_header plan.header seen) plan.leaves q =
       plan_shows plan is.spelled is.valid num pixel law back p q told seen.motion (subst (λ (k : Header). StoresAll num k p) (sym is.header) stores)
       (subst (λ (k : Header). HasRoom k p) (sym is.header) room)
@@ -104,10 +106,14 @@ module _ {T : Type 0} (num : T → ℕ) (h : Header) (leaves : List LeafValue) (
       (subst (λ (k : Header). ShowsScene num (with_header k seen) plan.leaves q) (is.header ∙ sym is.same) shows)
 
   -- and their edges are counted
-  pub over_counts : (count after : ℕ) (told : Told) → after ≡ fold edges_after count (steps_by h (at_start told) leaves) → after ≡ edges_of count plan
-  over_counts count after told counted =
-      plan_counts plan is.spelled is.valid count after told
-      (counted ∙ ap (λ (k : Header). fold edges_after count (steps_by k (at_start told) leaves)) (sym is.header)
+  pub over_counts : (pixel : ℕ → T) (p q : Planes T) (kept last : Gathered T) (told : Told)
+      → (q, last) ≡ fold (keeping_step num pixel (with_header h seen)) (p, kept) (steps_by h (at_start told) leaves) → last.edges ≡ edges_of kept.edges plan
+  over_counts pixel p q kept last told walked =
+      let count = kept.edges in
+      plan_counts plan is.spelled is.valid count last.edges told
+      (ap (λ (r : Keeping (Planes T) T). r.1.edges) walked
+      ∙ kept_counted num pixel (with_header h seen) (p, kept) (steps_by h (at_start told) leaves)
+      ∙ ap (λ (k : Header). fold edges_after count (steps_by k (at_start told) leaves)) (sym is.header)
       ∙ ap (λ (ls : List LeafValue). fold edges_after count (steps_by plan.header (at_start told) ls)) (sym is.leaves))
 
 -- ---- a plan that is walked as itself
@@ -121,8 +127,9 @@ module _ {T : Type 0} (num : T → ℕ) (h : Header) (leaves : List LeafValue) (
 
   -- what has been kept beside is what is predicted of it
   pub over_predicts : (pixel : ℕ → T) (law : (v : ℕ) → num (pixel v) ≡ v) (back : (x : T) → pixel (num x) ≡ x) (p q : Planes T)
-      (kept last : PredictedPlanes T) (told : Told) → StoresAll num h p → HasRoom h p → AreBlank pixel h kept
-      → (q, last) ≡ fold (keeping_step num pixel (with_header h (scene plan))) (p, kept) (steps_by h (at_start told) leaves) → ShowsPredictions num plan last
+      (kept last : Gathered T) (told : Told) → StoresAll num h p → HasRoom h p → AreBlank pixel h kept.predictions
+      → (q, last) ≡ fold (keeping_step num pixel (with_header h (scene plan))) (p, kept) (steps_by h (at_start told) leaves) →
+      ShowsPredictions num plan last.predictions
   over_predicts pixel law back p q kept last told stores room empty walked =
       let own : (q, last) ≡ fold (keeping_step num pixel (scene plan)) (p, kept) (steps_by plan.header (at_start told) plan.leaves) =
       subst (λ (ls : List LeafValue). (q, last) ≡ fold (keeping_step num pixel (scene plan)) (p, kept) (steps_by plan.header (at_start told) ls))
@@ -130,7 +137,7 @@ module _ {T : Type 0} (num : T → ℕ) (h : Header) (leaves : List LeafValue) (
       (subst (λ (k : Header). (q, last) ≡ fold (keeping_step num pixel (with_header k (scene plan))) (p, kept) (steps_by k (at_start told) leaves))
       (sym is.header) walked) in
       plan_predicts plan is.spelled is.valid num pixel law back p q kept last told (subst (λ (k : Header). StoresAll num k p) (sym is.header) stores)
-      (subst (λ (k : Header). HasRoom k p) (sym is.header) room) (subst (λ (k : Header). AreBlank pixel k kept) (sym is.header) empty) own
+      (subst (λ (k : Header). HasRoom k p) (sym is.header) room) (subst (λ (k : Header). AreBlank pixel k kept.predictions) (sym is.header) empty) own
 
 -- a plan in memory with these leaves, whose references frame settings hold
 pub read_over : {T : Type 0} (num : T → ℕ) (plan : Plan) (own : List LeafValue) (h : Header) (fi : FrameInvariants T) → own ≡ (plan_value plan).leaves →

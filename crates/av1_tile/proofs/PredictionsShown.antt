@@ -25,7 +25,7 @@ use Rattle.av1_tile.specs.Canvas.{Component, Y, U, V, Written, Canvas, blank, tu
 use Rattle.av1_tile.specs.Edge.{sample_of}
 use Rattle.av1_tile.specs.Output.{by_rows}
 use Rattle.av1_tile.specs.PlaneBlocks.{number, shown_of}
-use Rattle.av1_tile.specs.Predicted.{AreBlank, ShowsPredictions, copied, keeping_step, kept_in, predictions_in, rows_in}
+use Rattle.av1_tile.specs.Predicted.{AreBlank, Gathered, ShowsPredictions, copied, keeping_step, kept_in, predictions_in, rows_in}
 use Rattle.av1_tile.specs.Predicted.{slow_predictions}
 use Rattle.av1_tile.specs.Predicted.{slow_progress, stored_in, with_rows}
 use Rattle.av1_tile.specs.Reference.{Scene, predicted, scene, slow_in, slow_step}
@@ -172,10 +172,10 @@ module _ {T : Type 0} (num : T → ℕ) (pixel : ℕ → T) (law : (v : ℕ) →
   kept_shows plan canvas predictions j (add block triples n a) next kept s t shows = same_with num plan.header kept predictions j shows
 
   -- all that is kept, after steps that find what they read
-  walk_shows : (plan : Scene) (before rest : List PlaneStep) (planes : Planes T) (kept : PredictedPlanes T) (canvas predictions : Canvas)
+  walk_shows : (plan : Scene) (before rest : List PlaneStep) (planes : Planes T) (kept : Gathered T) (canvas predictions : Canvas)
       → canvas ≡ walked plan before → Each (StepReady plan.header) before rest → AllWhole plan.header planes → AllAgree num planes (walked plan before)
-      → AllShow num plan.header kept predictions
-      → AllShow num plan.header (fold (keeping_step num pixel plan) (planes, kept) rest).1
+      → AllShow num plan.header kept.predictions predictions
+      → AllShow num plan.header (fold (keeping_step num pixel plan) (planes, kept) rest).1.predictions
       (fold (slow_progress plan) (record { canvas = canvas; predictions = predictions }) rest).predictions
   unfolding keeping_step slow_progress
   walk_shows plan before [] planes kept canvas predictions same e t a shows = shows
@@ -188,7 +188,7 @@ module _ {T : Type 0} (num : T → ℕ) (pixel : ℕ → T) (law : (v : ℕ) →
       let own : AllAgree num next after =
       subst (λ (c : Canvas). AllAgree num next (slow_step plan c s)) (sym same) (step_agrees num pixel law back plan before s planes e.0 t a) in
       walk_shows plan (before ++ s ∷ []) rest next _ after _ push e.1 whole (subst (AllAgree num next) push own)
-      (kept_shows plan canvas predictions s.component s.step next kept whole own shows)
+      (kept_shows plan canvas predictions s.component s.step next kept.predictions whole own shows)
 
   -- zeros show that nothing has been predicted yet
   blank_shows : (h : Header) (kept : PredictedPlanes T) → AreBlank pixel h kept → AllShow num h kept blank
@@ -240,12 +240,13 @@ module _ {T : Type 0} (num : T → ℕ) (pixel : ℕ → T) (law : (v : ℕ) →
       ∙ ap (flat_map (λ y. by_index w (λ x. f x y))) (sym (map-id (range_with_len 0 n)))
 
   -- what a walk through a plan's steps has kept
-  pub predictions_shown : (plan : PlanValue) (p : Planes T) (kept last : PredictedPlanes T) → AreReady plan.header plan.leaves → AllWhole plan.header p →
-      AreBlank pixel plan.header kept → last ≡ (fold (keeping_step num pixel (scene plan)) (p, kept) (steps plan.header plan.leaves)).1
+  pub predictions_shown : (plan : PlanValue) (p : Planes T) (kept : Gathered T) (last : PredictedPlanes T) → AreReady plan.header plan.leaves →
+      AllWhole plan.header p →
+      AreBlank pixel plan.header kept.predictions → last ≡ (fold (keeping_step num pixel (scene plan)) (p, kept) (steps plan.header plan.leaves)).1.predictions
       → ShowsPredictions num plan last
   unfolding slow_predictions
   predictions_shown plan p kept last r s empty is k =
       let all = steps plan.header plan.leaves in
-      let shows = walk_shows (scene plan) [] all p kept blank blank refl r.ready s (λ c x y v m n w. cc) (blank_shows plan.header kept empty) in
+      let shows = walk_shows (scene plan) [] all p kept blank blank refl r.ready s (λ c x y v m n w. cc) (blank_shows plan.header kept.predictions empty) in
       rows_are plan.header k (rows_in k last) (slow_predictions plan k)
       (subst (λ (q : PredictedPlanes T). RowsShow num plan.header k (rows_in k q) (slow_predictions plan k)) (sym is) (shows k))

@@ -61,8 +61,7 @@ pub record FromLumaReady (h : Header) (k : Component) (before : List PlaneStep) 
 abbrev pub PredictionReady : Header → Component → List PlaneStep → PlaneBlock → ℕ → VisibleArea → Prediction → Type 0
 PredictionReady h k before block n a (predictions.Intra mode step filter) = EdgeReady h k before block n a
 PredictionReady h k before block n a (predictions.FromLuma alpha) = FromLumaReady h k before block n a
-PredictionReady h k before block n a (predictions.Single mode reference mv) = ⊤
-PredictionReady h k before block n a (predictions.Compound mode references mvs) = ⊤
+PredictionReady h k before block n a (predictions.Inter motion) = ⊤
 PredictionReady h k before block n a (predictions.Parts parts) = ⊤
 
 abbrev pub StepReadyIn : Header → Component → List PlaneStep → Step → Type 0

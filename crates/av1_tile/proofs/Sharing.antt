@@ -16,9 +16,11 @@ use Rattle.av1_plan.specs.Geometry.{xdec, ydec}
 use Rattle.av1_plan.specs.Plan.{LeafValue}
 use Rattle.av1_plan.proofs.ValidLeaves.{valid_leaf}
 use Rattle.av1_plan.proofs.ValidModes.{HasValidModes, IsInterSize, valid_modes}
-use Rattle.av1_tile.specs.declared.plane_block.Parts.{Parts}
+use Rattle.av1_tile.specs.declared.shared_chroma.MotionParts.{MotionParts}
+use Rattle.av1_tile.specs.declared.motion.Motion.{Motion}
+use Rattle.av1_tile.specs.Motion.{motion_of}
 use Rattle.av1_tile.specs.PlaneBlocks.{number}
-use Rattle.av1_tile.specs.Shared.{in_parts, moved, parts_in}
+use Rattle.av1_tile.specs.SharedChroma.{in_parts, motion_in, parts_in}
 use Rattle.av1_tile.specs.Versions.{EarlierShareNone}
 
 -- ---- a leaf that isn't predicted from references
@@ -34,14 +36,20 @@ noted_first earlier leaf =
     fold_push (λ (shown : Option LeafValue) (m : LeafValue). if leaf_holds m (leaf.x / 4) (leaf.y / 4) then Some m else shown) None earlier leaf
     ∙ ap (λ (t : Bool). if t then Some leaf else noted earlier (leaf.x / 4) (leaf.y / 4)) (holds_first leaf)
 
+-- but has no motion
+no_motion : (kind : LeafKind) → is_inter kind ≡ false → motion_of kind ≡ None
+no_motion (Intra mode step chroma) e = refl
+no_motion (Single mode reference mv) e = absurd cc
+no_motion (Compound mode references mvs) e = absurd cc
+
 -- so that its block has no parts
-without_own : (narrow low : Bool) (corner over side own : Option LeafKind) → own ≡ None → in_parts narrow low corner over side own ≡ None
+without_own : (narrow low : Bool) (corner over side own : Option Motion) → own ≡ None → in_parts narrow low corner over side own ≡ None
 without_own narrow low None over side own e = refl
 without_own narrow low (Some i) None side own e = refl
 without_own narrow low (Some i) (Some j) None own e = refl
 without_own narrow low (Some i) (Some j) (Some k) own e = ap (in_parts narrow low (Some i) (Some j) (Some k)) e
 
-none_when : (shared : Bool) (parts : Option Parts) → parts ≡ None → (if shared then parts else None) ≡ None
+none_when : (shared : Bool) (parts : Option MotionParts) → parts ≡ None → (if shared then parts else None) ≡ None
 none_when true parts e = e
 none_when false parts e = refl
 
@@ -49,8 +57,8 @@ pub intra_shares_none : (h : Header) (earlier : List LeafValue) (p : ℕ) (leaf 
 intra_shares_none h earlier p leaf intra =
     let narrow = is_narrow leaf.size (xdec h p) in
     let low = is_low leaf.size (ydec h p) in
-    let own : moved (noted (earlier ++ leaf ∷ []) (leaf.x / 4) (leaf.y / 4)) ≡ None =
-    ap moved (noted_first earlier leaf) ∙ ap (λ (t : Bool). if t then Some leaf.kind else None) intra in
+    let own : motion_in (noted (earlier ++ leaf ∷ []) (leaf.x / 4) (leaf.y / 4)) ≡ None =
+    ap motion_in (noted_first earlier leaf) ∙ no_motion leaf.kind intra in
     none_when (narrow || low) _ (without_own narrow low _ _ _ _ own)
 
 -- ---- a leaf without a side under 8

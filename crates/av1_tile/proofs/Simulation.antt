@@ -297,8 +297,7 @@ module _ {T : Type 0} (num : T → ℕ) (pixel : ℕ → T) (law : (v : ℕ) →
       (luma_for h fast k block) (luma_for h slow k block) r c
       (differences_same h block k fast slow r c (subst (λ (m : ℕ). r < m) ready.rows hr) (subst (λ (m : ℕ). c < m) ready.columns hc)
       (luma_same h block.leaf before planes.y (walked plan before Y) (walk_written plan before Y) ready.luma (ready.stored planes.y.plane_cfg s.room) (t Y)))
-  prediction_same plan before k block n a planes p (predictions.Single mode reference mv) ready s t is r c hr hc = refl
-  prediction_same plan before k block n a planes p (predictions.Compound mode references mvs) ready s t is r c hr hc = refl
+  prediction_same plan before k block n a planes p (predictions.Inter motion) ready s t is r c hr hc = refl
   prediction_same plan before k block n a planes p (predictions.Parts parts) ready s t is r c hr hc = refl
 
   -- a step that is ready, in its plane and on its canvas

@@ -26,12 +26,12 @@ use Rattle.av1_plan.specs.Tree.{Block}
 use Rattle.av1_plan.specs.declared.geometry.TransformBlock.{TransformBlock}
 use Rattle.av1_plan.specs.declared.header.Header.{Header}
 use Rattle.av1_plan.specs.declared.leaf.Triple.{Triple}
-use Rattle.av1_references.specs.References.{leaf_area}
+use Rattle.av1_tile.specs.Motion.{from_one, from_two}
+use Rattle.av1_tile.specs.declared.motion.Motion.{Motion}
+use Rattle.av1_tile.specs.Motion.{leaf_area}
 use Rattle.av1_tile.specs.declared.plane_block.PlaneBlock.{PlaneBlock}
 use Rattle.av1_tile.specs.declared.plane_block.Nearby.{Nearby}
-use Rattle.av1_tile.specs.declared.plane_block.Parts.{Parts}
-use Rattle.av1_tile.specs.declared.plane_block.Prediction.{Prediction}
-use Rattle.av1_tile.specs.declared.plane_block.Prediction.TheVariants as predictions
+use Rattle.av1_tile.specs.declared.shared_chroma.MotionParts.{MotionParts}
 use Rattle.av1_plan.specs.declared.leaf.ChromaMode.TheVariants.{Plain, Cfl}
 use Rattle.av1_plan.specs.declared.leaf.LeafKind.{LeafKind}
 use Rattle.av1_plan.specs.declared.leaf.LeafKind.TheVariants.{Intra, Single, Compound}
@@ -166,9 +166,9 @@ pieces_kept f g a (suc n) same =
     ∙ joined_option (g a) (filter_map g (range_with_len (a + 1) n))
 
 -- so is a block in parts as one that isn't
-shared_whole : (parts : Option Parts) (own : Prediction) → is_whole own ≡ true → is_whole (shared parts own) ≡ true
-shared_whole (Some parts) own e = refl
-shared_whole None own e = e
+shared_whole : (parts : Option MotionParts) (own : Motion) → is_whole (shared parts own) ≡ true
+shared_whole (Some parts) own = refl
+shared_whole None own = refl
 
 -- a leaf is predicted over its whole area where it is predicted from references
 pub whole_is_inter : (near : Nearby) (k : Component) (kind : LeafKind) → is_whole (prediction_in near k kind) ≡ is_inter kind
@@ -179,12 +179,8 @@ whole_is_inter near U (Intra mode step (Some (Cfl alpha_u alpha_v))) = refl
 whole_is_inter near V (Intra mode step (Some (Cfl alpha_u alpha_v))) = refl
 whole_is_inter near U (Intra mode step None) = refl
 whole_is_inter near V (Intra mode step None) = refl
-whole_is_inter near Y (Single mode reference mv) = shared_whole near.parts (predictions.Single mode reference mv) refl
-whole_is_inter near U (Single mode reference mv) = shared_whole near.parts (predictions.Single mode reference mv) refl
-whole_is_inter near V (Single mode reference mv) = shared_whole near.parts (predictions.Single mode reference mv) refl
-whole_is_inter near Y (Compound mode references mvs) = shared_whole near.parts (predictions.Compound mode references mvs) refl
-whole_is_inter near U (Compound mode references mvs) = shared_whole near.parts (predictions.Compound mode references mvs) refl
-whole_is_inter near V (Compound mode references mvs) = shared_whole near.parts (predictions.Compound mode references mvs) refl
+whole_is_inter near k (Single mode reference mv) = shared_whole near.parts (from_one mode reference mv)
+whole_is_inter near k (Compound mode references mvs) = shared_whole near.parts (from_two mode references mvs)
 
 -- a leaf's block in plane k of a frame
 module _ (h : Header) (near : Nearby) (k : Component) (leaf : LeafValue) (frame : IsWholeFrame h) (grid : IsOnGrid h leaf)

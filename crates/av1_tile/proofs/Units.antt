@@ -22,7 +22,7 @@ use Rattle.av1_plan.specs.Plan.{LeafValue}
 use Rattle.av1_plan.specs.declared.geometry.TransformBlock.{TransformBlock}
 use Rattle.av1_plan.specs.declared.header.Header.{Header}
 use Rattle.av1_plan.specs.declared.leaf.Triple.{Triple}
-use Rattle.av1_references.specs.References.{leaf_area}
+use Rattle.av1_tile.specs.Motion.{leaf_area}
 use Rattle.av1_tile.specs.declared.plane_block.PlaneBlock.{PlaneBlock}
 use Rattle.av1_tile.specs.Canvas.{Component, Y, U, V, is_same}
 use Rattle.av1_tile.specs.PlaneBlocks.{number, block_told, is_whole, plane_block, near_at, triples_in}

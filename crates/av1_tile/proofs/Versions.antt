@@ -18,20 +18,18 @@ use Rattle.av1_edges.specs.Edges.{Edge}
 use Rattle.av1_frame.specs.Areas.{VisibleArea}
 use Rattle.av1_inter.specs.Filters.{mode_along}
 use Rattle.av1_inter.specs.Prediction.{compound_prediction, single_prediction}
-use Rattle.av1_inter.specs.Reference.{vector_of, reference_of as reference_in}
+use Rattle.av1_inter.specs.Reference.{is_reference, vector_of, reference_of as reference_in}
 use Rattle.av1_itx.specs.Residue.{is_lossless, residue, residue_by}
 use Rattle.av1_itx.proofs.NoWrap.{lossless_residue, shallow_residue}
 use Rattle.av1_plan.specs.declared.header.Header.{Header}
-use Rattle.av1_plan.specs.declared.leaf.Triple.{Triple}
 use Rattle.av1_plan.specs.Geometry.{coded_width, coded_height, xdec, ydec, plane_width, plane_height, carries_chroma, covers_plane, plane_place, plane_size}
 use Rattle.av1_plan.specs.Geometry.{plane_tx_size, plane_area}
-use Rattle.av1_plan.specs.declared.leaf.LeafKind.{LeafKind}
-use Rattle.av1_plan.specs.declared.leaf.LeafKind.TheVariants.{Intra, Single, Compound}
 use Rattle.av1_plan.specs.Geometry.{follows_av1, has_block, transform_block, shown_columns, shown_rows}
 use Rattle.av1_plan.specs.Plan.{LeafValue, PlanValue}
 use Rattle.av1_plan.specs.Versions.{header_in, plan_in}
-use Rattle.av1_references.specs.References.{compound_motion, plan_filter, reference_plane, single_motion, slot_in}
-use Rattle.av1_tile.specs.declared.plane_block.Parts.{Parts}
+use Rattle.av1_tile.specs.declared.motion.Motion.{Motion}
+use Rattle.av1_tile.specs.Motion.{compound_motion, plan_filter, plan_motion, reference_plane, single_motion, slot_in}
+use Rattle.av1_tile.specs.declared.shared_chroma.MotionParts.{MotionParts}
 use Rattle.av1_tile.specs.declared.plane_block.PlaneBlock.{PlaneBlock}
 use Rattle.av1_tile.specs.declared.plane_block.Prediction.{Prediction}
 use Rattle.av1_tile.specs.declared.plane_block.Prediction.TheVariants as predictions
@@ -39,7 +37,7 @@ use Rattle.av1_tile.specs.Canvas.{Component, Y, U, V, Canvas, blank, drawn, with
 use Rattle.av1_tile.specs.Edge.{sample_of}
 use Rattle.av1_tile.specs.Output.{visible, planes_of}
 use Rattle.av1_tile.specs.PlaneBlocks.{number, plane_block}
-use Rattle.av1_tile.specs.Reference.{above, added, beside, block_residue, by_prediction, coefficients, kind_motion, parts_motion, predicted, slow_in}
+use Rattle.av1_tile.specs.Reference.{above, added, beside, block_residue, by_prediction, coefficients, parts_motion, predicted, slow_in}
 use Rattle.av1_tile.specs.Reference.{scene, slow_step, slow_walk, walk_of}
 use Rattle.av1_tile.specs.Steps.{Step, predict, add, PlaneStep, steps_at, steps_of, component_steps, leaf_steps, steps_after, steps}
 use Rattle.av1_tile.specs.Versions.{AddsTheSame, AgreesIn, EarlierKeepFilter, EarlyAgree, ElsewhereAgree, HasFewBits, VersionsShowTheSame}
@@ -101,19 +99,22 @@ module _ (n : ℕ) (plan : PlanValue) (agrees : AgreesIn n plan) where
   compound_same U references mvs a r k = ap (compound_by 1 references mvs a r k) filters_same
   compound_same V references mvs a r k = ap (compound_by 2 references mvs a r k) filters_same
 
-  kind_same : (c : Component) (kind : LeafKind) (a : VisibleArea) (r k : ℕ) →
-      kind_motion (plan_in n plan) (number c) kind a r k ≡ kind_motion plan (number c) kind a r k
-  kind_same c (Intra mode step chroma) a r k = refl
-  kind_same c (Single mode reference mv) a r k = single_same c reference mv a r k
-  kind_same c (Compound mode references mvs) a r k = compound_same c references mvs a r k
+  motion_same : (c : Component) (m : Motion) (a : VisibleArea) (r k : ℕ) →
+      plan_motion (plan_in n plan) (number c) m a r k ≡ plan_motion plan (number c) m a r k
+  motion_same c m a r k =
+      let two = is_reference (reference_in m.references 1) in
+      let one : ℕ = single_motion (plan_in n plan) (number c) (reference_in m.references 0) (vector_of m.mvs 0) a r k in
+      ap (λ (v : ℕ). if two then v else one) (compound_same c m.references m.mvs a r k)
+      ∙ ap (λ (v : ℕ). if two then compound_motion plan (number c) m.references m.mvs a r k else v)
+      (single_same c (reference_in m.references 0) (vector_of m.mvs 0) a r k)
 
-  parts_same : (c : Component) (parts : Parts) (a : VisibleArea) (r k : ℕ) →
-      parts_motion (kind_motion (plan_in n plan) (number c)) parts a r k ≡ parts_motion (kind_motion plan (number c)) parts a r k
+  parts_same : (c : Component) (parts : MotionParts) (a : VisibleArea) (r k : ℕ) →
+      parts_motion (plan_motion (plan_in n plan) (number c)) parts a r k ≡ parts_motion (plan_motion plan (number c)) parts a r k
   parts_same c parts a r k =
-      let kinds : kind_motion (plan_in n plan) (number c) ≡ kind_motion plan (number c) =
-      fun_ext (λ kind. fun_ext (λ b. fun_ext (λ i. fun_ext (λ j. kind_same c kind b i j)))) in
-      ap (λ (f : LeafKind → VisibleArea → ℕ → ℕ →
-      ℕ). above parts.low (beside parts.narrow (f parts.corner) (f parts.over)) (beside parts.narrow (f parts.side) (f parts.own)) a r k) kinds
+      let motions : plan_motion (plan_in n plan) (number c) ≡ plan_motion plan (number c) =
+      fun_ext (λ m. fun_ext (λ b. fun_ext (λ i. fun_ext (λ j. motion_same c m b i j)))) in
+      ap (λ (f : Motion → VisibleArea → ℕ → ℕ →
+      ℕ). above parts.low (beside parts.narrow (f parts.corner) (f parts.over)) (beside parts.narrow (f parts.side) (f parts.own)) a r k) motions
 
   prediction_same : (c : Component) (prediction : Prediction) (a : VisibleArea) (edge : PredictionMode → ℤ → Edge) (luma : ℕ → ℕ → ℤ) (r k : ℕ)
       → by_prediction (scene (plan_in n plan)) (number c) prediction a edge luma r k ≡ by_prediction (scene plan) (number c) prediction a edge luma r k
@@ -124,8 +125,7 @@ module _ (n : ℕ) (plan : PlanValue) (agrees : AgreesIn n plan) where
   prediction_same Y (predictions.FromLuma alpha) a edge luma r k = refl
   prediction_same U (predictions.FromLuma alpha) a edge luma r k = refl
   prediction_same V (predictions.FromLuma alpha) a edge luma r k = refl
-  prediction_same c (predictions.Single mode reference mv) a edge luma r k = single_same c reference mv a r k
-  prediction_same c (predictions.Compound mode references mvs) a edge luma r k = compound_same c references mvs a r k
+  prediction_same c (predictions.Inter motion) a edge luma r k = motion_same c motion a r k
   prediction_same c (predictions.Parts parts) a edge luma r k = parts_same c parts a r k
 
   predicted_same : (canvas : Canvas) (c : Component) (block : PlaneBlock) (a : VisibleArea) (r k : ℕ) →

@@ -19,19 +19,19 @@ use Rattle.av1_plan.specs.declared.header.Header.{Header}
 use Rattle.av1_plan.specs.declared.leaf.Triple.{Triple}
 use Rattle.av1_plan.specs.declared.geometry.PlaneArea.{PlaneArea}
 use Rattle.av1_plan.specs.Geometry.{plane_width, plane_height}
-use Rattle.av1_references.specs.declared.tile.TileReferences.{TileReferences}
-use Rattle.av1_references.specs.References.{in_frame, leaf_area, rect_of}
-use Rattle.av1_references.proofs.Motion.{compound_motion_within, held_motion_within}
-use Rattle.av1_plan.specs.declared.leaf.LeafKind.{LeafKind}
-use Rattle.av1_plan.specs.declared.leaf.LeafKind.TheVariants.{Intra, Single, Compound}
-use Rattle.av1_tile.specs.declared.plane_block.Parts.{Parts}
+use Rattle.av1_tile.specs.declared.references.TileReferences.{TileReferences}
+use Rattle.av1_tile.specs.Motion.{in_frame, leaf_area, plan_motion, rect_of}
+use Rattle.av1_tile.proofs.MotionWithin.{compound_motion_within, held_motion_within}
+use Rattle.av1_inter.specs.Reference.{is_reference, reference_of, vector_of}
+use Rattle.av1_tile.specs.declared.motion.Motion.{Motion}
+use Rattle.av1_tile.specs.declared.shared_chroma.MotionParts.{MotionParts}
 use Rattle.av1_tile.specs.declared.plane_block.PlaneBlock.{PlaneBlock}
 use Rattle.av1_tile.specs.declared.plane_block.Prediction.{Prediction}
 use Rattle.av1_tile.specs.declared.plane_block.Prediction.TheVariants as predictions
 use Rattle.av1_tile.specs.PlaneBlocks.{extent_of, is_whole}
-use Rattle.av1_tile.specs.Reference.{Scene, above, beside, by_mode, by_prediction, kind_motion, no_luma, parts_motion}
+use Rattle.av1_tile.specs.Reference.{Scene, above, beside, by_mode, by_prediction, no_luma, parts_motion}
 use Rattle.av1_tile.specs.Steps.{predict, add, own_prediction, whole_steps}
-use Rattle.av1_tile.specs.Walk.{IsPlaneOf, KindServes, PartsServe, ServesScene, Stores, PredictionFits, edge_by_place, answer_right, answer_low}
+use Rattle.av1_tile.specs.Walk.{IsPlaneOf, MotionServes, PartsServe, ServesScene, Stores, PredictionFits, edge_by_place, answer_right, answer_low}
 use Rattle.av1_tile.specs.Walk.{placed_edge, fast_in}
 use Rattle.av1_frame.proofs.Within.{chosen_below, clip_within, painted_numbers_below, sample_below, some_numbers}
 use Rattle.av1_edges.proofs.Within.{above_within, base_within, corner_within, left_within, smoothed_within, some_available, available_inside}
@@ -110,8 +110,7 @@ module _ {T : Type 0} (num : T → ℕ) (pixel : ℕ → T) (law : (v : ℕ) →
       mode_within num plan.header p plane stores deep a is block n filter mode (AngleDelta step) no_luma r c
   prediction_within deep block n a is (predictions.FromLuma alpha) e f r c =
       mode_within num plan.header p plane stores deep a is block n None UV_CFL_PRED (Alpha alpha) f r c
-  prediction_within deep block n a is (predictions.Single mode reference mv) e f r c = absurd cc
-  prediction_within deep block n a is (predictions.Compound mode references mvs) e f r c = absurd cc
+  prediction_within deep block n a is (predictions.Inter motion) e f r c = absurd cc
   prediction_within deep block n a is (predictions.Parts parts) e f r c = absurd cc
 
   -- so the plane stores its part of the frame once a transform block is predicted, where it is predicted by itself,
@@ -131,22 +130,22 @@ module _ {T : Type 0} (num : T → ℕ) (pixel : ℕ → T) (law : (v : ℕ) →
       }
 
   module _ (from : TileReferences T) (holds : ServesScene num plan from) (below : p < 3) where
-    -- what leaves of a kind predict lies within the depth
+    -- what a motion predicts lies within the depth
     abbrev AreWithin : (VisibleArea → ℕ → ℕ → ℕ) → Type 0
     AreWithin f = (a : VisibleArea) (r c : ℕ) → f a r c < 2 ^ plan.header.depth
 
-    plan_within : (kind : LeafKind) → KindServes plan.header kind → (a : VisibleArea) (r c : ℕ) →
-        kind_motion holds.plan p kind a r c < 2 ^ holds.plan.header.depth
-    plan_within (Intra mode step chroma) serves a r c = absurd serves
-    plan_within (Single mode reference mv) serves a r c =
-        held_motion_within num holds.plan from.fi.now reference p mv a r c holds.serves (holds.has reference ∙ serves.1.has) below
-    plan_within (Compound mode references mvs) serves a r c = compound_motion_within holds.plan p references mvs a r c
+    plan_within : (m : Motion) → MotionServes plan.header m → (a : VisibleArea) (r c : ℕ) →
+        plan_motion holds.plan p m a r c < 2 ^ holds.plan.header.depth
+    plan_within m serves a r c =
+        let first = reference_of m.references 0 in
+        chosen_below (is_reference (reference_of m.references 1)) _ _ _ (compound_motion_within holds.plan p m.references m.mvs a r c)
+        (held_motion_within num holds.plan from.fi.now first p (vector_of m.mvs 0) a r c holds.serves (holds.has first ∙ serves.first.has) below)
 
-    kind_within : (kind : LeafKind) → KindServes plan.header kind → AreWithin (plan.motion p kind)
-    kind_within kind serves a r c =
-        let own = plan_within kind serves (in_frame (rect_of from p) a) r c in
-        subst (λ (n : ℕ). n < 2 ^ plan.header.depth) (sym (holds.motion p kind a r c))
-        (subst (λ (d : ℕ). kind_motion holds.plan p kind (in_frame (rect_of from p) a) r c < 2 ^ d) holds.depth own)
+    motion_within : (m : Motion) → MotionServes plan.header m → AreWithin (plan.motion p m)
+    motion_within m serves a r c =
+        let own = plan_within m serves (in_frame (rect_of from p) a) r c in
+        subst (λ (n : ℕ). n < 2 ^ plan.header.depth) (sym (holds.motion p m a r c))
+        (subst (λ (d : ℕ). plan_motion holds.plan p m (in_frame (rect_of from p) a) r c < 2 ^ d) holds.depth own)
 
     -- and so do halves
     narrow_within : (narrow : Bool) (f g : VisibleArea → ℕ → ℕ → ℕ) → AreWithin f → AreWithin g → AreWithin (beside narrow f g)
@@ -161,10 +160,10 @@ module _ {T : Type 0} (num : T → ℕ) (pixel : ℕ → T) (law : (v : ℕ) →
         let n = a.height / 2 in
         chosen_below (nat_lt r n) _ _ _ (first (record a { height = n }) r c) (second (record a { y = a.y + n; height = a.height - n }) (r - n) c)
 
-    parts_within : (parts : Parts) → PartsServe plan.header parts → AreWithin (parts_motion (plan.motion p) parts)
+    parts_within : (parts : MotionParts) → PartsServe plan.header parts → AreWithin (parts_motion (plan.motion p) parts)
     parts_within parts serve =
-        low_within parts.low _ _ (narrow_within parts.narrow _ _ (kind_within parts.corner serve.corner) (kind_within parts.over serve.over))
-        (narrow_within parts.narrow _ _ (kind_within parts.side serve.side) (kind_within parts.own serve.own))
+        low_within parts.low _ _ (narrow_within parts.narrow _ _ (motion_within parts.corner serve.corner) (motion_within parts.over serve.over))
+        (narrow_within parts.narrow _ _ (motion_within parts.side serve.side) (motion_within parts.own serve.own))
 
     -- what is predicted from references that frame settings hold lies within the depth too
     whole_within : (area : PlaneArea) (of : Prediction) → PredictionFits plan.header p area of → is_whole of ≡ true →
@@ -173,9 +172,7 @@ module _ {T : Type 0} (num : T → ℕ) (pixel : ℕ → T) (law : (v : ℕ) →
     unfolding by_prediction
     whole_within area (predictions.Intra mode step filter) fits e a edge f r c = absurd cc
     whole_within area (predictions.FromLuma alpha) fits e a edge f r c = absurd cc
-    whole_within area (predictions.Single mode reference mv) fits e a edge f r c =
-        kind_within (Single mode reference mv) fits.serves a r c
-    whole_within area (predictions.Compound mode references mvs) fits e a edge f r c = kind_within (Compound mode references mvs) fits.serves a r c
+    whole_within area (predictions.Inter motion) fits e a edge f r c = motion_within motion fits.serves a r c
     whole_within area (predictions.Parts parts) fits e a edge f r c = parts_within parts fits.serve a r c
 
     -- and a whole area is

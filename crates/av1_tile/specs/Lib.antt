@@ -1,5 +1,7 @@
 pub mod Canvas
-pub mod Shared
+pub mod Motion
+pub mod MotionDepth
+pub mod SharedChroma
 pub mod PlaneBlocks
 pub mod Edge
 pub mod Steps

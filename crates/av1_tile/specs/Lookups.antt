@@ -47,8 +47,7 @@ abbrev pub PredictionFinds : Header → Canvas → Component → PlaneBlock → 
 PredictionFinds h canvas k block a (predictions.Intra mode step filter) = EdgeIsThere (canvas k) a
 PredictionFinds h canvas k block a (predictions.FromLuma alpha) =
     EdgeIsThere (canvas k) a × LumaIsThere h (canvas Y) block.leaf
-PredictionFinds h canvas k block a (predictions.Single mode reference mv) = Unit {0}
-PredictionFinds h canvas k block a (predictions.Compound mode references mvs) = Unit {0}
+PredictionFinds h canvas k block a (predictions.Inter motion) = Unit {0}
 PredictionFinds h canvas k block a (predictions.Parts parts) = Unit {0}
 
 -- what a step looks up: what its prediction does, or each sample that it adds to

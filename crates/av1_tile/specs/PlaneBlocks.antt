@@ -2,7 +2,7 @@
 -- AV1 specification: residual syntax, which goes over the planes of a block; intra filter type process, for the
 -- neighbours of one.
 use Rattle.std.specs.Prelude.{ℕ, zero, suc, ◌-◌, nat_lt, if◌then◌else◌, Bool, true, false, List, [], ◌∷◌, pos, Option}
-use Rattle.std.specs.Prelude.{Some, None, slice_index_or}
+use Rattle.std.specs.Prelude.{Some, None, slice_index_or, ℤ}
 use Rattle.std.specs.Option.{option_map, unwrap_or}
 use Rattle.av1_blocks.specs.declared.partition.RefType.TheVariants.{INTRA_FRAME, NONE_FRAME}
 use Rattle.av1_blocks.specs.declared.predict.PredictionMode.{PredictionMode}
@@ -25,11 +25,13 @@ use Rattle.av1_plan.specs.Plan.{LeafValue}
 use Rattle.av1_tile.specs.declared.extent.PlaneExtent.{PlaneExtent}
 use Rattle.av1_tile.specs.declared.plane_block.PlaneBlock.{PlaneBlock}
 use Rattle.av1_tile.specs.declared.plane_block.Nearby.{Nearby}
-use Rattle.av1_tile.specs.declared.plane_block.Parts.{Parts}
+use Rattle.av1_tile.specs.declared.motion.Motion.{Motion}
+use Rattle.av1_tile.specs.declared.shared_chroma.MotionParts.{MotionParts}
 use Rattle.av1_tile.specs.declared.plane_block.Prediction.{Prediction}
 use Rattle.av1_tile.specs.declared.plane_block.Prediction.TheVariants as predictions
 use Rattle.av1_tile.specs.Canvas.{Component, Y, U, V}
-use Rattle.av1_tile.specs.Shared.{parts_in}
+use Rattle.av1_tile.specs.Motion.{from_one, from_two}
+use Rattle.av1_tile.specs.SharedChroma.{parts_in}
 
 -- ---- planes
 
@@ -92,23 +94,25 @@ filter_parameters h p above left = if h.edge_filter then Some (parameters_of p a
 
 -- ---- a leaf's block in a plane
 
--- the prediction of a leaf from references: in parts, where others share its block, or else its own
-abbrev pub shared : Option Parts → Prediction → Prediction
+-- how an intra leaf predicts a plane
+abbrev pub intra_in : Option IntraEdgeFilterParameters → Component → PredictionMode → ℤ → Option ChromaMode → Prediction
+intra_in filter Y mode step chroma = predictions.Intra mode step filter
+intra_in filter component mode step (Some (Plain chroma_mode chroma_step)) =
+    predictions.Intra chroma_mode chroma_step filter
+intra_in filter U mode step (Some (Cfl alpha_u alpha_v)) = predictions.FromLuma alpha_u
+intra_in filter V mode step (Some (Cfl alpha_u alpha_v)) = predictions.FromLuma alpha_v
+intra_in filter component mode step None = predictions.Intra DC_PRED (pos 0) filter
+
+-- how a leaf with this motion does: in parts, where others share its block, or else by its own
+abbrev pub shared : Option MotionParts → Motion → Prediction
 shared (Some parts) own = predictions.Parts parts
-shared None own = own
+shared None own = predictions.Inter own
 
 -- how a leaf predicts a plane, of which the leaves before it say `near`
 abbrev pub prediction_in : Nearby → Component → LeafKind → Prediction
-prediction_in near Y (Intra mode step chroma) = predictions.Intra mode step near.filter
-prediction_in near component (Intra mode step (Some (Plain chroma_mode chroma_step))) =
-    predictions.Intra chroma_mode chroma_step near.filter
-prediction_in near U (Intra mode step (Some (Cfl alpha_u alpha_v))) = predictions.FromLuma alpha_u
-prediction_in near V (Intra mode step (Some (Cfl alpha_u alpha_v))) = predictions.FromLuma alpha_v
-prediction_in near component (Intra mode step None) = predictions.Intra DC_PRED (pos 0) near.filter
-prediction_in near component (Single mode reference mv) =
-    shared near.parts (predictions.Single mode reference mv)
-prediction_in near component (Compound mode references mvs) =
-    shared near.parts (predictions.Compound mode references mvs)
+prediction_in near component (Intra mode step chroma) = intra_in near.filter component mode step chroma
+prediction_in near component (Single mode reference mv) = shared near.parts (from_one mode reference mv)
+prediction_in near component (Compound mode references mvs) = shared near.parts (from_two mode references mvs)
 
 -- the type of its transforms
 abbrev pub type_in : Component → LeafValue → TxType
@@ -149,8 +153,7 @@ plane_block h earlier component leaf = block_told h (near_at h earlier component
 abbrev pub is_whole : Prediction → Bool
 is_whole (predictions.Intra mode step filter) = false
 is_whole (predictions.FromLuma alpha) = false
-is_whole (predictions.Single mode reference mv) = true
-is_whole (predictions.Compound mode references mvs) = true
+is_whole (predictions.Inter motion) = true
 is_whole (predictions.Parts parts) = true
 
 -- whether a leaf's chroma is predicted from its luma

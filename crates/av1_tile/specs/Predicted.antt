@@ -22,7 +22,7 @@ use Rattle.av1_tile.specs.PlaneBlocks.{component, number, shown_of}
 use Rattle.av1_tile.specs.Reference.{Scene, predicted, scene, slow_step}
 use Rattle.av1_tile.specs.SampleRows.{SampleRows}
 use Rattle.av1_tile.specs.Steps.{Step, predict, add, PlaneStep, steps}
-use Rattle.av1_tile.specs.Walk.{fast_in, fast_step, plane_of, with_header}
+use Rattle.av1_tile.specs.Walk.{edges_in, fast_in, fast_step, plane_of, with_header}
 
 -- ---- the definition
 
@@ -88,15 +88,28 @@ kept_in num pixel p plane kept (predict block n a) =
     with_rows (component p) kept (copied num pixel plane (stored_in a) (rows_in (component p) kept))
 kept_in num pixel p plane kept (add block triples n a) = kept
 
--- a plane, or all three, and what is kept beside
+-- what the walk has beside the planes: the predictions that it keeps, and how many edges it has prepared
+pub record Gathered (T : Type 0) : Type 0 where
+  pub predictions : PredictedPlanes T
+  pub edges : ℕ
+
+abbrev pub gathered : {T : Type 0} → PredictedPlanes T → ℕ → Gathered T
+gathered predictions edges = record { predictions = predictions; edges = edges }
+
+-- both after a step that has left plane p so
+abbrev pub gathered_in : {T : Type 0} → (T → ℕ) → (ℕ → T) → (p : ℕ) → Plane T → Gathered T → Step → Gathered T
+gathered_in num pixel p plane b step =
+    gathered (kept_in num pixel p plane b.predictions step) (edges_in b.edges step)
+
+-- a plane, or all three, and that
 abbrev pub Keeping : (X T : Type 0) → Type 0
-Keeping X T = X × PredictedPlanes T
+Keeping X T = X × Gathered T
 
 -- both after a step in plane p of a scene
 unfoldable pub keeping_in : {T : Type 0} → (T → ℕ) → (ℕ → T) → Scene → (p : ℕ) →
     (luma : PlaneBlock → ℕ → ℕ → ℤ) → Keeping (Plane T) T → Step → Keeping (Plane T) T
 keeping_in num pixel scene p luma s step =
-    let plane = fast_in num pixel scene p luma s.0 step in (plane, kept_in num pixel p plane s.1 step)
+    let plane = fast_in num pixel scene p luma s.0 step in (plane, gathered_in num pixel p plane s.1 step)
 
 -- what steps of a block make of both, in any scene with this header; `luma` is how far luma is from its mean, row by
 -- row
@@ -113,7 +126,7 @@ unfoldable pub keeping_step : {T : Type 0} → (T → ℕ) → (ℕ → T) → S
     Keeping (Planes T) T
 keeping_step num pixel scene s step =
     let planes = fast_step num pixel scene s.0 step in
-    (planes, kept_in num pixel (number step.component) (plane_of step.component planes) s.1 step.step)
+    (planes, gathered_in num pixel (number step.component) (plane_of step.component planes) s.1 step.step)
 
 -- ---- what callers see of it
 

@@ -22,20 +22,19 @@ use Rattle.av1_intra.specs.Neighbours.{uses_smooth_filter}
 use Rattle.av1_intra.specs.Predicted.{predicted as intra_predicted, variant_at, angle_or_alpha}
 use Rattle.av1_itx.specs.Residue.{residue_by}
 use Rattle.av1_plan.specs.declared.header.Header.{Header}
-use Rattle.av1_plan.specs.declared.leaf.LeafKind.{LeafKind}
-use Rattle.av1_plan.specs.declared.leaf.LeafKind.TheVariants.{Intra, Single, Compound}
 use Rattle.av1_plan.specs.declared.leaf.Triple.{Triple}
 use Rattle.av1_plan.specs.Geometry.{follows_av1, xdec, ydec, plane_width, plane_height}
 use Rattle.av1_plan.specs.Plan.{LeafValue, PlanValue}
-use Rattle.av1_references.specs.References.{single_motion, compound_motion}
 use Rattle.av1_tile.specs.declared.extent.PlaneExtent.{PlaneExtent}
 use Rattle.av1_tile.specs.declared.plane_block.LumaBlock.{LumaBlock}
-use Rattle.av1_tile.specs.declared.plane_block.Parts.{Parts}
+use Rattle.av1_tile.specs.declared.motion.Motion.{Motion}
+use Rattle.av1_tile.specs.declared.shared_chroma.MotionParts.{MotionParts}
 use Rattle.av1_tile.specs.declared.plane_block.PlaneBlock.{PlaneBlock}
 use Rattle.av1_tile.specs.declared.plane_block.Prediction.{Prediction}
 use Rattle.av1_tile.specs.declared.plane_block.Prediction.TheVariants as predictions
 use Rattle.av1_tile.specs.Canvas.{Component, Y, Written, Canvas, blank, drawn, with_written}
 use Rattle.av1_tile.specs.Edge.{edge, sample_of}
+use Rattle.av1_tile.specs.Motion.{plan_motion}
 use Rattle.av1_tile.specs.PlaneBlocks.{number, extent_of}
 use Rattle.av1_tile.specs.Steps.{Step, predict, add, PlaneStep, steps}
 
@@ -62,21 +61,15 @@ by_mode extent filter mode param a edge luma r c =
 abbrev pub no_luma : ℕ → ℕ → ℤ
 no_luma r c = pos 0
 
--- What is walked: the header of a frame, or of a tile as a frame of its own, and what leaves from references predict:
--- `motion p kind a r c` is the sample at row r and column c of the rectangle a of plane p.
+-- What is walked: the header of a frame, or of a tile as a frame of its own, and what motions predict in it:
+-- `motion p m a r c` is the sample at row r and column c of the rectangle a of plane p.
 pub record Scene : Type 0 where
   pub header : Header
-  pub motion : (p : ℕ) → LeafKind → VisibleArea → (r c : ℕ) → ℕ
-
--- what a leaf of this kind predicts of plane p from references; an intra leaf, which no part has, predicts nothing
-abbrev pub kind_motion : PlanValue → (p : ℕ) → LeafKind → VisibleArea → (r c : ℕ) → ℕ
-kind_motion plan p (Single mode reference mv) a r c = single_motion plan p reference mv a r c
-kind_motion plan p (Compound mode references mvs) a r c = compound_motion plan p references mvs a r c
-kind_motion plan p (Intra mode step chroma) a r c = 0
+  pub motion : (p : ℕ) → Motion → VisibleArea → (r c : ℕ) → ℕ
 
 -- the scene of a plan, whose motion reads the plan's own references
 abbrev pub scene : PlanValue → Scene
-scene plan = record { header = plan.header; motion = kind_motion plan }
+scene plan = record { header = plan.header; motion = plan_motion plan }
 
 -- a rectangle that g predicts; or, where it has two columns of parts, f its left half and g the right one
 abbrev pub beside : (narrow : Bool) → (f g : VisibleArea → ℕ → ℕ → ℕ) → VisibleArea → (r c : ℕ) → ℕ
@@ -94,8 +87,8 @@ above true f g a r c =
     if nat_lt r n then f (record a { height = n }) r c
     else g (record a { y = a.y + n; height = a.height - n }) (r - n) c
 
--- a rectangle that is predicted in parts, by what each kind of leaf predicts
-abbrev pub parts_motion : (motion : LeafKind → VisibleArea → ℕ → ℕ → ℕ) → Parts → VisibleArea → (r c : ℕ) → ℕ
+-- a rectangle that is predicted in parts, by what the motion of each predicts
+abbrev pub parts_motion : (motion : Motion → VisibleArea → ℕ → ℕ → ℕ) → MotionParts → VisibleArea → (r c : ℕ) → ℕ
 parts_motion motion parts =
     above parts.low (beside parts.narrow (motion parts.corner) (motion parts.over))
     (beside parts.narrow (motion parts.side) (motion parts.own))
@@ -107,10 +100,7 @@ by_prediction scene p (predictions.Intra mode step filter) a edge luma r c =
     by_mode (extent_of scene.header p) filter mode (AngleDelta step) a edge no_luma r c
 by_prediction scene p (predictions.FromLuma alpha) a edge luma r c =
     by_mode (extent_of scene.header p) None UV_CFL_PRED (Alpha alpha) a edge luma r c
-by_prediction scene p (predictions.Single mode reference mv) a edge luma r c =
-    scene.motion p (Single mode reference mv) a r c
-by_prediction scene p (predictions.Compound mode references mvs) a edge luma r c =
-    scene.motion p (Compound mode references mvs) a r c
+by_prediction scene p (predictions.Inter motion) a edge luma r c = scene.motion p motion a r c
 by_prediction scene p (predictions.Parts parts) a edge luma r c = parts_motion (scene.motion p) parts a r c
 
 -- a leaf of a frame, as chroma from luma sees it

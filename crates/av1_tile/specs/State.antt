@@ -7,7 +7,7 @@ use Rattle.av1_frame.specs.Planes.{sample_at}
 use Rattle.av1_plan.specs.declared.header.Header.{Header}
 use Rattle.av1_plan.specs.Geometry.{follows_av1}
 use Rattle.av1_plan.specs.Plan.{PlanValue}
-use Rattle.av1_references.specs.References.{HoldsReferences}
+use Rattle.av1_tile.specs.Motion.{HoldsReferences}
 use Rattle.av1_tile.specs.declared.planes.Planes.{Planes}
 use Rattle.av1_tile.specs.Canvas.{Component}
 use Rattle.av1_tile.specs.Edge.{sample_of}

@@ -10,12 +10,12 @@ use Rattle.av1_plan.specs.Geometry.{follows_av1}
 use Rattle.av1_plan.specs.Plan.{LeafValue, PlanValue}
 use Rattle.av1_plan.specs.Validity.{fault_of}
 use Rattle.av1_plan.specs.Versions.{header_in, plan_in}
-use Rattle.av1_references.specs.References.{plan_filter}
+use Rattle.av1_tile.specs.Motion.{plan_filter}
 use Rattle.av1_tile.specs.Canvas.{Component}
 use Rattle.av1_tile.specs.Output.{planes_of}
 use Rattle.av1_tile.specs.PlaneBlocks.{number}
 use Rattle.av1_tile.specs.Reference.{block_residue, coefficients}
-use Rattle.av1_tile.specs.Shared.{parts_in}
+use Rattle.av1_tile.specs.SharedChroma.{parts_in}
 use Rattle.av1_tile.specs.Steps.{Step, predict, add, steps}
 
 -- The residue that a step adds, if it adds one, is the same in this version.

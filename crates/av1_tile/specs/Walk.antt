@@ -31,15 +31,13 @@ use Rattle.av1_frame.specs.Planes.{sample_at, painted_plane, IsWhole}
 use Rattle.av1_intra.specs.ChromaFromLuma.{ac_at, chroma_block, columns_read, rows_read, first_luma_column}
 use Rattle.av1_intra.specs.ChromaFromLuma.{first_luma_row}
 use Rattle.av1_intra.specs.Predicted.{alpha_of}
-use Rattle.av1_inter.specs.Reference.{reference_of}
+use Rattle.av1_inter.specs.Reference.{is_reference, reference_of}
 use Rattle.av1_intra.specs.declared.neighbours.IntraEdgeFilterParameters.{IntraEdgeFilterParameters}
 use Rattle.av1_order.specs.Neighbours.{last_cell, leaf_holds}
-use Rattle.av1_order.specs.Plans.{is_inter}
 use Rattle.av1_plan.specs.declared.header.Header.{Header}
 use Rattle.av1_plan.specs.declared.geometry.PlaneArea.{PlaneArea}
 use Rattle.av1_plan.specs.declared.leaf.Leaf.{Leaf}
-use Rattle.av1_plan.specs.declared.leaf.LeafKind.{LeafKind}
-use Rattle.av1_plan.specs.declared.leaf.LeafKind.TheVariants.{Intra, Single, Compound}
+use Rattle.av1_plan.specs.declared.leaf.LeafKind.TheVariants.{Intra}
 use Rattle.av1_plan.specs.declared.leaf.Triple.{Triple}
 use Rattle.av1_plan.specs.Geometry.{xdec, ydec, plane_width, plane_height, shown_columns, shown_rows, plane_area}
 use Rattle.av1_plan.specs.Geometry.{coded_width, coded_height}
@@ -47,16 +45,17 @@ use Rattle.av1_plan.specs.Geometry.{carries_chroma, block_count, blocks_across, 
 use Rattle.av1_plan.specs.Plan.{LeafValue, PlanValue}
 use Rattle.av1_plan.specs.ReadPlans.{IsOtherFrame, IsReadFrame}
 use Rattle.av1_plan.specs.Validity.{has_reference}
-use Rattle.av1_references.specs.declared.tile.TileReferences.{TileReferences}
-use Rattle.av1_references.specs.References.{ServesPlan, in_frame, leaf_area, rect_of}
+use Rattle.av1_tile.specs.declared.references.TileReferences.{TileReferences}
+use Rattle.av1_tile.specs.Motion.{ServesPlan, in_frame, leaf_area, motion_of, plan_motion, rect_of}
 use Rattle.av1_tile.specs.declared.block.BlockPlace.{BlockPlace}
 use Rattle.av1_tile.specs.declared.block.EdgePrediction.{EdgePrediction}
 use Rattle.av1_tile.specs.declared.cells.CodedCells.{CodedCells}
 use Rattle.av1_tile.specs.declared.extent.PlaneExtent.{PlaneExtent}
 use Rattle.av1_tile.specs.declared.frame.WalkedFrame.{WalkedFrame}
+use Rattle.av1_tile.specs.declared.motion.Motion.{Motion}
 use Rattle.av1_tile.specs.declared.plane_block.LumaBlock.{LumaBlock}
 use Rattle.av1_tile.specs.declared.plane_block.Nearby.{Nearby}
-use Rattle.av1_tile.specs.declared.plane_block.Parts.{Parts}
+use Rattle.av1_tile.specs.declared.shared_chroma.MotionParts.{MotionParts}
 use Rattle.av1_tile.specs.declared.plane_block.PlaneBlock.{PlaneBlock}
 use Rattle.av1_tile.specs.declared.plane_block.Prediction.{Prediction}
 use Rattle.av1_tile.specs.declared.plane_block.Prediction.TheVariants as predictions
@@ -65,8 +64,8 @@ use Rattle.av1_tile.specs.Canvas.{Component, Y, U, V}
 use Rattle.av1_tile.specs.PlaneBlocks.{number, component, extent_of, block_told, coded_info, filter_parameters}
 use Rattle.av1_tile.specs.PlaneBlocks.{is_from_luma}
 use Rattle.av1_tile.specs.PlaneBlocks.{triples_in}
-use Rattle.av1_tile.specs.Shared.{moved, parts_at}
-use Rattle.av1_tile.specs.Reference.{Scene, by_mode, by_prediction, kind_motion, luma_for, luma_of, added}
+use Rattle.av1_tile.specs.SharedChroma.{parts_at}
+use Rattle.av1_tile.specs.Reference.{Scene, by_mode, by_prediction, luma_for, luma_of, added}
 use Rattle.av1_tile.specs.Reference.{block_residue}
 use Rattle.av1_tile.specs.Steps.{Step, predict, add, PlaneStep, steps_of}
 
@@ -158,8 +157,7 @@ fast_step num pixel scene planes s =
 abbrev pub has_edge : Prediction → Bool
 has_edge (predictions.Intra mode step filter) = true
 has_edge (predictions.FromLuma alpha) = true
-has_edge (predictions.Single mode reference mv) = false
-has_edge (predictions.Compound mode references mvs) = false
+has_edge (predictions.Inter motion) = false
 has_edge (predictions.Parts parts) = false
 
 -- the count of prepared edges after a step
@@ -308,29 +306,28 @@ pub record ReferenceFits (h : Header) (reference : RefType) : Type 0 where
   pub other : IsOtherFrame reference
   pub has : IsTrue (has_reference h reference)
 
--- a leaf from references that can be predicted: its mode is one of references, and each has a slot that carries planes
-abbrev pub KindServes : Header → LeafKind → Type 0
-KindServes h (Intra mode step chroma) = ⊥
-KindServes h (Single mode reference mv) = (is_intra mode ≡ false) × ReferenceFits h reference
-KindServes h (Compound mode references mvs) =
-    (is_intra mode ≡ false) ×
-    (ReferenceFits h (reference_of references 0) × ReferenceFits h (reference_of references 1))
+-- a motion that can be predicted: its mode is one of references, and each reference has a slot that carries planes
+pub record MotionServes (h : Header) (motion : Motion) : Type 0 where
+  pub mode : is_intra motion.mode ≡ false
+  pub first : ReferenceFits h (reference_of motion.references 0)
+  pub second : is_reference (reference_of motion.references 1) ≡ true →
+      ReferenceFits h (reference_of motion.references 1)
 
 -- it predicts a rectangle of plane p with sides up to 64 samples of luma
-pub record KindFits (h : Header) (p : ℕ) (a : VisibleArea) (kind : LeafKind) : Type 0 where
+pub record MotionFits (h : Header) (p : ℕ) (a : VisibleArea) (motion : Motion) : Type 0 where
   pub wide : a.width ≤ 64 / 2 ^ xdec h p
   pub high : a.height ≤ 64 / 2 ^ ydec h p
-  pub serves : KindServes h kind
+  pub serves : MotionServes h motion
 
--- each part's leaf can be predicted
-pub record PartsServe (h : Header) (parts : Parts) : Type 0 where
-  pub corner : KindServes h parts.corner
-  pub over : KindServes h parts.over
-  pub side : KindServes h parts.side
-  pub own : KindServes h parts.own
+-- each part's motion can be predicted
+pub record PartsServe (h : Header) (parts : MotionParts) : Type 0 where
+  pub corner : MotionServes h parts.corner
+  pub over : MotionServes h parts.over
+  pub side : MotionServes h parts.side
+  pub own : MotionServes h parts.own
 
 -- and so each part of a rectangle of plane p
-pub record PartsFit (h : Header) (p : ℕ) (a : VisibleArea) (parts : Parts) : Type 0 where
+pub record PartsFit (h : Header) (p : ℕ) (a : VisibleArea) (parts : MotionParts) : Type 0 where
   pub wide : a.width ≤ 64 / 2 ^ xdec h p
   pub high : a.height ≤ 64 / 2 ^ ydec h p
   pub serve : PartsServe h parts
@@ -339,10 +336,7 @@ pub record PartsFit (h : Header) (p : ℕ) (a : VisibleArea) (parts : Parts) : T
 abbrev pub PredictionFits : Header → (p : ℕ) → PlaneArea → Prediction → Type 0
 PredictionFits h p area (predictions.Intra mode step filter) = ModeFits mode step
 PredictionFits h p area (predictions.FromLuma alpha) = FromLumaFits area alpha
-PredictionFits h p area (predictions.Single mode reference mv) =
-    KindFits h p (leaf_area area) (Single mode reference mv)
-PredictionFits h p area (predictions.Compound mode references mvs) =
-    KindFits h p (leaf_area area) (Compound mode references mvs)
+PredictionFits h p area (predictions.Inter motion) = MotionFits h p (leaf_area area) motion
 PredictionFits h p area (predictions.Parts parts) = PartsFit h p (leaf_area area) parts
 
 -- a block that is reconstructed: it lies in a plane's storage, its prediction and its transforms can be made, and its
@@ -403,7 +397,7 @@ pub record LeafFits {T : Type 0} (h : Header) (planes : Planes T) (leaf : LeafVa
       BlockFits planes.u.plane_cfg h (block_told h near U leaf) (triples_in U leaf)
   pub v : carries_chroma h leaf.x leaf.y leaf.size ≡ true → (near : Nearby) → NearServes h near →
       BlockFits planes.v.plane_cfg h (block_told h near V leaf) (triples_in V leaf)
-  pub serves : is_inter leaf.kind ≡ true → KindServes h leaf.kind
+  pub serves : IfSome (motion_of leaf.kind) (MotionServes h)
 
 -- ---- the record of cells
 
@@ -456,28 +450,28 @@ leaf_with l y u v = record {
 
 -- ---- leaves that share a block
 
--- of each luma cell the kind of the leaf that was noted last in it, where that is predicted from references
-abbrev pub Movers : Type 0
-Movers = (cx cy : ℕ) → Option LeafKind
+-- of each luma cell the motion of the leaf that was noted last in it, where that is predicted from references
+abbrev pub Motions : Type 0
+Motions = (cx cy : ℕ) → Option Motion
 
 -- none is noted yet; once a leaf is; and once leaves are, one after the other
-abbrev pub no_movers : Movers
-no_movers = λ cx cy. None
+abbrev pub no_motions : Motions
+no_motions = λ cx cy. None
 
-abbrev pub with_mover : Movers → LeafValue → Movers
-with_mover movers leaf = λ cx cy. if leaf_holds leaf cx cy then moved (Some leaf) else movers cx cy
+abbrev pub with_motion : Motions → LeafValue → Motions
+with_motion motions leaf = λ cx cy. if leaf_holds leaf cx cy then motion_of leaf.kind else motions cx cy
 
-abbrev pub movers_of : List Leaf → Movers
-movers_of leaves = fold (λ movers leaf. with_mover movers (leaf_with leaf [] [] [])) no_movers leaves
+abbrev pub motions_of : List Leaf → Motions
+motions_of leaves = fold (λ motions leaf. with_motion motions (leaf_with leaf [] [] [])) no_motions leaves
 
 -- each can be predicted
-abbrev pub MoversServe : Header → Movers → Type 0
-MoversServe h movers = (cx cy : ℕ) (kind : LeafKind) → movers cx cy ≡ Some kind → KindServes h kind
+abbrev pub MotionsServe : Header → Motions → Type 0
+MotionsServe h motions = (cx cy : ℕ) → IfSome (motions cx cy) (MotionServes h)
 
 -- the parts of a leaf's block in plane p
-abbrev pub parts_by : Header → Movers → (p : ℕ) → LeafValue → Option Parts
-parts_by h movers p leaf =
-    parts_at (is_narrow leaf.size (xdec h p)) (is_low leaf.size (ydec h p)) (with_mover movers leaf) (leaf.x / 4)
+abbrev pub parts_by : Header → Motions → (p : ℕ) → LeafValue → Option MotionParts
+parts_by h motions p leaf =
+    parts_at (is_narrow leaf.size (xdec h p)) (is_low leaf.size (ydec h p)) (with_motion motions leaf) (leaf.x / 4)
     (leaf.y / 4)
 
 -- ---- steps by what is known
@@ -485,16 +479,16 @@ parts_by h movers p leaf =
 -- what is known of the leaves before one
 pub record Known : Type 0 where
   pub told : Told
-  pub movers : Movers
+  pub motions : Motions
 
 -- no leaf came before, whatever the record of cells tells
 abbrev pub at_start : Told → Known
-at_start told = record { told = told; movers = no_movers }
+at_start told = record { told = told; motions = no_motions }
 
 -- one more leaf came, and more
 abbrev pub with_known : Known → LeafValue → Known
 with_known known leaf =
-    record { told = with_leaf known.told leaf; movers = with_mover known.movers leaf }
+    record { told = with_leaf known.told leaf; motions = with_motion known.motions leaf }
 
 abbrev pub with_all_known : Known → List LeafValue → Known
 with_all_known known leaves = fold with_known known leaves
@@ -503,7 +497,7 @@ with_all_known known leaves = fold with_known known leaves
 abbrev pub near_by : Header → Known → Component → LeafValue → Nearby
 near_by h known component leaf = record {
   filter = filter_by h known.told component leaf;
-  parts = parts_by h known.movers (number component) leaf;
+  parts = parts_by h known.motions (number component) leaf;
 }
 
 abbrev pub block_by : Header → Known → Component → LeafValue → PlaneBlock
@@ -530,8 +524,8 @@ pub record ServesScene {T : Type 0} (num : T → ℕ) (scene : Scene) (from : Ti
   pub has : (reference : RefType) → has_reference plan.header reference ≡ has_reference scene.header reference
   pub near_x : (p : ℕ) → (rect_of from p).x < 2 ^ 16
   pub near_y : (p : ℕ) → (rect_of from p).y < 2 ^ 16
-  pub motion : (p : ℕ) (kind : LeafKind) (a : VisibleArea) (r c : ℕ) →
-      scene.motion p kind a r c ≡ kind_motion plan p kind (in_frame (rect_of from p) a) r c
+  pub motion : (p : ℕ) (motion : Motion) (a : VisibleArea) (r c : ℕ) →
+      scene.motion p motion a r c ≡ plan_motion plan p motion (in_frame (rect_of from p) a) r c
 
 -- ---- the frame that is walked
 
@@ -542,16 +536,16 @@ pub record IsWalked {T : Type 0} (num : T → ℕ) (bits : ℕ) (frame : WalkedF
   pub depth : frame.header.now.depth ≤ bits
   pub cells : HasCells frame.header.now frame.cells.now
   pub references : (value : Scene) × ServesScene num (with_header frame.header.now value) frame.from.now
-  pub movers : MoversServe frame.header.now (movers_of frame.earlier.now)
+  pub motions : MotionsServe frame.header.now (motions_of frame.earlier.now)
 
 -- plane p of a frame that can be read, of a depth that samples of so many bits have
-pub record HoldsPlane {T : Type 0} (num : T → ℕ) (bits : ℕ) (h : Header) (p : ℕ) (plane : Plane T) : Type 0 where
+pub record IsWalkedPlane {T : Type 0} (num : T → ℕ) (bits : ℕ) (h : Header) (p : ℕ) (plane : Plane T) : Type 0 where
   pub frame : IsReadFrame h
   pub depth : h.depth ≤ bits
   pub stores : Stores num h p plane
 
 -- and so each plane of it
-pub record HoldsPlanes {T : Type 0} (num : T → ℕ) (bits : ℕ) (h : Header) (planes : Planes T) : Type 0 where
+pub record AreWalkedPlanes {T : Type 0} (num : T → ℕ) (bits : ℕ) (h : Header) (planes : Planes T) : Type 0 where
   pub frame : IsReadFrame h
   pub depth : h.depth ≤ bits
   pub stores : StoresAll num h planes
@@ -578,7 +572,7 @@ Walks num pixel h block luma steps before after =
 
 -- what it knows of the leaves before
 abbrev pub known_in : {T : Type 0} → WalkedFrame T → Known
-known_in frame = record { told = cell_at frame.cells.now; movers = movers_of frame.earlier.now }
+known_in frame = record { told = cell_at frame.cells.now; motions = motions_of frame.earlier.now }
 
 -- a leaf's block in plane p of it
 abbrev pub block_in : {T : Type 0} → WalkedFrame T → (p : ℕ) → Leaf → PlaneBlock

@@ -1,4 +1,4 @@
-//! One transform block: its prediction from the samples round it, and its residue.
+//! One transform block: the prediction from its neighbouring samples, and the addition of its residual.
 
 ghost use Rattle.std.specs.Prelude.{◌≡◌, ◌-◌, ◌^◌, ◌<◌, ◌≤◌, length, All, IsTrue, pos, map, reverse, [], ◌∷◌, option_map, unsigned_abs};
 ghost use Rattle.av1_blocks.specs.Depths.{IsDepth};
@@ -30,33 +30,33 @@ use av1_intra::{
 use av1_itx::{TxScratch, inverse_transform_add_with};
 use av1_plan::{Header, Triple};
 
-/// Where a transform block stands in its leaf's block, and in the plane.
+/// The position of a transform block in its leaf's block and in the plane.
 #[derive(Clone, Copy, Debug)]
 pub struct BlockPlace {
-    /// Its number, in raster order over the leaf's block.
+    /// The number of the transform block, in raster order over the leaf's block.
     pub number: usize,
-    /// Its column, counted in transforms.
+    /// The column in the leaf's block, counted in transform blocks.
     pub column: usize,
-    /// Its row.
+    /// The row in the leaf's block, counted in transform blocks.
     pub row: usize,
-    /// The column of its first sample in the plane.
+    /// The column of the first sample in the plane.
     pub x: usize,
-    /// The row of its first sample.
+    /// The row of the first sample in the plane.
     pub y: usize,
 }
 
-/// How a transform block is predicted from its edge.
+/// How an intra mode predicts a transform block.
 #[derive(Clone, Copy)]
 pub struct EdgePrediction {
     /// The intra mode.
     pub mode: PredictionMode,
-    /// The steps that it turns, or its weight of luma.
+    /// The angle delta of the mode, in steps of 3 degrees, or the weight of luma.
     pub param: IntraParam,
-    /// What the edge filter is told of the neighbours, where it is on.
+    /// The neighbours' parameters for the edge filter, if the filter is on.
     pub filter: Option<IntraEdgeFilterParameters>,
 }
 
-/// The place at column `x` of row `y`.
+/// The offset of column `x` and row `y` in a plane.
 fn offset_at(x: usize, y: usize) -> PlaneOffset
     requires x { x < 2 ^ 63 }
     requires y { y < 2 ^ 63 }
@@ -144,7 +144,7 @@ fn predict_region<T: Pixel>(
     );
 }
 
-/// Predicts a transform block by an intra mode, from the samples round it.
+/// Predicts a transform block by an intra mode, from its neighbouring samples in the plane.
 pub fn predict_from_edge<T: Pixel>(
     plane: &mut Plane<T>,
     edges: &mut IntraEdgeBuffer<T>,
@@ -186,8 +186,8 @@ pub fn predict_from_edge<T: Pixel>(
     predict_region(&mut region, &edge, luma, header, block, at, how);
 }
 
-/// Adds a transform block's residue to the first rows and columns of the region; `coefficients` is room for its
-/// coefficients.
+/// Adds the residual of a transform block to the first rows and columns of the region. `coefficients` is a buffer for
+/// the coefficients of the block.
 fn add_residue<T: Pixel>(
     output: &mut PlaneRegionMut<'_, T>,
     coefficients: &mut [T::Coeff],
@@ -222,7 +222,7 @@ fn add_residue<T: Pixel>(
     );
 }
 
-/// Adds the residue of a transform block to its samples. Without triples the samples stay: they lie within the depth.
+/// Adds the residual of a transform block to its samples. If the block has no triples, the samples don't change.
 pub fn add_block<T: Pixel>(
     plane: &mut Plane<T>,
     room: &mut ResidueRoom<T>,

@@ -1,4 +1,4 @@
-//! The memory that the walk works in.
+//! The buffers of the walk: for one transform block, for one leaf, and for the predictions that a caller wants to see.
 
 ghost use Rattle.std.specs.Prelude.{◌≡◌, vec_len, IfOk};
 
@@ -10,41 +10,42 @@ use av1_inter::InterCompoundBuffers;
 use av1_itx::TxScratch;
 use std::alloc::Global;
 
-/// The most coded coefficients of a transform block.
+/// The greatest number of coded coefficients of a transform block.
 const MOST_COEFFICIENTS: usize = 1024;
 
-/// The most samples of a block of chroma that is predicted from luma.
+/// The greatest number of samples of a chroma block that is predicted from luma.
 const MOST_FROM_LUMA: usize = 32 * 32;
 
-/// Room for the residue of one transform block.
+/// Buffers for the residual of one transform block.
 #[derive(Drop)]
 pub struct ResidueRoom<T: Pixel> {
-    /// Its coefficients.
+    /// The coefficients of the block.
     pub(crate) coefficients: Vec<T::Coeff>,
-    /// What their transform works in.
+    /// The buffer of the inverse transform.
     pub(crate) scratch: TxScratch,
     pub(crate) ghost coefficients_len: { vec_len coefficients ≡ 1024 },
 }
 
-/// Room for one transform block, for the luma of a leaf and for one leaf's prediction from two references; and the
-/// predictions that are kept.
+/// Buffers for one transform block, for the luma of one leaf and for the prediction of one leaf from two references;
+/// and the predictions that the walk keeps.
 #[derive(Drop)]
 pub struct WalkBuffers<T: Pixel> {
-    /// The samples round a transform block.
+    /// The edge of a transform block: its neighbouring samples.
     pub(crate) edges: IntraEdgeBuffer<T>,
-    /// How far luma is from its mean, row by row, for each sample of a leaf's chroma that is predicted from it.
+    /// The distance of luma from its mean for each chroma sample of a leaf, row by row. Used if chroma is predicted
+    /// from luma.
     pub(crate) luma: Vec<i16>,
-    /// What the residue of a transform block takes.
+    /// The buffers for the residual of a transform block.
     pub(crate) residue: ResidueRoom<T>,
-    /// The prepared values of a leaf from each of two references.
+    /// The intermediate values of a leaf from each of two references.
     pub(crate) compound: InterCompoundBuffers,
-    /// What is kept of the predictions: nothing, unless a caller asks for them.
+    /// The predictions that the walk keeps: none, unless a caller asks for them.
     pub(crate) kept: PredictedPlanes<T>,
     pub(crate) ghost luma_long: { vec_len luma ≡ 1024 },
 }
 
 impl<T: Pixel> ResidueRoom<T> {
-    /// Takes the memory.
+    /// Allocates the buffers.
     fn new(alloc: Global) -> Result<ResidueRoom<T>, OutOfMemory> {
         Ok(ResidueRoom {
             coefficients: repeated(alloc, T::Coeff::from_i32(0), MOST_COEFFICIENTS)?,
@@ -56,7 +57,7 @@ impl<T: Pixel> ResidueRoom<T> {
 impl<T: Pixel> WalkBuffers<T> {
     ghost use Rattle.std.specs.Prelude.{◌≡◌, IfOk};
 
-    /// Takes the memory. No edge has been prepared in it yet.
+    /// Allocates the buffers. The count of prepared edges is 0.
     pub(crate) fn new(alloc: Global) -> Result<WalkBuffers<T>, OutOfMemory>
         ensures { IfOk result (λ buffers. buffers.edges.prepared ≡ 0) }
     {

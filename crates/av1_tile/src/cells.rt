@@ -1,4 +1,4 @@
-//! What later leaves are told of each luma cell of a frame.
+//! The modes and references of the leaves, kept for each luma cell of a frame for the leaves that follow.
 //!
 //! AV1 specification: intra filter type process, which looks up the blocks above and to the left of one.
 
@@ -9,26 +9,18 @@ ghost use Rattle.av1_tile.specs.PlaneBlocks.{chroma_mode_of, coded_info};
 
 use crate::fill::fill_slice;
 use av1_blocks::{OutOfMemory, PredictionMode, RefType};
-use av1_frame::CodedBlockInfo;
+use av1_frame::{CodedBlockInfo, StoredArea};
 use av1_intra::IntraEdgeFilterParameters;
 use av1_plan::{ChromaMode, Header, Leaf, LeafKind, PlaneArea};
 use std::alloc::Global;
 
-/// A record of what is told of each cell of 4 by 4 luma samples of a frame, row by row.
+/// The modes and references of the leaf that covers each cell (4x4 luma samples, a mode info unit) of a frame, row by
+/// row.
 #[derive(Drop)]
 pub struct CodedCells {
     pub(crate) cells: Vec<CodedBlockInfo>,
     pub(crate) columns: usize,
     pub(crate) rows: usize,
-}
-
-/// A rectangle of cells.
-#[derive(Clone, Copy)]
-struct CellArea {
-    x: usize,
-    y: usize,
-    width: usize,
-    height: usize,
 }
 
 /// The chroma mode of an intra leaf.
@@ -42,7 +34,7 @@ fn chroma_mode_of(chroma: Option<ChromaMode>) -> PredictionMode
     }
 }
 
-/// What later leaves are told of a leaf.
+/// The modes and references of a leaf.
 fn coded_info(kind: LeafKind) -> CodedBlockInfo
     ensures { result ≡ coded_info kind }
 {
@@ -73,12 +65,12 @@ fn coded_info(kind: LeafKind) -> CodedBlockInfo
     }
 }
 
-/// The cells of a rectangle become `info`, in rows of `columns` cells.
-fn fill_rows(cells: &mut [CodedBlockInfo], columns: usize, area: CellArea, info: CodedBlockInfo)
+/// Sets each cell of a rectangle to `info`; a row has `columns` cells.
+fn fill_rows(cells: &mut [CodedBlockInfo], columns: usize, area: StoredArea, info: CodedBlockInfo)
     requires some { 0 < columns }
     requires across { area.x + area.width ≤ columns }
     requires down { (area.y + area.height) * columns ≤ length cells.old }
-    ensures { cells.new ≡ paint columns (record { x = area.x; y = area.y; width = area.width; height = area.height }) (λ _ _ _. info) cells.old }
+    ensures { cells.new ≡ paint columns area (λ _ _ _. info) cells.old }
 {
     for r in 0..area.height {
         let start = (area.y + r) * columns + area.x;
@@ -86,7 +78,7 @@ fn fill_rows(cells: &mut [CodedBlockInfo], columns: usize, area: CellArea, info:
     }
 }
 
-/// The cell of luma that tells of column (or row) `place` of a plane: the last one of its unit of 4 samples.
+/// The luma cell that is read for column (or row) `place` of a plane: the last cell of its unit of 4 samples.
 fn last_cell(decimation: usize, place: usize) -> usize
     requires decimation { decimation ≤ 1 }
     requires place { place < 2 ^ 16 }
@@ -101,7 +93,7 @@ impl CodedCells {
     ghost use Rattle.av1_plan.specs.ReadPlans.{IsReadFrame};
     ghost use Rattle.av1_tile.specs.Walk.{cell_at, told_by, parameters_by, with_leaf, HasCells, leaf_with};
 
-    /// A record for a frame, of which nothing is told yet.
+    /// Allocates the cells of a frame. Each cell begins as an intra cell with DC modes.
     pub(crate) fn new(alloc: Global, header: &Header) -> Result<CodedCells, OutOfMemory>
         ensures { IfOk result (λ cells. HasCells header.now cells) }
     {
@@ -120,7 +112,7 @@ impl CodedCells {
         })
     }
 
-    /// Lays the record out for a frame. What it tells of the frame's cells is left from before.
+    /// Lays the cells out for a frame. Their contents are those of the frame before, until a leaf overwrites them.
     pub(crate) fn lay_out(&mut self, header: &Header)
         requires room { coded_height header.now / 4 * (coded_width header.now / 4) ≤ length self.old.cells.items }
         ensures cells { HasCells header.now self.new }
@@ -130,7 +122,7 @@ impl CodedCells {
         self.rows = header.coded_height() / 4;
     }
 
-    /// Notes in each cell of a leaf, as far as it lies in the frame, what later leaves are told of it.
+    /// Writes the modes and references of a leaf to each of its cells in the frame.
     #[inline(always)]
     pub(crate) fn note(&mut self, header: &Header, leaf: &Leaf)
         requires frame { IsReadFrame header.now }
@@ -142,7 +134,7 @@ impl CodedCells {
     {
         let x = usize::from(leaf.x / 4).min(self.columns);
         let y = usize::from(leaf.y / 4).min(self.rows);
-        let area = CellArea {
+        let area = StoredArea {
             x,
             y,
             width: (leaf.size.width() / 4).min(self.columns - x),
@@ -157,7 +149,7 @@ impl CodedCells {
         );
     }
 
-    /// What is told of the sample at column `x` of row `y` of plane `p`.
+    /// The modes and references of the cell that is read for column `x` and row `y` of plane `p`.
     fn told(&self, header: &Header, p: usize, x: usize, y: usize) -> CodedBlockInfo
         requires frame { IsReadFrame header.now }
         requires cells { HasCells header.now self.now }
@@ -170,7 +162,8 @@ impl CodedCells {
         self.cells[cy * self.columns + cx]
     }
 
-    /// What the edge filter is told of the neighbours of an area of plane `p`, where it is on.
+    /// The parameters for the edge filter, from the neighbours above and left of an area of plane `p`; None if the
+    /// filter is off.
     #[inline(always)]
     pub(crate) fn filter_parameters(
         &self,

@@ -8,7 +8,7 @@ ghost use Rattle.av1_dct.specs.Arithmetic.{FitsBits};
 use av1_frame::Coefficient;
 use av1_plan::Triple;
 
-/// Each coefficient becomes 0.
+/// Sets each coefficient to 0.
 fn clear<C: Coefficient>(coefficients: &mut [C])
     ensures { map C.val coefficients.new ≡ replicate (length coefficients.old) (pos 0) }
 {
@@ -17,7 +17,7 @@ fn clear<C: Coefficient>(coefficients: &mut [C])
     }
 }
 
-/// Puts a value at its place, if it is one of this block.
+/// Writes a value to its position if it belongs to this block.
 fn put_value<C: Coefficient>(coefficients: &mut [C], is_here: bool, place: usize, value: i32)
     requires place { place < length coefficients.old }
     requires value { FitsBits C.BITS value }
@@ -28,7 +28,8 @@ fn put_value<C: Coefficient>(coefficients: &mut [C], is_here: bool, place: usize
     }
 }
 
-/// The coefficients of the block numbered `block`: the values of its triples at their places, and 0 at all others.
+/// Writes the coefficients of transform block number `block`: the values of its triples at their positions, and 0 at
+/// all others.
 pub fn load_coefficients<C: Coefficient>(coefficients: &mut [C], block: usize, triples: &[Triple])
     requires places { All (λ (t : Triple). t.place < length coefficients.old) triples.now }
     requires values { All (λ (t : Triple). FitsBits C.BITS t.value) triples.now }
@@ -46,7 +47,7 @@ pub fn load_coefficients<C: Coefficient>(coefficients: &mut [C], block: usize, t
     }
 }
 
-/// How many coefficients there are up to the last place of the triples.
+/// The number of coefficients up to the last position of the triples.
 pub fn coefficients_up_to(triples: &[Triple]) -> usize
     ensures reach { All (λ (t : Triple). t.place < result) triples.now }
     ensures least { (n : ℕ) → All (λ (t : Triple). t.place < n) triples.now → result ≤ n }

@@ -1,15 +1,15 @@
-//! The visible part of a plane.
+//! Width, height and depth of the visible part of a plane.
 
 use av1_plan::Header;
 
-/// The visible sides of a plane in samples, and the depth of its samples in bits.
+/// Width and height of the visible part of a plane in samples, and the depth of its samples in bits.
 #[derive(Clone, Copy, Debug, PartialEq, Eq)]
 pub struct PlaneExtent {
-    /// Columns.
+    /// The number of columns.
     pub width: usize,
-    /// Rows.
+    /// The number of rows.
     pub height: usize,
-    /// Bits of a sample: 8, 10 or 12.
+    /// The number of bits of a sample: 8, 10 or 12.
     pub depth: usize,
 }
 

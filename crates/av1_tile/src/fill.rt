@@ -1,4 +1,4 @@
-//! Slices and planes of one value.
+//! Fills slices and planes with one value.
 
 ghost use Rattle.std.specs.Prelude.{◌≡◌, ◌≤◌, length, replicate};
 ghost use Rattle.av1_frame.specs.Planes.{IsWhole};
@@ -7,7 +7,7 @@ ghost use Rattle.av1_frame.specs.Samples.{paint_row};
 
 use av1_frame::{Area, Pixel, Plane, PlaneRegionMut};
 
-/// Each item becomes `value`.
+/// Sets each item to `value`.
 #[tactic(auto, using(av1_frame::proofs::Paint::row_painting))]
 pub fn fill_slice<T: Copy>(items: &mut [T], value: T)
     ensures { items.new ≡ paint_row (length items.old) (λ _ _. value) items.old }
@@ -17,7 +17,7 @@ pub fn fill_slice<T: Copy>(items: &mut [T], value: T)
     }
 }
 
-/// The samples of the first `height` rows of the region become `value`.
+/// Sets the samples of the first `height` rows of the region to `value`.
 #[tactic(auto, using(av1_frame::proofs::Fits::row_end_le, av1_frame::proofs::Regions::region_painting))]
 fn fill_rows<T: Pixel>(output: &mut PlaneRegionMut<'_, T>, value: T, height: usize)
     requires fits { InStorage output.old }
@@ -30,7 +30,7 @@ fn fill_rows<T: Pixel>(output: &mut PlaneRegionMut<'_, T>, value: T, height: usi
     }
 }
 
-/// Each sample that the plane stores becomes `value`.
+/// Sets each sample that the plane stores to `value`.
 pub fn fill_plane<T: Pixel>(plane: &mut Plane<T>, value: T)
     requires { IsWhole plane.old }
     ensures { plane.new ≡ record plane.old { samples = replicate (length plane.old.samples) value } }

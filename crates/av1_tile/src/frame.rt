@@ -1,18 +1,18 @@
-//! What the walk reads of a frame.
+//! The inputs of the walk for one leaf: the header, the references and the leaves before it.
 
 use crate::cells::CodedCells;
+use crate::references::TileReferences;
 use av1_plan::{Header, Leaf};
-use av1_references::TileReferences;
 
-/// What the walk reads of the frame that it reconstructs.
+/// The inputs of the walk for one leaf.
 #[derive(Clone, Copy)]
 pub struct WalkedFrame<'a, 'b, T> {
-    /// The header of its plan.
+    /// The header of the plan.
     pub header: &'a Header,
-    /// The references that it is predicted from, and its place in their frame.
+    /// The references, and the position of the tile in their frame.
     pub from: &'b TileReferences<'b, T>,
-    /// What is told of the leaves before.
+    /// The modes and references of the leaves before it, for each cell.
     pub cells: &'a CodedCells,
-    /// The leaves before, in coding order.
+    /// The leaves before it, in coding order.
     pub earlier: &'a [Leaf],
 }

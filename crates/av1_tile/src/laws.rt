@@ -1,47 +1,54 @@
-//! Laws of the slow definition.
+//! Theorems about the slow definition. Each function does nothing: its contract is the theorem.
 
 ghost use Rattle.av1_tile.specs.Lookups.{OutputIsThere, StepsAreAnswered, StepsFindSamples};
+ghost use Rattle.av1_tile.specs.MotionDepth.{CompoundMotionLiesWithin, SingleMotionLiesWithin};
 ghost use Rattle.av1_tile.specs.Residues.{SamplesAreSums};
 ghost use Rattle.av1_tile.specs.Versions.{EarlierKeepFilter, EarlierShareNone, EarlyAgree, ElsewhereAgree, VersionsShowTheSame};
 
-/// A law: the planes of a plan are the same in each version of the plan format by whose rules it goes.
+/// The planes of a plan are the same in each version of the plan format whose rules it follows.
 pub fn versions_show_the_same()
     ensures { VersionsShowTheSame }
 {}
 
-/// A law: in the first two versions no leaves share a block of chroma that is predicted from references.
+/// In the first two versions no leaves share a chroma block that is predicted from references.
 pub fn earlier_versions_share_no_chroma()
     ensures { EarlierShareNone }
 {}
 
-/// A law: in the first and the second version the filter along a side up to 4 is rav1e's, as along all other sides.
+/// In the first two versions the interpolation filter along a side up to 4 is rav1e's filter, as along all other sides.
 pub fn earlier_versions_keep_the_short_filter()
     ensures { EarlierKeepFilter }
 {}
 
-/// A law: each plan goes by the same rules in the first version and in the second.
+/// Each plan follows the same rules in the first version and in the second.
 pub fn versions_agree_early()
     ensures { EarlyAgree }
 {}
 
-/// A law: a plan whose filter isn't the sharp one, whose depth isn't 12, and whose lossless blocks have no coefficient
-/// of more than 17 bits, goes by the same rules in each version. At a depth of 8 no coefficient has more.
+/// A plan follows the same rules in each version if its filter is not the sharp one, its depth is not 12, and no
+/// coefficient of its lossless blocks has more than 17 bits. At depth 8 no coefficient has more.
 pub fn versions_agree_elsewhere()
     ensures { ElsewhereAgree }
 {}
 
-/// A law: what the slow walk of a valid plan looks up has been written, at each of its steps and at its end, so that no
-/// absent sample counts as 0: the samples that an edge begins with, the luma that chroma is predicted from, each sample
-/// that a residue is added to, and each sample of the output. Beside and past a block just those samples are there
-/// that the tables of availability tell.
+/// Each sample that the slow walk of a valid plan reads has been written before, so that no missing sample counts as 0.
+/// It reads the samples that an edge begins with, the luma that chroma is predicted from, each sample that a residual
+/// is added to, and at the end each sample of the output. Around a block exactly those samples have been written that
+/// the availability tables name.
 pub fn look_ups_find_samples()
     ensures at_steps { StepsFindSamples }
     ensures at_end { OutputIsThere }
     ensures answered { StepsAreAnswered }
 {}
 
-/// A law: each sample that a plan comes to is the sum of its prediction and its residue, which is what Add steps have
-/// changed of it since it was predicted.
+/// Each sample of a plan's output is the sum of its prediction and its residual. The residual is the change by the Add
+/// steps since the sample was predicted.
 pub fn samples_are_sums()
     ensures { SamplesAreSums }
+{}
+
+/// Each sample that is predicted from references lies within the depth.
+pub fn motion_lies_within_depth()
+    ensures single { SingleMotionLiesWithin }
+    ensures compound { CompoundMotionLiesWithin }
 {}

@@ -1,13 +1,13 @@
-//! A leaf, in each of the planes that it covers.
+//! The reconstruction of a leaf in each of the planes that it covers.
 
 ghost use Rattle.std.specs.Prelude.{◌≡◌, ℕ, ◌<◌, length, []};
 ghost use Rattle.std.specs.List.{fold};
 ghost use Rattle.av1_frame.specs.Planes.{sample_at};
 ghost use Rattle.av1_intra.specs.ChromaFromLuma.{ac_at, chroma_block, leaf_difference};
 ghost use Rattle.av1_tile.specs.PlaneBlocks.{is_from_luma};
-ghost use Rattle.av1_tile.specs.Predicted.{keeping_step};
+ghost use Rattle.av1_tile.specs.Predicted.{gathered, keeping_step};
 ghost use Rattle.av1_tile.specs.Reference.{Scene, luma_of};
-ghost use Rattle.av1_tile.specs.Walk.{known_in, edges_after, leaf_steps_by, fast_step, leaf_with, luma_block, LeafFits, LumaFits, Stores};
+ghost use Rattle.av1_tile.specs.Walk.{known_in, leaf_steps_by, leaf_with, luma_block, LeafFits, LumaFits, Stores};
 ghost use Rattle.av1_tile.specs.Walk.{IsWalked, KeepsPlanes, ServesScene, StoresAll, with_header};
 
 use crate::buffers::WalkBuffers;
@@ -31,7 +31,7 @@ fn is_from_luma(kind: LeafKind) -> bool
     )
 }
 
-/// Puts into `luma`, row by row, how far the luma of a leaf is from its mean, for each sample of its chroma.
+/// Writes to `luma`, row by row, the distance of a leaf's luma from its mean for each of its chroma samples.
 fn prepare_luma<T: Pixel>(luma: &mut [i16], plane: &Plane<T>, header: &Header, leaf: &Leaf)
     requires stores { Stores T.num header.now 0 plane.now }
     requires fits { LumaFits header.now plane.now.plane_cfg (leaf_with leaf.now [] [] []) }
@@ -64,7 +64,7 @@ fn prepare_luma<T: Pixel>(luma: &mut [i16], plane: &Plane<T>, header: &Header, l
     );
 }
 
-/// A leaf: its block in Y, then those in U and V where it carries chroma.
+/// Reconstructs a leaf: its block in Y, then its blocks in U and V if it carries chroma.
 pub fn reconstruct_leaf<T: Pixel>(
     planes: &mut Planes<T>,
     buffers: &mut WalkBuffers<T>,
@@ -78,14 +78,10 @@ pub fn reconstruct_leaf<T: Pixel>(
     requires stores { StoresAll T.num frame.now.header.now planes.old }
     requires fits { LeafFits frame.now.header.now planes.old (leaf_with leaf.now y.now u.now v.now) }
     ensures walked { let h = frame.now.header.now in let l = leaf_with leaf.now y.now u.now v.now in
-        (value : Scene) → ServesScene T.num (with_header h value) frame.now.from.now
-        → planes.new ≡ fold (fast_step T.num T.pixel (with_header h value)) planes.old (leaf_steps_by h (known_in frame.now) l) }
-    ensures counted { let l = leaf_with leaf.now y.now u.now v.now in buffers.new.edges.prepared ≡
-        fold edges_after buffers.old.edges.prepared (leaf_steps_by frame.now.header.now (known_in frame.now) l) }
+        (value : Scene) → ServesScene T.num (with_header h value) frame.now.from.now → (planes.new, gathered buffers.new.kept buffers.new.edges.prepared) ≡
+        fold (keeping_step T.num T.pixel (with_header h value)) (planes.old, gathered buffers.old.kept buffers.old.edges.prepared)
+        (leaf_steps_by h (known_in frame.now) l) }
     ensures kept { KeepsPlanes T.num frame.now.header.now planes.old planes.new }
-    ensures predictions { let h = frame.now.header.now in let l = leaf_with leaf.now y.now u.now v.now in
-        (value : Scene) → ServesScene T.num (with_header h value) frame.now.from.now → (planes.new, buffers.new.kept) ≡
-        fold (keeping_step T.num T.pixel (with_header h value)) (planes.old, buffers.old.kept) (leaf_steps_by h (known_in frame.now) l) }
 {
     let header = frame.header;
     reconstruct_leaf_in(&mut planes.y, buffers, frame, leaf, 0, y);

@@ -1,24 +1,35 @@
 //! The walk over the leaves of a plan: from decisions on blocks to samples.
 //!
-//! A [`TileState`] holds the three planes of a frame and the references that it is predicted from, and
-//! [`reconstruct_tile`] writes into the planes what a valid plan says. It goes through the leaves in coding order, and
-//! through the part that each covers in Y, U and V. Such a part is predicted from references over its whole area at
-//! once, or else block by block, each transform block from the samples above and left of it; the residues of its
-//! transform blocks are added in raster order. Chroma that small leaves from references share is predicted by each over
-//! its own luma. Places and sides are in samples of the plane at hand. A block that begins in the
-//! frame is written whole, though it may reach beyond; where a side of a block reaches beyond, it goes on with its last
-//! sample in the frame, and at the frame's left and upper ends it is a number close to mid-grey. Of a reference, the
-//! nearest sample in the frame stands for each that lies beyond it.
+//! A [`TileState`] holds the three planes of a frame and its references, and [`reconstruct_tile`] writes a valid plan
+//! to the planes. For each leaf, in coding order, and each plane that the leaf covers:
+//!
+//! - the block of an inter leaf is predicted from references as a whole. Chroma that small inter leaves share is
+//!   predicted in parts, each by the motion of the leaf over it;
+//! - each transform block of an intra leaf is predicted from the samples above and left of it;
+//! - the residuals of the transform blocks are added in raster order.
+//!
+//! Positions and dimensions are in samples of the plane at hand. A block that begins in the frame is written whole,
+//! even if it ends outside. An edge that reaches outside the frame repeats its last sample inside; at the left and
+//! upper end of the frame it has a number close to mid-grey. A reference repeats its nearest visible sample on all
+//! sides.
+//!
+//! [`frame_invariants`] makes the settings of a plan's frame and fills its slots with the plan's planes
+//! (`HoldsReferences` of `specs/Motion.antt`). Each plane is padded by 80 samples on every side, or by 40 in a
+//! direction in which it is halved, so that motion compensation serves blocks up to 64x64. [`stored_references`] does
+//! so for a frame without leaves. A caller may also keep the planes of earlier frames in slots of its own choice
+//! (`ServesPlan`).
 //!
 //! AV1 specification: decode block syntax, compute prediction syntax, intra prediction process, inter prediction
 //! process, reconstruction process.
 //!
-//! Promised: the visible planes are those of the slow definition, `planes_of` (`specs/Output.antt`), and so is each of
-//! their rows, `plan_row` (`specs/State.antt`), whatever they held before. Callers that keep planes and references from
-//! one frame to the next themselves have the same by a [`WalkMemory`], over [`Planes`] of their own (`ShowsPlan` of
-//! `specs/Memory.antt`). [`reconstruct_with_predictions`] keeps besides what each Predict step predicts of the visible
-//! samples (`slow_predictions`, `specs/Predicted.antt`). It, `TileState::new`, `Planes::new` and `WalkMemory::new`
-//! allocate; nothing else does.
+//! Proved: the visible planes are those of the slow definition, `planes_of` (`specs/Output.antt`), and so is each of
+//! their rows, `plan_row` (`specs/State.antt`), whatever the planes held before. Callers that keep planes and
+//! references from one frame to the next use a [`WalkMemory`] over [`Planes`] of their own (`ShowsPlan` of
+//! `specs/Memory.antt`). [`reconstruct_with_predictions`] also keeps the prediction of each visible sample
+//! (`slow_predictions`, `specs/Predicted.antt`).
+//!
+//! Only these calls allocate: `TileState::new`, `Planes::new`, `WalkMemory::new`, `frame_invariants`,
+//! `stored_references` and `reconstruct_with_predictions`.
 #![tactic(auto)]
 
 mod block;
@@ -31,25 +42,32 @@ mod frame;
 mod laws;
 mod leaf;
 mod memory;
-mod parts;
+mod motion;
 mod plane_block;
 mod planes;
 mod predicted;
-mod recon;
-mod shared;
+mod references;
+mod samples;
+mod shared_chroma;
+mod slots;
 mod state;
 mod tile;
 mod walk;
+mod with_predictions;
 
 pub use extent::PlaneExtent;
 pub use laws::{
     earlier_versions_keep_the_short_filter, earlier_versions_share_no_chroma,
-    look_ups_find_samples, samples_are_sums, versions_agree_early, versions_agree_elsewhere,
-    versions_show_the_same,
+    look_ups_find_samples, motion_lies_within_depth, samples_are_sums, versions_agree_early,
+    versions_agree_elsewhere, versions_show_the_same,
 };
 pub use memory::WalkMemory;
-pub use plane_block::{LumaBlock, Nearby, Parts, PlaneBlock, Prediction};
+pub use motion::Motion;
+pub use plane_block::{LumaBlock, Nearby, PlaneBlock, Prediction};
 pub use planes::{Planes, visible_row};
 pub use predicted::{PredictedPlane, PredictedPlanes};
-pub use recon::{PredictedTile, reconstruct_tile, reconstruct_with_predictions};
-pub use state::TileState;
+pub use references::TileReferences;
+pub use shared_chroma::MotionParts;
+pub use slots::{frame_invariants, stored_references};
+pub use state::{TileState, reconstruct_tile};
+pub use with_predictions::{PredictedTile, reconstruct_with_predictions};

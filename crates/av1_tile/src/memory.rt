@@ -1,20 +1,19 @@
-//! The memory that a walk works in.
+//! The memory of a walk, allocated once for many frames.
 
 ghost use Rattle.std.specs.Prelude.{◌≡◌, length};
 
 use crate::buffers::WalkBuffers;
 use crate::cells::CodedCells;
 use crate::planes::Planes;
+use crate::references::TileReferences;
 use crate::tile::reconstruct_leaves;
 use av1_blocks::OutOfMemory;
 use av1_frame::{FrameInvariants, Pixel};
 use av1_plan::{Header, Leaves};
-use av1_references::TileReferences;
 use std::alloc::Global;
 use std::marker::Model;
 
-/// The memory that the reconstruction of frames works in, taken once for frames with as many cells as the greatest.
-/// Nothing in it is told from one frame to the next.
+/// The memory of a walk: allocated once, with the cells of the largest frame. No result depends on the frame before.
 #[derive(Drop)]
 pub struct WalkMemory<T: Pixel> {
     cells: CodedCells,
@@ -40,8 +39,8 @@ impl<T: Pixel> WalkMemory<T> {
     ghost use Rattle.av1_tile.specs.State.{edges_of};
     ghost use Rattle.av1_tile.specs.Walk.{HasRoom, SameLayout, StoresAll};
 
-    /// Takes the memory for frames with this header's sides, and for all that have no more cells of 4 by 4 luma
-    /// samples. No edge has been prepared in it yet. An error is running out of memory.
+    /// Allocates the memory for frames with the width and height of this header, and for all frames with no more cells
+    /// of 4x4 luma samples. The count of prepared edges is 0. The only error is running out of memory.
     pub fn new(alloc: Global, header: &Header) -> Result<WalkMemory<T>, OutOfMemory>
         ensures room { IfOk result (λ m. HasRoomFor header.now m) }
         ensures edges { IfOk result (λ m. m.edges ≡ 0) }
@@ -51,26 +50,25 @@ impl<T: Pixel> WalkMemory<T> {
         Ok(WalkMemory { cells, buffers })
     }
 
-    /// Whether the memory has room for frames with this header's sides.
+    /// Whether the memory is large enough for frames with the width and height of this header.
     pub fn has_room_for(&self, header: &Header) -> bool
         ensures { result ≡ nat_le (coded_height header.now / 4 * (coded_width header.now / 4)) self.now.cells }
     {
         header.coded_height() / 4 * (header.coded_width() / 4) <= self.cells.cells.len()
     }
 
-    /// How many edges were prepared in the memory, up to the last value of a `u64`.
+    /// The number of edges that were prepared in the memory, up to the last value of a `u64`.
     pub fn edges(&self) -> u64
         ensures { result ≡ self.now.edges }
     {
         self.buffers.edges.prepared()
     }
 
-    /// Reconstructs the leaves of a valid plan that are kept apart from its header and its references: the header is
-    /// `header`, and the frame settings `fi` serve the references. The visible samples of the planes are then those of
-    /// the slow definition, whatever they were before.
+    /// Reconstructs the leaves of a valid plan whose header and references are stored apart from them: `header` is the
+    /// header, and the slots of `fi` hold the references. The visible samples of the planes are then those of the slow
+    /// definition, whatever the planes held before.
     ///
-    /// The planes store a frame with this header, with room for whole superblocks. They go on doing so, laid out as
-    /// before.
+    /// The planes store a frame with this header, padded to whole superblocks. Their layout doesn't change.
     pub fn reconstruct(
         &mut self,
         planes: &mut Planes<T>,
@@ -93,12 +91,11 @@ impl<T: Pixel> WalkMemory<T> {
         self.reconstruct_tile(planes, &TileReferences::whole(fi, header), header, leaves);
     }
 
-    /// Reconstructs the leaves of a tile that is walked as a frame of its own, with the header `header`, but predicted
-    /// from the references of its frame, read from its place there on. The visible samples of the planes are then those
-    /// of the slow definition, whatever they were before.
+    /// Reconstructs the leaves of a tile as a frame of its own, with the header `header`, but predicts them from the
+    /// references of the whole frame, at the tile's position there. The visible samples of the planes are then those of
+    /// the slow definition, whatever the planes held before.
     ///
-    /// The planes store a frame with the tile's header, with room for whole superblocks. They go on doing so, laid out
-    /// as before.
+    /// The planes store a frame with the tile's header, padded to whole superblocks. Their layout doesn't change.
     pub fn reconstruct_tile(
         &mut self,
         planes: &mut Planes<T>,

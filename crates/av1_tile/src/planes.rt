@@ -23,8 +23,7 @@ pub struct Planes<T> {
     pub v: Plane<T>,
 }
 
-/// How many samples `pad` samples of luma are in a direction in which a sample stands for 1 of luma (`decimation` 0) or
-/// 2 (1).
+/// The number of samples that `pad` luma samples are in a direction with this decimation (0, or 1 for a halved plane).
 fn pad_of(pad: usize, decimation: usize) -> usize
     requires { decimation ≤ 1 }
     ensures value { result ≡ pad / 2 ^ decimation }
@@ -33,10 +32,10 @@ fn pad_of(pad: usize, decimation: usize) -> usize
     pad >> decimation
 }
 
-/// A plane of zeros with the sides of what is coded of plane `p` (0 for Y, 1 for U and 2 for V) of a frame, and on
-/// every side `pad` samples of luma besides: half as many samples in directions in which the plane is halved.
+/// A plane of zeros with the coded width and height of plane `p` (0 for Y, 1 for U and 2 for V) of a frame, and a pad
+/// of `pad` luma samples on every side: half as many samples in a direction in which the plane is halved.
 ///
-/// Storage is that of whole superblocks. An error is running out of memory.
+/// The storage is that of whole superblocks. The only error is running out of memory.
 fn plane_of_frame<T: Pixel>(
     alloc: Global,
     header: &Header,
@@ -63,7 +62,7 @@ fn plane_of_frame<T: Pixel>(
     )
 }
 
-/// Row `y` of what is shown of plane `p` (0 for Y, 1 for U and 2 for V) of a frame, from its first sample on.
+/// Row `y` of the visible part of plane `p` (0 for Y, 1 for U and 2 for V) of a frame.
 pub fn visible_row<'a, T: Pixel>(
     plane: &'a Plane<T>,
     header: &Header,
@@ -86,8 +85,8 @@ impl<T: Pixel> Planes<T> {
     ghost use Rattle.av1_tile.specs.PlaneBlocks.{component};
     ghost use Rattle.av1_tile.specs.Walk.{AreFilledWith, AreFrame, HasPads, HasRoom, plane_of, StoresAll};
 
-    /// Planes of zeros for a frame, with room for whole superblocks, and on every side `pad` samples of luma besides,
-    /// in directions in which a plane is halved half as many. An error is running out of memory.
+    /// Planes of zeros for a frame, padded to whole superblocks, and with a pad of `pad` luma samples on every side:
+    /// half as many samples in a direction in which the plane is halved. The only error is running out of memory.
     pub fn new(alloc: Global, header: &Header, pad: usize) -> Result<Planes<T>, OutOfMemory>
         requires frame { IsReadFrame header.now }
         requires pad { pad ≤ 256 }
@@ -102,7 +101,7 @@ impl<T: Pixel> Planes<T> {
         Ok(Planes { y, u, v })
     }
 
-    /// Row `y` of what is shown of plane `p` (0 for Y, 1 for U and 2 for V) of a frame, from its first sample on.
+    /// Row `y` of the visible part of plane `p` (0 for Y, 1 for U and 2 for V) of a frame.
     #[tactic(auto, using(crate::proofs::Pictures::shows_part))]
     pub fn row(&self, header: &Header, p: usize, y: usize) -> &[T]
         requires frame { AreFrame header.now self.now }

@@ -1,10 +1,10 @@
-//! What was predicted of a frame's samples, where a caller asks for it.
+//! The predictions of a frame's visible samples, kept if a caller asks for them.
 
 ghost use Rattle.std.specs.Prelude.{◌≡◌, ◌+◌, ◌*◌, ◌<◌, length};
 ghost use Rattle.av1_frame.specs.Areas.{AreRows};
 ghost use Rattle.av1_frame.specs.Planes.{InPlane, sample_at};
 ghost use Rattle.av1_frame.specs.Samples.{paint};
-ghost use Rattle.av1_references.specs.References.{visible_in};
+ghost use Rattle.av1_tile.specs.Motion.{visible_in};
 
 use av1_blocks::OutOfMemory;
 use av1_frame::{Pixel, Plane, StoredArea, copy_row, zero_samples};
@@ -12,7 +12,7 @@ use av1_plan::Header;
 use std::alloc::Global;
 use std::marker::Model;
 
-/// Copies the rectangle `area` of a plane to the same places of `samples`, whose rows are `width` long.
+/// Copies the rectangle `area` of a plane to the same positions of `samples`, whose rows are `width` long.
 #[inline(never)]
 #[tactic(auto, using(av1_frame::proofs::Paint::rectangle_painting))]
 fn copy_area<T: Pixel>(samples: &mut [T], width: usize, plane: &Plane<T>, area: StoredArea)
@@ -26,8 +26,7 @@ fn copy_area<T: Pixel>(samples: &mut [T], width: usize, plane: &Plane<T>, area: 
     }
 }
 
-/// What was predicted of the samples that are shown of a plane, row by row. It may have no rows: then nothing is kept
-/// in it.
+/// The predictions of the visible samples of a plane, row by row. It may have no rows; then it keeps nothing.
 #[derive(Drop)]
 pub struct PredictedPlane<T> {
     width: usize,
@@ -50,10 +49,10 @@ impl<T: Pixel> PredictedPlane<T> {
     ghost use Rattle.std.specs.Prelude.{◌≡◌, IfOk, [], ◌<◌};
     ghost use Rattle.av1_frame.specs.Planes.{InPlane};
     ghost use Rattle.av1_plan.specs.ReadPlans.{IsReadFrame};
-    ghost use Rattle.av1_references.specs.References.{visible_in};
+    ghost use Rattle.av1_tile.specs.Motion.{visible_in};
     ghost use Rattle.av1_tile.specs.Predicted.{copied, no_rows};
 
-    /// A plane in which nothing is kept.
+    /// A plane without rows, which keeps nothing.
     pub(crate) fn none(alloc: Global) -> PredictedPlane<T>
         ensures { result ≡ record { width = 0; samples = [] } }
     {
@@ -64,7 +63,7 @@ impl<T: Pixel> PredictedPlane<T> {
         }
     }
 
-    /// Zeros for each sample that is shown of plane `p` of a frame. An error is running out of memory.
+    /// Zeros for each visible sample of plane `p` of a frame. The only error is running out of memory.
     pub(crate) fn new(
         alloc: Global,
         header: &Header,
@@ -89,7 +88,7 @@ impl<T: Pixel> PredictedPlane<T> {
         self.samples.as_slice()
     }
 
-    /// Keeps what a plane holds in the rectangle `area`, as far as it is shown.
+    /// Copies the visible part of the rectangle `area` of a plane.
     #[inline(always)]
     pub(crate) fn keep(&mut self, plane: &Plane<T>, area: StoredArea)
         requires { InPlane (visible_in area) plane.now }
@@ -108,7 +107,7 @@ impl<T: Pixel> PredictedPlane<T> {
     }
 }
 
-/// What was predicted of the samples of the three planes.
+/// The predictions of the visible samples of the three planes.
 #[derive(Drop)]
 pub struct PredictedPlanes<T> {
     /// Luma.
@@ -124,10 +123,10 @@ impl<T: Pixel> PredictedPlanes<T> {
     ghost use Rattle.av1_frame.specs.Planes.{InPlane};
     ghost use Rattle.av1_plan.specs.ReadPlans.{IsReadFrame};
     ghost use Rattle.av1_tile.specs.PlaneBlocks.{component};
-    ghost use Rattle.av1_references.specs.References.{visible_in};
+    ghost use Rattle.av1_tile.specs.Motion.{visible_in};
     ghost use Rattle.av1_tile.specs.Predicted.{AreBlank, copied, rows_in, with_rows};
 
-    /// Planes in which nothing is kept.
+    /// Planes without rows, which keep nothing.
     pub(crate) fn none(alloc: Global) -> PredictedPlanes<T> {
         PredictedPlanes {
             y: PredictedPlane::none(alloc),
@@ -136,7 +135,7 @@ impl<T: Pixel> PredictedPlanes<T> {
         }
     }
 
-    /// Zeros for each sample that is shown of a frame. An error is running out of memory.
+    /// Zeros for each visible sample of a frame. The only error is running out of memory.
     pub(crate) fn new(alloc: Global, header: &Header) -> Result<PredictedPlanes<T>, OutOfMemory>
         requires frame { IsReadFrame header.now }
         ensures { IfOk result (λ kept. AreBlank T.pixel header.now kept) }
@@ -147,7 +146,7 @@ impl<T: Pixel> PredictedPlanes<T> {
         Ok(PredictedPlanes { y, u, v })
     }
 
-    /// Keeps what plane `p` holds in the rectangle `area`, as far as it is shown.
+    /// Copies the visible part of the rectangle `area` of plane `p`.
     #[inline(always)]
     pub(crate) fn keep(&mut self, p: usize, plane: &Plane<T>, area: StoredArea)
         requires { InPlane (visible_in area) plane.now }

@@ -1,22 +1,26 @@
-//! The state of a reconstruction: the planes of a frame, and the memory to work in.
+//! The state of a reconstruction (planes, references and memory), and the reconstruction of a plan in it.
 
+ghost use Rattle.std.specs.Prelude.{◌≡◌, ◌≤◌, None};
+ghost use Rattle.av1_plan.specs.Values.{plan_value};
+ghost use Rattle.av1_plan.specs.Validity.{first_fault};
 ghost use Rattle.av1_tile.specs.Memory.{HasRoomFor};
+ghost use Rattle.av1_tile.specs.Output.{planes_of, visible};
+ghost use Rattle.av1_tile.specs.State.{edges_of, IsSound, MadeFor, shown, ShowsRows, state_edges, state_header, state_references, with_settings};
 
 use crate::fill::fill_plane;
 use crate::memory::WalkMemory;
 use crate::planes::Planes;
+use crate::slots::frame_invariants;
 use av1_blocks::OutOfMemory;
 use av1_frame::{FrameInvariants, Pixel};
 use av1_plan::{Header, Plan};
-use av1_references::frame_invariants;
 use std::alloc::Global;
 use std::marker::Model;
 
-/// The planes of a frame that is reconstructed, the references that it is predicted from, and the memory that the walk
-/// works in.
+/// The planes of the frame that is reconstructed, its references, and the memory of the walk.
 ///
-/// It serves frame after frame with the sides, sampling, depth and reference samples of the plan that it was made for.
-/// The edge filter, the interpolation filter and the slots that references name are those of each plan.
+/// A state serves frame after frame with the width, height, sampling, depth and reference samples of the plan that it
+/// was made for. Edge filter, interpolation filter and the slots of the references are those of each plan.
 #[derive(Drop)]
 pub struct TileState<T: Pixel> {
     header: Header,
@@ -38,16 +42,12 @@ impl<T: Pixel> TileState<T> {
     ghost use Rattle.std.specs.Prelude.{◌≡◌, ◌<◌, ◌≤◌, ◌^◌, IfOk, map, None};
     ghost use Rattle.av1_plan.specs.Values.{plan_value};
     ghost use Rattle.av1_plan.specs.Validity.{first_fault};
-    ghost use Rattle.av1_references.specs.References.{HoldsReferences};
     ghost use Rattle.av1_tile.specs.PlaneBlocks.{shown_of};
     ghost use Rattle.av1_tile.specs.State.{
       AreAlike,
-      edges_of,
       IsFilledWith,
       IsSound,
       MadeFor,
-      shown,
-      ShowsRows,
       state_edges,
       state_header,
       state_planes,
@@ -55,10 +55,9 @@ impl<T: Pixel> TileState<T> {
       state_row,
       with_settings,
     };
-    ghost use Rattle.av1_tile.specs.Output.{planes_of, visible};
 
-    /// Takes all the memory that the reconstruction of a plan needs. The plan is valid, and its depth one that the
-    /// samples have.
+    /// Allocates all the memory that the reconstruction of a plan needs. The plan is valid, and its depth fits the
+    /// sample type.
     pub fn new(alloc: Global, plan: &Plan) -> Result<TileState<T>, OutOfMemory>
         requires valid { first_fault (plan_value plan.now) ≡ None }
         requires depth { (plan_value plan.now).header.depth ≤ T.BITS }
@@ -79,30 +78,29 @@ impl<T: Pixel> TileState<T> {
         })
     }
 
-    /// The header of the plan that was reconstructed last, and before the first that of the one that the state was made
-    /// for.
+    /// The header of the plan that was reconstructed last, or of the plan that the state was made for.
     pub fn header(&self) -> &Header
         ensures { result.now ≡ state_header self.now }
     {
         &self.header
     }
 
-    /// The planes of the frame, which may be stored beyond its sides.
+    /// The planes of the frame. They may store samples outside the frame.
     pub fn planes(&self) -> &Planes<T>
         ensures { result.now ≡ state_planes self.now }
     {
         &self.planes
     }
 
-    /// How many edges were prepared in the state, up to the last value of a `u64`: none in a new one, and one for each
-    /// prediction of a transform block from the samples round it.
+    /// The number of edges that were prepared in the state, up to the last value of a `u64`. Each intra prediction of a
+    /// transform block prepares one.
     pub fn edges(&self) -> u64
         ensures { result ≡ state_edges self.now }
     {
         self.memory.edges()
     }
 
-    /// Row `y` of what is shown of plane `p` (0 for Y, 1 for U and 2 for V), from its first sample on.
+    /// Row `y` of the visible part of plane `p` (0 for Y, 1 for U and 2 for V).
     pub fn row(&self, p: usize, y: usize) -> &[T]
         requires sound { IsSound T.num self.now }
         requires plane { p < 3 }
@@ -112,8 +110,7 @@ impl<T: Pixel> TileState<T> {
         self.planes.row(&self.header, p, y)
     }
 
-    /// Each sample that is stored of the three planes becomes `value`, which lies within the depth; nothing else
-    /// changes.
+    /// Sets each stored sample of the three planes to `value`, which lies within the depth. The rest is unchanged.
     pub fn fill_with(&mut self, value: T)
         requires sound { IsSound T.num self.old }
         requires within { T.num value < 2 ^ (state_header self.old).depth }
@@ -128,9 +125,8 @@ impl<T: Pixel> TileState<T> {
         fill_plane(&mut self.planes.v, value);
     }
 
-    /// The header becomes the state's own, and what it says of prediction that of the frame settings: the filters, and
-    /// the slot of each reference.
-    pub(crate) fn follow(&mut self, header: &Header)
+    /// Takes over a header, and copies its filters and the slots of its references to the frame settings.
+    fn follow(&mut self, header: &Header)
         requires sound { IsSound T.num self.old }
         requires alike { AreAlike (state_header self.old) header.now }
         ensures sound { IsSound T.num self.new }
@@ -144,26 +140,32 @@ impl<T: Pixel> TileState<T> {
         self.fi.enable_intra_edge_filter = header.edge_filter;
         self.fi.ref_frames = header.slots;
     }
+}
 
-    /// The leaves of a plan with the state's header and references, over the state's planes.
-    pub(crate) fn walk(&mut self, plan: &Plan)
-        requires valid { first_fault (plan_value plan.now) ≡ None }
-        requires sound { IsSound T.num self.old }
-        requires header { state_header self.old ≡ (plan_value plan.now).header }
-        requires references { HoldsReferences T.num (plan_value plan.now) (state_references self.old) }
-        requires depth { (plan_value plan.now).header.depth ≤ T.BITS }
-        ensures visible { visible (state_header self.new) (shown T.num self.new) ≡ planes_of (plan_value plan.now) }
-        ensures rows { ShowsRows T.num (plan_value plan.now) self.new }
-        ensures sound { IsSound T.num self.new }
-        ensures header { state_header self.new ≡ state_header self.old }
-        ensures references { state_references self.new ≡ state_references self.old }
-        ensures edges { state_edges self.new ≡ edges_of (state_edges self.old) (plan_value plan.now) }
-    {
-        self.memory.reconstruct(
-            &mut self.planes,
-            &self.fi,
-            &self.header,
-            plan.leaves_with_triples(),
-        );
-    }
+/// Reconstructs a plan: predicts its leaves in coding order, and adds the residuals of their transform blocks. The
+/// visible planes are then those of the slow definition, whatever the planes held before.
+///
+/// The plan is valid, and the state was made for it, or for a plan with the same width, height, sampling, depth and
+/// reference samples. Edge filter, interpolation filter and the slots of the references are those of `plan`, whose
+/// header becomes the state's header.
+pub fn reconstruct_tile<T: Pixel>(state: &mut TileState<T>, plan: &Plan)
+    requires valid { first_fault (plan_value plan.now) ≡ None }
+    requires sound { IsSound T.num state.old }
+    requires made { MadeFor T.num (plan_value plan.now) state.old }
+    requires depth { (plan_value plan.now).header.depth ≤ T.BITS }
+    ensures visible { visible (state_header state.new) (shown T.num state.new) ≡ planes_of (plan_value plan.now) }
+    ensures rows { ShowsRows T.num (plan_value plan.now) state.new }
+    ensures sound { IsSound T.num state.new }
+    ensures made { MadeFor T.num (plan_value plan.now) state.new }
+    ensures header { state_header state.new ≡ (plan_value plan.now).header }
+    ensures references { state_references state.new ≡ with_settings (plan_value plan.now).header (state_references state.old) }
+    ensures edges { state_edges state.new ≡ edges_of (state_edges state.old) (plan_value plan.now) }
+{
+    state.follow(plan.header());
+    state.memory.reconstruct(
+        &mut state.planes,
+        &state.fi,
+        &state.header,
+        plan.leaves_with_triples(),
+    );
 }

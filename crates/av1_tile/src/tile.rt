@@ -1,11 +1,11 @@
-//! The walk over the leaves of a plan.
+//! The walk over the leaves of a plan, in coding order.
 
 ghost use Rattle.std.specs.Prelude.{◌≡◌, ◌<◌, All, length};
 ghost use Rattle.std.specs.List.{fold};
 ghost use Rattle.av1_plan.specs.Values.{leaves_value};
-ghost use Rattle.av1_tile.specs.Predicted.{keeping_step};
+ghost use Rattle.av1_tile.specs.Predicted.{gathered, keeping_step};
 ghost use Rattle.av1_tile.specs.Reference.{Scene};
-ghost use Rattle.av1_tile.specs.Walk.{at_start, cell_at, edges_after, fast_step, steps_by, HasCells, HoldsPlanes, KeepsPlanes, LeafFits, ServesScene};
+ghost use Rattle.av1_tile.specs.Walk.{at_start, cell_at, steps_by, HasCells, AreWalkedPlanes, KeepsPlanes, LeafFits, ServesScene};
 ghost use Rattle.av1_tile.specs.Walk.{with_header};
 
 use crate::buffers::WalkBuffers;
@@ -13,12 +13,12 @@ use crate::cells::CodedCells;
 use crate::frame::WalkedFrame;
 use crate::leaf::reconstruct_leaf;
 use crate::planes::Planes;
+use crate::references::TileReferences;
 use av1_frame::Pixel;
 use av1_plan::{Header, Leaves};
-use av1_references::TileReferences;
 
-/// These leaves, in coding order, in a frame with this header. Each is noted in `cells` once it is
-/// reconstructed.
+/// Reconstructs these leaves, in coding order, in a frame with this header. The modes and references of each leaf are
+/// then written to `cells`.
 pub fn reconstruct_leaves<'a, T: Pixel>(
     planes: &mut Planes<T>,
     cells: &mut CodedCells,
@@ -27,22 +27,17 @@ pub fn reconstruct_leaves<'a, T: Pixel>(
     header: &Header,
     leaves: &Leaves,
 )
-    requires held { HoldsPlanes T.num T.BITS header.now planes.old }
+    requires held { AreWalkedPlanes T.num T.BITS header.now planes.old }
     requires cells { HasCells header.now cells.old }
     requires fits { All (LeafFits header.now planes.old) (leaves_value leaves.now) }
     requires references { (value : Scene) × ServesScene T.num (with_header header.now value) from.now }
-    ensures walked { (value : Scene) → ServesScene T.num (with_header header.now value) from.now
-        → planes.new ≡
-        fold (fast_step T.num T.pixel (with_header header.now value)) planes.old
+    ensures walked { (value : Scene) → ServesScene T.num (with_header header.now value) from.now →
+        (planes.new, gathered buffers.new.kept buffers.new.edges.prepared) ≡
+        fold (keeping_step T.num T.pixel (with_header header.now value)) (planes.old, gathered buffers.old.kept buffers.old.edges.prepared)
         (steps_by header.now (at_start (cell_at cells.old)) (leaves_value leaves.now)) }
-    ensures counted { buffers.new.edges.prepared ≡
-        fold edges_after buffers.old.edges.prepared (steps_by header.now (at_start (cell_at cells.old)) (leaves_value leaves.now)) }
     ensures kept { KeepsPlanes T.num header.now planes.old planes.new }
     ensures cells { HasCells header.now cells.new }
     ensures count { length cells.new.cells.items ≡ length cells.old.cells.items }
-    ensures predictions { (value : Scene) → ServesScene T.num (with_header header.now value) from.now → (planes.new, buffers.new.kept) ≡
-        fold (keeping_step T.num T.pixel (with_header header.now value)) (planes.old, buffers.old.kept)
-        (steps_by header.now (at_start (cell_at cells.old)) (leaves_value leaves.now)) }
 {
     for index in 0..leaves.leaves().len() {
         let leaf = &leaves.leaves()[index];

@@ -1,4 +1,4 @@
-//! The walk: over the transform blocks of a leaf's block in a plane, and over the planes that a leaf covers.
+//! The block of a leaf in one plane: predicted as a whole if it is inter, then transform block by transform block.
 
 ghost use Rattle.std.specs.Prelude.{◌≡◌, ◌≢◌, ℕ, ◌+◌, ◌*◌, ◌^◌, ◌<◌, ◌≤◌, ◌||◌, length, slice_index_or, [], IfSome, IfNone, Some, None, true, false};
 ghost use Rattle.std.specs.List.{fold};
@@ -7,31 +7,31 @@ ghost use Rattle.av1_blocks.specs.Transforms.{tx_width};
 ghost use Rattle.av1_frame.specs.Planes.{InPlane};
 ghost use Rattle.av1_intra.specs.ChromaFromLuma.{ac_at};
 ghost use Rattle.av1_order.specs.Plans.{is_inter};
-ghost use Rattle.av1_references.specs.References.{leaf_area};
+ghost use Rattle.av1_tile.specs.Motion.{leaf_area};
 ghost use Rattle.av1_plan.specs.Geometry.{blocks_across, block_count, transform_block, xdec, ydec};
 ghost use Rattle.av1_plan.specs.ReadPlans.{IsReadFrame};
 ghost use Rattle.av1_plan.specs.declared.leaf.Triple.{Triple};
 ghost use Rattle.av1_tile.specs.PlaneBlocks.{component, is_whole};
-ghost use Rattle.av1_tile.specs.Predicted.{WalksKeeping, keeping_in, kept_in, stored_in};
+ghost use Rattle.av1_tile.specs.Predicted.{WalksKeeping, gathered, keeping_in, kept_in, stored_in};
 ghost use Rattle.av1_tile.specs.Reference.{Scene, no_luma};
 ghost use Rattle.av1_tile.specs.Steps.{own_prediction, whole_steps, plane_steps, steps_at, joined};
 ghost use Rattle.av1_tile.specs.Walk.{area_at, Begins, edges_in, fast_in, leaf_with, BlockFits, HasCells, IsPlaceIn};
-ghost use Rattle.av1_tile.specs.Walk.{block_in, HoldsPlane, IsWalked, KeepsPlane, PredictionFits, ServesScene, Stores, Walks, with_header};
+ghost use Rattle.av1_tile.specs.Walk.{block_in, IsWalkedPlane, IsWalked, KeepsPlane, PredictionFits, ServesScene, Stores, Walks, with_header};
 
 use crate::block::{BlockPlace, EdgePrediction, add_block, predict_from_edge};
 use crate::buffers::WalkBuffers;
 use crate::frame::WalkedFrame;
-use crate::parts::{predict_kind, predict_parts};
+use crate::motion::predict_motion;
 use crate::plane_block::{Nearby, PlaneBlock, Prediction};
 use crate::predicted::PredictedPlanes;
-use crate::shared::{is_shared, parts_in};
+use crate::references::TileReferences;
+use crate::shared_chroma::{is_shared, parts_in, predict_parts};
 use av1_blocks::{IntraParam, PredictionMode};
 use av1_frame::{Pixel, Plane, StoredArea};
 use av1_inter::InterCompoundBuffers;
 use av1_plan::{Header, Leaf, LeafKind, PlaneArea, Triple};
-use av1_references::TileReferences;
 
-/// Where the block of number `index` begins, of blocks with sides of `side` samples from `start` on.
+/// The position at which block `index` begins, in a run of blocks with sides of `side` samples from `start` on.
 fn block_start(start: u16, index: usize, side: usize) -> usize
     requires near { index * side ≤ 128 }
     ensures { result ≡ start + index * side }
@@ -39,8 +39,8 @@ fn block_start(start: u16, index: usize, side: usize) -> usize
     usize::from(start) + index * side
 }
 
-/// The transform block of this number, in column `column` of row `row` of a leaf's block, where it begins in the
-/// visible plane.
+/// The position of transform block `number`, in column `column` of row `row` of a leaf's block. None if it begins
+/// outside the coded plane.
 #[inline(always)]
 fn place_in(
     header: &Header,
@@ -73,7 +73,7 @@ fn place_in(
     }
 }
 
-/// Predicts a transform block from the samples round it. One of a leaf from references stays as it is.
+/// Predicts a transform block of an intra leaf from its neighbouring samples. A block of an inter leaf is unchanged.
 fn predict_block<T: Pixel>(
     plane: &mut Plane<T>,
     buffers: &mut WalkBuffers<T>,
@@ -81,7 +81,7 @@ fn predict_block<T: Pixel>(
     block: &PlaneBlock,
     at: BlockPlace,
 )
-    requires held { HoldsPlane T.num T.BITS header.now block.now.plane plane.old }
+    requires held { IsWalkedPlane T.num T.BITS header.now block.now.plane plane.old }
     requires place { IsPlaceIn header.now block.now at }
     requires fits { InPlane (area_at block.now at) plane.old }
     requires prediction { PredictionFits header.now block.now.plane block.now.area block.now.prediction }
@@ -112,21 +112,21 @@ fn predict_block<T: Pixel>(
             };
             predict_from_edge(plane, edges, luma, header, block, at, how);
         }
-        Prediction::Single { .. } | Prediction::Compound { .. } | Prediction::Parts(_) => {}
+        Prediction::Inter(_) | Prediction::Parts(_) => {}
     }
 }
 
-/// Whether a leaf's block is predicted as a whole, from references.
+/// Whether a leaf's block is predicted as a whole. Blocks of inter leaves are.
 fn is_whole(prediction: Prediction) -> bool
     ensures { result ≡ is_whole prediction }
 {
     match prediction {
-        Prediction::Single { .. } | Prediction::Compound { .. } | Prediction::Parts(_) => true,
+        Prediction::Inter(_) | Prediction::Parts(_) => true,
         Prediction::Intra { .. } | Prediction::FromLuma { .. } => false,
     }
 }
 
-/// Keeps the prediction of a transform block. That of a leaf from references is kept with the leaf's whole area.
+/// Keeps the prediction of a transform block of an intra leaf. `keep_whole` keeps the prediction of an inter leaf.
 fn keep_block<T: Pixel>(
     kept: &mut PredictedPlanes<T>,
     plane: &Plane<T>,
@@ -164,7 +164,7 @@ fn whole_area(area: PlaneArea) -> StoredArea
     }
 }
 
-/// Keeps the prediction of a leaf's whole area in a plane, where it is predicted from references.
+/// Keeps the prediction of an inter leaf's whole area in a plane.
 #[inline(always)]
 fn keep_whole<T: Pixel>(kept: &mut PredictedPlanes<T>, plane: &Plane<T>, block: &PlaneBlock)
     requires fits { InPlane (leaf_area block.now.area) plane.now }
@@ -176,8 +176,7 @@ fn keep_whole<T: Pixel>(kept: &mut PredictedPlanes<T>, plane: &Plane<T>, block: 
     kept.keep(block.plane, plane, whole_area(block.area));
 }
 
-/// A transform block that begins in the frame: it is predicted, unless its leaf is from references, and its residue is
-/// added.
+/// Reconstructs a transform block that begins in the frame: predicts it if its leaf is intra, and adds its residual.
 fn reconstruct_block<T: Pixel>(
     plane: &mut Plane<T>,
     buffers: &mut WalkBuffers<T>,
@@ -186,23 +185,21 @@ fn reconstruct_block<T: Pixel>(
     at: BlockPlace,
     triples: &[Triple],
 )
-    requires held { HoldsPlane T.num T.BITS header.now block.now.plane plane.old }
+    requires held { IsWalkedPlane T.num T.BITS header.now block.now.plane plane.old }
     requires place { IsPlaceIn header.now block.now at }
     requires fits { BlockFits plane.old.plane_cfg header.now block.now triples.now }
     requires found { transform_block header.now block.now.plane block.now.area at.number ≡ Some (record { x = at.x; y = at.y }) }
-    ensures walked { Walks T.num T.pixel header.now block.now buffers.old.luma.items (steps_at header.now block.now triples.now at.number) plane.old plane.new }
-    ensures counted { buffers.new.edges.prepared ≡ fold edges_in buffers.old.edges.prepared (steps_at header.now block.now triples.now at.number) }
+    ensures walked { WalksKeeping T.num T.pixel header.now block.now buffers.old.luma.items (steps_at header.now block.now triples.now at.number)
+        (plane.old, gathered buffers.old.kept buffers.old.edges.prepared) (plane.new, gathered buffers.new.kept buffers.new.edges.prepared) }
     ensures luma { buffers.new.luma.items ≡ buffers.old.luma.items }
     ensures kept { KeepsPlane T.num header.now block.now.plane plane.old plane.new }
-    ensures predictions { WalksKeeping T.num T.pixel header.now block.now buffers.old.luma.items (steps_at header.now block.now triples.now at.number)
-        (plane.old, buffers.old.kept) (plane.new, buffers.new.kept) }
 {
     predict_block(plane, buffers, header, block, at);
     keep_block(&mut buffers.kept, plane, block, at);
     add_block(plane, &mut buffers.residue, header, block, at, triples);
 }
 
-/// How many triples at the front are of transform block `number`.
+/// The number of triples at the front that belong to transform block `number`.
 fn leading_count(triples: &[Triple], number: usize) -> usize
     ensures within { result ≤ length triples.now }
     ensures own { (k : ℕ) (d : Triple) → k < result → (slice_index_or triples.now k d).block ≡ number }
@@ -216,7 +213,7 @@ fn leading_count(triples: &[Triple], number: usize) -> usize
     triples.len()
 }
 
-/// The column and the row of the transform block behind the one at column `column` of row `row`, in raster order.
+/// The column and the row of the transform block after the one at column `column` of row `row`, in raster order.
 fn next_place(column: usize, row: usize, across: usize) -> (usize, usize)
     requires column { column < across }
     requires few { row * across + column < 1024 }
@@ -230,10 +227,9 @@ fn next_place(column: usize, row: usize, across: usize) -> (usize, usize)
     }
 }
 
-/// The transform blocks of a leaf's block, in raster order. Triples rise by their blocks, so that those of a block
-/// follow one another.
+/// Reconstructs the transform blocks of a leaf's block, in raster order. Triples are sorted by their blocks, so that
+/// the triples of a block are next to each other.
 #[inline(never)]
-#[tactic(auto, using(crate::proofs::Loops::fold_joined_none, crate::proofs::Loops::fold_joined_more))]
 fn reconstruct_blocks<T: Pixel>(
     plane: &mut Plane<T>,
     buffers: &mut WalkBuffers<T>,
@@ -241,16 +237,13 @@ fn reconstruct_blocks<T: Pixel>(
     block: &PlaneBlock,
     triples: &[Triple],
 )
-    requires held { HoldsPlane T.num T.BITS header.now block.now.plane plane.old }
+    requires held { IsWalkedPlane T.num T.BITS header.now block.now.plane plane.old }
     requires fits { BlockFits plane.old.plane_cfg header.now block.now triples.now }
-    ensures walked { Walks T.num T.pixel header.now block.now buffers.old.luma.items
-        (joined (block_count block.now.area) (steps_at header.now block.now triples.now)) plane.old plane.new }
-    ensures counted { buffers.new.edges.prepared ≡
-        fold edges_in buffers.old.edges.prepared (joined (block_count block.now.area) (steps_at header.now block.now triples.now)) }
+    ensures walked { WalksKeeping T.num T.pixel header.now block.now buffers.old.luma.items
+        (joined (block_count block.now.area) (steps_at header.now block.now triples.now)) (plane.old, gathered buffers.old.kept buffers.old.edges.prepared)
+        (plane.new, gathered buffers.new.kept buffers.new.edges.prepared) }
     ensures luma { buffers.new.luma.items ≡ buffers.old.luma.items }
     ensures kept { KeepsPlane T.num header.now block.now.plane plane.old plane.new }
-    ensures predictions { WalksKeeping T.num T.pixel header.now block.now buffers.old.luma.items
-        (joined (block_count block.now.area) (steps_at header.now block.now triples.now)) (plane.old, buffers.old.kept) (plane.new, buffers.new.kept) }
 {
     let across = block.area.blocks_across();
     let mut place = (0, 0);
@@ -267,8 +260,7 @@ fn reconstruct_blocks<T: Pixel>(
     }
 }
 
-/// Whether a leaf's block is predicted as a whole, from references, and has no triples: all that there is to it is the
-/// prediction.
+/// Whether a block consists only of its prediction: blocks of inter leaves without triples do.
 fn is_only_predicted(prediction: Prediction, triples: &[Triple]) -> bool
     ensures whole { result ≡ true → is_whole prediction ≡ true }
     ensures none { result ≡ true → length triples.now ≡ 0 }
@@ -276,8 +268,7 @@ fn is_only_predicted(prediction: Prediction, triples: &[Triple]) -> bool
     is_whole(prediction) && triples.is_empty()
 }
 
-/// Predicts a leaf's whole area in a plane, where it is predicted from references. These serve a scene in which that
-/// can be done.
+/// Predicts an inter leaf's whole area in a plane. A block of an intra leaf is unchanged.
 #[inline(always)]
 fn predict_whole<T: Pixel>(
     plane: &mut Plane<T>,
@@ -294,40 +285,16 @@ fn predict_whole<T: Pixel>(
         → plane.new ≡ fold (fast_in T.num T.pixel value block.now.plane (λ _. no_luma)) plane.old (whole_steps block.now) }
 {
     let p = block.plane;
+    let area = whole_area(block.area);
     match block.prediction {
-        Prediction::Single {
-            mode,
-            reference,
-            mv,
-        } => {
-            let kind = LeafKind::Single {
-                mode,
-                reference,
-                mv,
-            };
-            predict_kind(plane, compound, from, p, kind, whole_area(block.area));
-        }
-        Prediction::Compound {
-            mode,
-            references,
-            mvs,
-        } => {
-            let kind = LeafKind::Compound {
-                mode,
-                references,
-                mvs,
-            };
-            predict_kind(plane, compound, from, p, kind, whole_area(block.area));
-        }
-        Prediction::Parts(parts) => {
-            predict_parts(plane, compound, from, p, parts, whole_area(block.area));
-        }
+        Prediction::Inter(motion) => predict_motion(plane, compound, from, p, motion, area),
+        Prediction::Parts(parts) => predict_parts(plane, compound, from, p, parts, area),
         Prediction::Intra { .. } | Prediction::FromLuma { .. } => {}
     }
 }
 
-/// A leaf's block in a plane: its whole area is predicted where it is predicted from references, then its transform
-/// blocks follow.
+/// Reconstructs a leaf's block in a plane: the prediction of the whole area if the leaf is inter, then its transform
+/// blocks.
 #[inline(always)]
 fn reconstruct_plane_block<T: Pixel>(
     plane: &mut Plane<T>,
@@ -341,17 +308,11 @@ fn reconstruct_plane_block<T: Pixel>(
     requires stores { Stores T.num frame.now.header.now block.now.plane plane.old }
     requires fits { BlockFits plane.old.plane_cfg frame.now.header.now block.now triples.now }
     ensures walked { let h = frame.now.header.now in
-        (value : Scene) → ServesScene T.num (with_header h value) frame.now.from.now
-        → plane.new ≡
-        fold (fast_in T.num T.pixel (with_header h value) block.now.plane (λ _. ac_at (tx_width block.now.area.tx_size) buffers.old.luma.items))
-        plane.old (plane_steps h block.now triples.now) }
-    ensures counted { buffers.new.edges.prepared ≡ fold edges_in buffers.old.edges.prepared (plane_steps frame.now.header.now block.now triples.now) }
+        (value : Scene) → ServesScene T.num (with_header h value) frame.now.from.now → (plane.new, gathered buffers.new.kept buffers.new.edges.prepared) ≡
+        fold (keeping_in T.num T.pixel (with_header h value) block.now.plane (λ _. ac_at (tx_width block.now.area.tx_size) buffers.old.luma.items))
+        (plane.old, gathered buffers.old.kept buffers.old.edges.prepared) (plane_steps h block.now triples.now) }
     ensures luma { buffers.new.luma.items ≡ buffers.old.luma.items }
     ensures kept { KeepsPlane T.num frame.now.header.now block.now.plane plane.old plane.new }
-    ensures predictions { let h = frame.now.header.now in
-        (value : Scene) → ServesScene T.num (with_header h value) frame.now.from.now → (plane.new, buffers.new.kept) ≡
-        fold (keeping_in T.num T.pixel (with_header h value) block.now.plane (λ _. ac_at (tx_width block.now.area.tx_size) buffers.old.luma.items))
-        (plane.old, buffers.old.kept) (plane_steps h block.now triples.now) }
 {
     predict_whole(plane, &mut buffers.compound, frame.from, block);
     keep_whole(&mut buffers.kept, plane, block);
@@ -361,8 +322,8 @@ fn reconstruct_plane_block<T: Pixel>(
     reconstruct_blocks(plane, buffers, frame.header, block, triples);
 }
 
-/// Whether a leaf is predicted from references.
-fn is_from_references(kind: LeafKind) -> bool
+/// Whether a leaf is an inter leaf: predicted from references.
+fn is_inter(kind: LeafKind) -> bool
     ensures { result ≡ is_inter kind }
 {
     match kind {
@@ -371,7 +332,7 @@ fn is_from_references(kind: LeafKind) -> bool
     }
 }
 
-/// The block in plane `p` of a leaf from references, where the leaves before it may share it.
+/// The block of an inter leaf in plane `p`, if the leaves before it may share the block.
 #[inline(never)]
 fn shared_block<T>(frame: &WalkedFrame<'_, '_, T>, leaf: &Leaf, p: usize) -> PlaneBlock
     requires plane { p < 3 }
@@ -382,12 +343,12 @@ fn shared_block<T>(frame: &WalkedFrame<'_, '_, T>, leaf: &Leaf, p: usize) -> Pla
         filter: None,
         parts: parts_in(frame.header, frame.earlier, leaf, p),
     };
-    PlaneBlock::of_leaf(frame.header, leaf, p, near)
+    PlaneBlock::of_leaf(leaf, p, leaf.plane_area(frame.header, p), near)
 }
 
-/// The block in plane `p` of a leaf from references that shares it with none. It has no edge.
+/// The block of an inter leaf in plane `p`, if it shares the block with no other leaf.
 #[inline(always)]
-fn moved_block<T>(frame: &WalkedFrame<'_, '_, T>, leaf: &Leaf, p: usize) -> PlaneBlock
+fn inter_block<T>(frame: &WalkedFrame<'_, '_, T>, leaf: &Leaf, p: usize) -> PlaneBlock
     requires plane { p < 3 }
     requires kind { is_inter leaf.now.kind ≡ true }
     requires alone { (is_narrow leaf.now.size (xdec frame.now.header.now p) || is_low leaf.now.size (ydec frame.now.header.now p)) ≡ false }
@@ -397,10 +358,10 @@ fn moved_block<T>(frame: &WalkedFrame<'_, '_, T>, leaf: &Leaf, p: usize) -> Plan
         filter: None,
         parts: None,
     };
-    PlaneBlock::of_leaf(frame.header, leaf, p, near)
+    PlaneBlock::of_leaf(leaf, p, leaf.plane_area(frame.header, p), near)
 }
 
-/// The block in plane `p` of an intra leaf, which has no parts.
+/// The block of an intra leaf in plane `p`.
 #[inline(always)]
 fn intra_block<T>(frame: &WalkedFrame<'_, '_, T>, leaf: &Leaf, p: usize) -> PlaneBlock
     requires frame { IsReadFrame frame.now.header.now }
@@ -416,10 +377,10 @@ fn intra_block<T>(frame: &WalkedFrame<'_, '_, T>, leaf: &Leaf, p: usize) -> Plan
         filter: frame.cells.filter_parameters(header, p, area),
         parts: None,
     };
-    PlaneBlock::within(leaf, p, area, near)
+    PlaneBlock::of_leaf(leaf, p, area, near)
 }
 
-/// The block of a leaf in plane `p`.
+/// Reconstructs the block of a leaf in plane `p`.
 pub fn reconstruct_leaf_in<T: Pixel>(
     plane: &mut Plane<T>,
     buffers: &mut WalkBuffers<T>,
@@ -434,19 +395,13 @@ pub fn reconstruct_leaf_in<T: Pixel>(
     requires begins { Begins frame.now.header.now (component p) (leaf_with leaf.now [] [] []) }
     requires fits { BlockFits plane.old.plane_cfg frame.now.header.now (block_in frame.now p leaf.now) triples.now }
     ensures walked { let h = frame.now.header.now in let block = block_in frame.now p leaf.now in
-        (value : Scene) → ServesScene T.num (with_header h value) frame.now.from.now
-        → plane.new ≡ fold (fast_in T.num T.pixel (with_header h value) p (λ _. ac_at (tx_width block.area.tx_size) buffers.old.luma.items)) plane.old
-        (plane_steps h block triples.now) }
-    ensures counted { buffers.new.edges.prepared ≡
-        fold edges_in buffers.old.edges.prepared (plane_steps frame.now.header.now (block_in frame.now p leaf.now) triples.now) }
+        (value : Scene) → ServesScene T.num (with_header h value) frame.now.from.now → (plane.new, gathered buffers.new.kept buffers.new.edges.prepared) ≡
+        fold (keeping_in T.num T.pixel (with_header h value) p (λ _. ac_at (tx_width block.area.tx_size) buffers.old.luma.items))
+        (plane.old, gathered buffers.old.kept buffers.old.edges.prepared) (plane_steps h block triples.now) }
     ensures luma { buffers.new.luma.items ≡ buffers.old.luma.items }
     ensures kept { KeepsPlane T.num frame.now.header.now p plane.old plane.new }
-    ensures predictions { let h = frame.now.header.now in let block = block_in frame.now p leaf.now in
-        (value : Scene) → ServesScene T.num (with_header h value) frame.now.from.now → (plane.new, buffers.new.kept) ≡
-        fold (keeping_in T.num T.pixel (with_header h value) p (λ _. ac_at (tx_width block.area.tx_size) buffers.old.luma.items))
-        (plane.old, buffers.old.kept) (plane_steps h block triples.now) }
 {
-    if !is_from_references(leaf.kind) {
+    if !is_inter(leaf.kind) {
         let block = intra_block(frame, leaf, p);
         reconstruct_plane_block(plane, buffers, frame, &block, triples);
         return;
@@ -456,6 +411,6 @@ pub fn reconstruct_leaf_in<T: Pixel>(
         reconstruct_plane_block(plane, buffers, frame, &block, triples);
         return;
     }
-    let block = moved_block(frame, leaf, p);
+    let block = inter_block(frame, leaf, p);
     reconstruct_plane_block(plane, buffers, frame, &block, triples);
 }

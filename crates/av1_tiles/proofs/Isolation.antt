@@ -2,7 +2,7 @@
 use Rattle.std.proofs.Common.{◌≡◌, ℕ, ◌+◌, ◌<◌, sym, ap, subst, ◌∙◌}
 use Rattle.av1_frame.specs.Areas.{VisibleArea}
 use Rattle.av1_plan.specs.declared.header.Header.{Header}
-use Rattle.av1_plan.specs.declared.leaf.LeafKind.{LeafKind}
+use Rattle.av1_tile.specs.declared.motion.Motion.{Motion}
 use Rattle.av1_plan.specs.Geometry.{shown_columns, shown_rows}
 use Rattle.av1_plan.specs.Grammar.{superblocks, plan_behind}
 use Rattle.av1_plan.specs.Plan.{PlanValue}
@@ -35,7 +35,7 @@ isolated f g plans_f plans_g frame_f frame_g i tiles_f tiles_g joined_f joined_g
     let lx_g = subst (λ (h : Header). x < shown_columns h p) header lx in
     let ly_g = subst (λ (h : Header). y < shown_rows h p) header ly in
     joined_f i lt_f component x y lx ly
-    ∙ ap (λ (m : ℕ → LeafKind → VisibleArea → ℕ → ℕ → ℕ).
+    ∙ ap (λ (m : ℕ → Motion → VisibleArea → ℕ → ℕ → ℕ).
     sample_of (walk_of (record { header = (plans_f i).header; motion = m }) (plans_f i).leaves component x y)) motion
     ∙ ap (λ (plan : PlanValue). sample_of (walk_of (record { header = plan.header; motion = tile_motion g.front i (plans_g i) }) plan.leaves component x y))
     same

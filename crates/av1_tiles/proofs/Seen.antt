@@ -8,21 +8,21 @@ use Rattle.av1_blocks.specs.declared.partition.RefType.{RefType}
 use Rattle.av1_frame.specs.Areas.{VisibleArea}
 use Rattle.av1_frame.specs.declared.frame_invariants.FrameInvariants.{FrameInvariants}
 use Rattle.av1_plan.specs.declared.header.Header.{Header}
-use Rattle.av1_plan.specs.declared.leaf.LeafKind.{LeafKind}
+use Rattle.av1_tile.specs.declared.motion.Motion.{Motion}
 use Rattle.av1_plan.specs.Geometry.{follows_av1, has_slot, xdec, ydec}
 use Rattle.av1_plan.specs.declared.plan.Plan.{Plan}
 use Rattle.av1_plan.specs.Plan.{LeafValue, PlanValue}
 use Rattle.av1_plan.specs.Values.{plan_value}
 use Rattle.av1_plan.specs.ReadPlans.{IsReadFrame}
 use Rattle.av1_plan.specs.Validity.{first_fault, has_reference}
-use Rattle.av1_references.specs.declared.tile.TileReferences.{TileReferences}
-use Rattle.av1_references.specs.References.{HoldsReferences, ServesPlan, frame_with, in_frame, rect_of, shifted}
-use Rattle.av1_references.proofs.Served.{holds_serves}
+use Rattle.av1_tile.specs.declared.references.TileReferences.{TileReferences}
+use Rattle.av1_tile.specs.Motion.{HoldsReferences, ServesPlan, frame_with, in_frame, rect_of, shifted, plan_motion}
+use Rattle.av1_tile.proofs.Served.{holds_serves}
 use Rattle.av1_tile.specs.declared.planes.Planes.{Planes}
 use Rattle.av1_tile.specs.Canvas.{Canvas}
 use Rattle.av1_tile.specs.Edge.{sample_of}
 use Rattle.av1_tile.specs.Memory.{IsTileOver, ShowsPlan, ShowsScene}
-use Rattle.av1_tile.specs.Reference.{Scene, kind_motion, slow_walk, walk_of}
+use Rattle.av1_tile.specs.Reference.{Scene, slow_walk, walk_of}
 use Rattle.av1_tile.specs.Walk.{ServesScene}
 use Rattle.av1_tile.proofs.Versions.{not_third}
 use Rattle.av1_tiles.specs.declared.area.TileArea.{TileArea}
@@ -40,22 +40,22 @@ use Rattle.av1_tiles.proofs.Isolation.{tile_header_is}
 use Rattle.av1_tiles.proofs.Rectangles.{same_xdec, same_ydec}
 
 -- what leaves predict of tile i, where motion reads the frame's references and where it doesn't
-abbrev by_choice : FrontValue → ℕ → PlanValue → ℕ → LeafKind → VisibleArea → Bool → ℕ → ℕ → ℕ
-by_choice f i plan p kind a b =
+abbrev by_choice : FrontValue → ℕ → PlanValue → ℕ → Motion → VisibleArea → Bool → ℕ → ℕ → ℕ
+by_choice f i plan p m a b =
     let h = f.header in
     let t = tile_area f i in
-    if b then kind_motion (frame_with h f.references) p kind (shifted (corner_column h t p) (corner_row h t p) a) else kind_motion plan p kind a
+    if b then plan_motion (frame_with h f.references) p m (shifted (corner_column h t p) (corner_row h t p) a) else plan_motion plan p m a
 
 -- ---- a tile's own plan
 
 module _ (f : FrontValue) (i : ℕ) (plan : PlanValue) (early : follows_av1 f.header ≡ false) where
-  own_motion : tile_motion f i plan ≡ kind_motion plan
-  own_motion = fun_ext (λ p. fun_ext (λ kind. fun_ext (λ a.
-      ap (by_choice f i plan p kind a) early)))
+  own_motion : tile_motion f i plan ≡ plan_motion plan
+  own_motion = fun_ext (λ p. fun_ext (λ m. fun_ext (λ a.
+      ap (by_choice f i plan p m a) early)))
 
   own_walk : tile_walk f i plan ≡ slow_walk plan
   unfolding slow_walk tile_walk walk_of
-  own_walk = ap (λ (m : ℕ → LeafKind → VisibleArea → ℕ → ℕ → ℕ). walk_of (record { header = plan.header; motion = m }) plan.leaves) own_motion
+  own_walk = ap (λ (m : ℕ → Motion → VisibleArea → ℕ → ℕ → ℕ). walk_of (record { header = plan.header; motion = m }) plan.leaves) own_motion
 
   -- what shows the plan shows the tile
   pub own_shows : {T : Type 0} (num : T → ℕ) (q : Planes T) → ShowsPlan num plan q → ShowsScene num (tile_scene f i plan) plan.leaves q
@@ -143,9 +143,9 @@ module _ {T : Type 0} (num : T → ℕ) (f : FrontValue) (i : ℕ) (plan : PlanV
         (near (tile_area f i).x (xdec f.header p) f.header.width (omega (arith, area.columns)) (omega (arith, read.shown_width.within, read.width.most)));
     near_y = λ p. subst (λ (n : ℕ). n < 2 ^ 16) (sym (place.row p))
         (near (tile_area f i).y (ydec f.header p) f.header.height (omega (arith, area.rows)) (omega (arith, read.shown_height.within, read.height.most)));
-    motion = λ p kind a r c.
-        ap (λ (b : Bool). by_choice f i plan p kind a b r c) third
-        ∙ ap (λ (b : VisibleArea). kind_motion (frame_with f.header f.references) p kind b r c) (same_rectangle p a);
+    motion = λ p m a r c.
+        ap (λ (b : Bool). by_choice f i plan p m a b r c) third
+        ∙ ap (λ (b : VisibleArea). plan_motion (frame_with f.header f.references) p m b r c) (same_rectangle p a);
   }
 
 -- the frame's references serve a tile of a grid that was read

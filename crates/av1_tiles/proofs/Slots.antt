@@ -11,7 +11,7 @@ use Rattle.av1_plan.specs.declared.planes.SlotPlanes.{SlotPlanes}
 use Rattle.av1_plan.specs.Geometry.{has_slot}
 use Rattle.av1_plan.specs.Plan.{slot_value, slot_values}
 use Rattle.av1_plan.specs.ReadPlans.{ArePlane, IsStoredSlot, AreStoredSlots}
-use Rattle.av1_references.proofs.Slots.{same_item}
+use Rattle.av1_tile.proofs.FilledSlots.{same_item}
 use Rattle.av1_tiles.specs.declared.area.TileArea.{TileArea}
 use Rattle.av1_plan.specs.Grammar.{plan_behind}
 use Rattle.av1_tiles.specs.declared.file.Front.{Front}

@@ -9,7 +9,8 @@ use Rattle.av1_tile.specs.declared.planes.Planes.{Planes}
 use Rattle.av1_tile.specs.Canvas.{Component}
 use Rattle.av1_tile.specs.PlaneBlocks.{component, number}
 use Rattle.av1_tile.specs.Edge.{sample_of}
-use Rattle.av1_tile.specs.Reference.{kind_motion, slow_walk}
+use Rattle.av1_tile.specs.Motion.{plan_motion}
+use Rattle.av1_tile.specs.Reference.{slow_walk}
 use Rattle.av1_tile.specs.Walk.{samples_of}
 use Rattle.av1_tiles.specs.declared.area.TileArea.{TileArea}
 use Rattle.av1_tiles.specs.Grammar.{FrontValue, FileValue, count_tiles}
@@ -74,4 +75,4 @@ TilesAreIsolated =
 abbrev pub PlansAreAll : Type 0
 PlansAreAll =
     (f : FrontValue) (i : ℕ) (plan : PlanValue) → f.header.version ≤ 2 →
-    (tile_motion f i plan ≡ kind_motion plan) × (tile_walk f i plan ≡ slow_walk plan)
+    (tile_motion f i plan ≡ plan_motion plan) × (tile_walk f i plan ≡ slow_walk plan)

@@ -3,8 +3,8 @@ use Rattle.std.specs.Prelude.{◌≡◌, true, false, ℕ, Option, Some, None}
 use Rattle.av1_frame.specs.declared.frame_invariants.FrameInvariants.{FrameInvariants}
 use Rattle.av1_plan.specs.declared.header.Header.{Header}
 use Rattle.av1_plan.specs.Geometry.{follows_av1}
-use Rattle.av1_references.specs.declared.tile.TileReferences.{TileReferences}
-use Rattle.av1_references.specs.References.{HoldsReferences, frame_with, rect_of}
+use Rattle.av1_tile.specs.declared.references.TileReferences.{TileReferences}
+use Rattle.av1_tile.specs.Motion.{HoldsReferences, frame_with, rect_of}
 use Rattle.av1_tiles.specs.declared.area.TileArea.{TileArea}
 use Rattle.av1_tiles.specs.declared.file.Front.{Front}
 use Rattle.av1_tiles.specs.File.{front_value}

@@ -5,15 +5,15 @@ use Rattle.std.specs.Prelude.{option_map, slice_index, slice_index_or, if◌then
 use Rattle.std.specs.List.{flat_map, range_with_len}
 use Rattle.av1_frame.specs.Areas.{VisibleArea}
 use Rattle.av1_plan.specs.declared.header.Header.{Header}
-use Rattle.av1_plan.specs.declared.leaf.LeafKind.{LeafKind}
+use Rattle.av1_tile.specs.declared.motion.Motion.{Motion}
 use Rattle.av1_plan.specs.Format.{Format}
 use Rattle.av1_plan.specs.Geometry.{follows_av1, xdec, ydec, shown_columns, shown_rows}
 use Rattle.av1_plan.specs.Grammar.{plan_behind}
 use Rattle.av1_plan.specs.Plan.{PlanValue}
 use Rattle.av1_plan.specs.ReadPlans.{IsReadFrame}
-use Rattle.av1_references.specs.References.{frame_with, shifted}
+use Rattle.av1_tile.specs.Motion.{frame_with, shifted, plan_motion}
 use Rattle.av1_tile.specs.Canvas.{Canvas}
-use Rattle.av1_tile.specs.Reference.{Scene, kind_motion, walk_of}
+use Rattle.av1_tile.specs.Reference.{Scene, walk_of}
 use Rattle.av1_tiles.specs.declared.area.TileArea.{TileArea}
 use Rattle.av1_tiles.specs.Grammar.{FrontValue, FileValue}
 
@@ -92,15 +92,15 @@ part_of f i = slice_index_or f.parts i []
 
 -- ---- what a tile is predicted from
 
--- What leaves from references predict of tile i. In the third version of plans it is what they would predict in the
+-- What a motion predicts of tile i. In the third version of plans it is what it would predict in the
 -- frame: motion reads the whole of each reference from the tile's place there on, as AV1's does. Before it motion reads
 -- the references of the tile's own plan, which are the tile's rectangle.
-abbrev pub tile_motion : FrontValue → ℕ → PlanValue → (p : ℕ) → LeafKind → VisibleArea → (r c : ℕ) → ℕ
-tile_motion f i plan p kind a =
+abbrev pub tile_motion : FrontValue → ℕ → PlanValue → (p : ℕ) → Motion → VisibleArea → (r c : ℕ) → ℕ
+tile_motion f i plan p motion a =
     let h = f.header in
     let t = tile_area f i in
     let in_frame = shifted (corner_column h t p) (corner_row h t p) a in
-    if follows_av1 h then kind_motion (frame_with h f.references) p kind in_frame else kind_motion plan p kind a
+    if follows_av1 h then plan_motion (frame_with h f.references) p motion in_frame else plan_motion plan p motion a
 
 -- tile i as it is walked
 abbrev pub tile_scene : FrontValue → ℕ → PlanValue → Scene

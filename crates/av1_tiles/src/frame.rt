@@ -29,7 +29,7 @@ use crate::tile::{read_tile, tile_area};
 use av1_blocks::OutOfMemory;
 use av1_frame::{FrameInvariants, Pixel, Plane, PlaneRegionMut, TileRect, copy_row, visible_area};
 use av1_plan::{Header, Plan};
-use av1_references::{TileReferences, frame_invariants};
+use av1_tile::{TileReferences, frame_invariants};
 use av1_tile::{Planes, WalkMemory};
 use std::alloc::Global;
 

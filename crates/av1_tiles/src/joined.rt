@@ -16,7 +16,7 @@ use crate::frame::reconstruct_in;
 use av1_blocks::OutOfMemory;
 use av1_frame::{FrameInvariants, Pixel};
 use av1_plan::Header;
-use av1_references::stored_references;
+use av1_tile::stored_references;
 use av1_tile::{Planes, WalkMemory};
 use std::alloc::Global;
 

@@ -8,9 +8,8 @@
 //! [`reconstruct_tiles`] is the whole path: it reads a source to its end, reads the grid, reconstructs its tiles one
 //! after the other in raster order, and writes the planes of the frame, Y, U and V row by row.
 //!
-//! It stands on `av1_plan` for the fields of plans, on `av1_references` for what its tiles are predicted from, on
-//! `av1_tile` for the samples of a tile, on `av1_streams` for sources and sinks, and on `av1_recon` for the writing of
-//! planes.
+//! It stands on `av1_plan` for the fields of plans, on `av1_tile` for the samples and the references of a tile, on
+//! `av1_streams` for sources and sinks, and on `av1_recon` for the writing of planes.
 //!
 //! Promised: the outcome of bytes is one definition, `HasOutcome` (`specs/Outcomes.antt`), and each answer of
 //! [`reconstruct_tiles`] is read off it: Ok only where the bytes are a grid of valid tiles, and then exactly the bytes

@@ -10,13 +10,11 @@ use Rattle.av1_plan.specs.Geometry.{carries_chroma}
 use Rattle.av1_tile.specs.Canvas.{Y, U, V}
 use Rattle.av1_tile.specs.PlaneBlocks.{is_from_luma}
 use Rattle.av1_tile.specs.Reference.{luma_for, luma_of}
-use Rattle.av1_tile.specs.declared.planes.Planes.{Planes}
-use Rattle.av1_tile.specs.declared.predicted.PredictedPlanes.{PredictedPlanes}
-use Rattle.av1_tile.specs.Predicted.{Keeping, keeping_in}
-use Rattle.av1_tile.specs.Steps.{plane_steps, steps_of}
-use Rattle.av1_tile.specs.Walk.{edges_in, LumaFits, block_by, known_in, leaf_with, near_by, luma_block, with_header}
+use Rattle.av1_tile.specs.Predicted.{Gathered, gathered, keeping_in}
+use Rattle.av1_tile.specs.Steps.{plane_steps}
+use Rattle.av1_tile.specs.Walk.{LumaFits, block_by, known_in, leaf_with, near_by, luma_block, with_header}
 use Rattle.av1_tile.proofs.LeafLuma.{HoldsLuma, luma_in_u, luma_in_v, plain_in_y}
-use Rattle.av1_tile.proofs.Lifts.{kept_same, kept_walked, leaf_counted, leaf_kept, luma_counted, luma_kept}
+use Rattle.av1_tile.proofs.Lifts.{kept_same, leaf_kept, luma_kept}
 use Rattle.av1_tile.proofs.PlanLeaves.{parts_serve}
 use Rattle.av1_tile.proofs.leaf.reconstruct_leaf.Goals.{then-is_from_luma, else-is_from_luma}
 use Rattle.av1_tile.proofs.leaf.reconstruct_leaf.Goals as goal
@@ -27,7 +25,7 @@ reconstruct_leaf_in-requires-clause-fits g c =
     let l = leaf_with a.leaf.now a.y.now a.u.now a.v.now in
     let h = a.frame.now.header.now in
     let known = known_in a.frame.now in
-    c.requires.fits.y (near_by h known Y l) (parts_serve h known.movers 0 l c.requires.frame.movers c.requires.fits.serves)
+    c.requires.fits.y (near_by h known Y l) (parts_serve h known.motions 0 l c.requires.frame.motions c.requires.fits.serves)
 
 pub reconstruct_leaf_in-requires-then-carries_chroma-clause-fits : goal.reconstruct_leaf_in-requires-then-carries_chroma-clause-fits
 reconstruct_leaf_in-requires-then-carries_chroma-clause-fits g c =
@@ -36,7 +34,7 @@ reconstruct_leaf_in-requires-then-carries_chroma-clause-fits g c =
     let h = a.frame.now.header.now in
     let known = known_in a.frame.now in
     c.requires.fits.u (sym c.carries_chroma.ensures ∙ c.if-carries_chroma.true) (near_by h known U l)
-    (parts_serve h known.movers 1 l c.requires.frame.movers c.requires.fits.serves)
+    (parts_serve h known.motions 1 l c.requires.frame.motions c.requires.fits.serves)
 
 pub reconstruct_leaf_in-requires-then-carries_chroma-2-clause-fits : goal.reconstruct_leaf_in-requires-then-carries_chroma-2-clause-fits
 reconstruct_leaf_in-requires-then-carries_chroma-2-clause-fits g c =
@@ -45,7 +43,7 @@ reconstruct_leaf_in-requires-then-carries_chroma-2-clause-fits g c =
     let h = a.frame.now.header.now in
     let known = known_in a.frame.now in
     c.requires.fits.v (sym c.carries_chroma.ensures ∙ c.if-carries_chroma.true) (near_by h known V l)
-    (parts_serve h known.movers 2 l c.requires.frame.movers c.requires.fits.serves)
+    (parts_serve h known.motions 2 l c.requires.frame.motions c.requires.fits.serves)
 
 pub prepare_luma-requires-clause-fits : goal.prepare_luma-requires-clause-fits
 prepare_luma-requires-clause-fits g c =
@@ -59,8 +57,8 @@ prepare_luma-requires-clause-fits g c =
     in record { narrow = f.narrow; low = f.low; width = f.width; height = f.height; few = f.few; columns = f.columns; rows = f.rows; depth = f.depth }) in
     subst (λ (k : PlaneConfig). LumaFits h k (leaf_with a.leaf.now [] [] [])) (sym c.reconstruct_leaf_in.ensures.kept.config) own
 
-pub returns-after-is_from_luma-clause-predictions : goal.returns-after-is_from_luma-clause-predictions
-returns-after-is_from_luma-clause-predictions g c = λ value serves.
+pub returns-after-is_from_luma-clause-walked : goal.returns-after-is_from_luma-clause-walked
+returns-after-is_from_luma-clause-walked g c = λ value serves.
     let a = c.args in
     let num = g.T.Pixel.num in
     let h = a.frame.now.header.now in
@@ -93,57 +91,33 @@ returns-after-is_from_luma-clause-predictions g c = λ value serves.
     ] in
     let block = block_by h known Y l in
     let before = sample_at num a.planes.now.y in
-    let first = c.reconstruct_leaf_in.new.buffers.kept in
-    let second = c.reconstruct_leaf_in-then-carries_chroma.new.buffers.kept in
-    let kept : c.if-is_from_luma.buffers.kept ≡ first = elim c.if-is_from_luma.branch [
-      | then-is_from_luma w ↦ ap (λ (b : _). b.kept) w.buffers-is
-      | else-is_from_luma w ↦ ap (λ (b : _). b.kept) w.buffers-is
+    let now = gathered a.buffers.now.kept a.buffers.now.edges.prepared in
+    let first = gathered c.reconstruct_leaf_in.new.buffers.kept c.reconstruct_leaf_in.new.buffers.edges.prepared in
+    let second = gathered c.reconstruct_leaf_in-then-carries_chroma.new.buffers.kept c.reconstruct_leaf_in-then-carries_chroma.new.buffers.edges.prepared in
+    let third = gathered c.reconstruct_leaf_in-then-carries_chroma-2.new.buffers.kept c.reconstruct_leaf_in-then-carries_chroma-2.new.buffers.edges.prepared in
+    let kept : gathered c.if-is_from_luma.buffers.kept c.if-is_from_luma.buffers.edges.prepared ≡ first = elim c.if-is_from_luma.branch [
+      | then-is_from_luma w ↦ ap (λ (b : _). gathered b.kept b.edges.prepared) w.buffers-is
+      | else-is_from_luma w ↦ ap (λ (b : _). gathered b.kept b.edges.prepared) w.buffers-is
     ] in
     let same_y =
     kept_same num g.T.Pixel.pixel plan 0 (λ _. ac_at (tx_width block.area.tx_size) a.buffers.now.luma.items)
     (luma_for h before Y) block (plain_in_y h l (near_by h known Y l) before (tx_width block.area.tx_size) a.buffers.now.luma.items) h a.y.now
-    (a.planes.now.y, a.buffers.now.kept) in
+    (a.planes.now.y, now) in
     let same_u = kept_same num g.T.Pixel.pixel plan 1 (λ _. ac_at (tx_width (block_by h known U l).area.tx_size) luma) (luma_for h samples U)
     (block_by h known U l) (luma_in_u h samples l luma holds (near_by h known U l)) h a.u.now (a.planes.now.u, first) in
     let same_v = kept_same num g.T.Pixel.pixel plan 2 (λ _. ac_at (tx_width (block_by h known V l).area.tx_size) luma) (luma_for h samples V)
     (block_by h known V l) (luma_in_v h samples l luma holds (near_by h known V l)) h a.v.now (a.planes.now.v, second) in
-    leaf_kept num g.T.Pixel.pixel plan a.planes.now _ a.buffers.now.kept first second c.reconstruct_leaf_in-then-carries_chroma-2.new.buffers.kept
-    (λ k. block_by h known k l) l carried (c.reconstruct_leaf_in.ensures.predictions value serves ∙ same_y)
-    (c.reconstruct_leaf_in-then-carries_chroma.ensures.predictions value serves
-    ∙ ap (λ (k : PredictedPlanes _). fold (keeping_in num g.T.Pixel.pixel plan 1 (λ _. ac_at (tx_width (block_by h known U l).area.tx_size) luma))
+    leaf_kept num g.T.Pixel.pixel plan a.planes.now _ now first second third (λ k. block_by h known k l) l carried
+    (c.reconstruct_leaf_in.ensures.walked value serves ∙ same_y)
+    (c.reconstruct_leaf_in-then-carries_chroma.ensures.walked value serves
+    ∙ ap (λ (k : Gathered _). fold (keeping_in num g.T.Pixel.pixel plan 1 (λ _. ac_at (tx_width (block_by h known U l).area.tx_size) luma))
     (a.planes.now.u, k) (plane_steps h (block_by h known U l) a.u.now)) kept ∙ same_u)
-    (c.reconstruct_leaf_in-then-carries_chroma-2.ensures.predictions value serves
+    (c.reconstruct_leaf_in-then-carries_chroma-2.ensures.walked value serves
     ∙ ap (λ (ac : List ℤ). fold (keeping_in num g.T.Pixel.pixel plan 2 (λ _. ac_at (tx_width (block_by h known V l).area.tx_size) ac))
     (a.planes.now.v, second) (plane_steps h (block_by h known V l) a.v.now)) c.reconstruct_leaf_in-then-carries_chroma.ensures.luma ∙ same_v)
 
-pub returns-after-is_from_luma-clause-walked : goal.returns-after-is_from_luma-clause-walked
-returns-after-is_from_luma-clause-walked g c = λ value serves.
-    let a = c.args in
-    let h = a.frame.now.header.now in
-    let l = leaf_with a.leaf.now a.y.now a.u.now a.v.now in
-    ap (λ (s : Keeping (Planes _) _). s.0) (returns-after-is_from_luma-clause-predictions g c value serves)
-    ∙ kept_walked g.T.Pixel.num g.T.Pixel.pixel (with_header h value) (a.planes.now, a.buffers.now.kept)
-    (steps_of h (λ k. block_by h (known_in a.frame.now) k l) l)
-
-pub returns-after-is_from_luma-clause-counted : goal.returns-after-is_from_luma-clause-counted
-returns-after-is_from_luma-clause-counted g c =
-    let a = c.args in
-    let h = a.frame.now.header.now in
-    let l = leaf_with a.leaf.now a.y.now a.u.now a.v.now in
-    let carried : carries_chroma h l.x l.y l.size ≡ true = sym c.carries_chroma.ensures ∙ c.if-carries_chroma.true in
-    let kept : c.if-is_from_luma.buffers.edges.prepared ≡ c.reconstruct_leaf_in.new.buffers.edges.prepared =
-    elim c.if-is_from_luma.branch [
-      | then-is_from_luma w ↦ ap (λ (b : _). b.edges.prepared) w.buffers-is
-      | else-is_from_luma w ↦ ap (λ (b : _). b.edges.prepared) w.buffers-is
-    ] in
-    leaf_counted h (λ k. block_by h (known_in a.frame.now) k l) l a.buffers.now.edges.prepared c.reconstruct_leaf_in.new.buffers.edges.prepared
-    c.reconstruct_leaf_in-then-carries_chroma.new.buffers.edges.prepared c.reconstruct_leaf_in-then-carries_chroma-2.new.buffers.edges.prepared carried
-    c.reconstruct_leaf_in.ensures.counted (c.reconstruct_leaf_in-then-carries_chroma.ensures.counted
-    ∙ ap (λ (n : ℕ). fold edges_in n (plane_steps h (block_by h (known_in a.frame.now) U l) a.u.now)) kept)
-    c.reconstruct_leaf_in-then-carries_chroma-2.ensures.counted
-
-pub returns-else-carries_chroma-clause-predictions : goal.returns-else-carries_chroma-clause-predictions
-returns-else-carries_chroma-clause-predictions g c = λ value serves.
+pub returns-else-carries_chroma-clause-walked : goal.returns-else-carries_chroma-clause-walked
+returns-else-carries_chroma-clause-walked g c = λ value serves.
     let a = c.args in
     let num = g.T.Pixel.num in
     let h = a.frame.now.header.now in
@@ -153,27 +127,11 @@ returns-else-carries_chroma-clause-predictions g c = λ value serves.
     let carried : carries_chroma h l.x l.y l.size ≡ false = sym c.carries_chroma.ensures ∙ c.if-carries_chroma.false in
     let block = block_by h known Y l in
     let before = sample_at num a.planes.now.y in
+    let now = gathered a.buffers.now.kept a.buffers.now.edges.prepared in
     let same_y =
     kept_same num g.T.Pixel.pixel plan 0 (λ _. ac_at (tx_width block.area.tx_size) a.buffers.now.luma.items)
     (luma_for h before Y) block (plain_in_y h l (near_by h known Y l) before (tx_width block.area.tx_size) a.buffers.now.luma.items) h a.y.now
-    (a.planes.now.y, a.buffers.now.kept) in
-    luma_kept num g.T.Pixel.pixel plan a.planes.now _ a.buffers.now.kept c.reconstruct_leaf_in.new.buffers.kept (λ k. block_by h known k l) l carried
-    (c.reconstruct_leaf_in.ensures.predictions value serves ∙ same_y) refl refl
-
-pub returns-else-carries_chroma-clause-walked : goal.returns-else-carries_chroma-clause-walked
-returns-else-carries_chroma-clause-walked g c = λ value serves.
-    let a = c.args in
-    let h = a.frame.now.header.now in
-    let l = leaf_with a.leaf.now a.y.now a.u.now a.v.now in
-    ap (λ (s : Keeping (Planes _) _). s.0) (returns-else-carries_chroma-clause-predictions g c value serves)
-    ∙ kept_walked g.T.Pixel.num g.T.Pixel.pixel (with_header h value) (a.planes.now, a.buffers.now.kept)
-    (steps_of h (λ k. block_by h (known_in a.frame.now) k l) l)
-
-pub returns-else-carries_chroma-clause-counted : goal.returns-else-carries_chroma-clause-counted
-returns-else-carries_chroma-clause-counted g c =
-    let a = c.args in
-    let h = a.frame.now.header.now in
-    let l = leaf_with a.leaf.now a.y.now a.u.now a.v.now in
-    let carried : carries_chroma h l.x l.y l.size ≡ false = sym c.carries_chroma.ensures ∙ c.if-carries_chroma.false in
-    luma_counted h (λ k. block_by h (known_in a.frame.now) k l) l a.buffers.now.edges.prepared c.reconstruct_leaf_in.new.buffers.edges.prepared carried
-    c.reconstruct_leaf_in.ensures.counted
+    (a.planes.now.y, now) in
+    luma_kept num g.T.Pixel.pixel plan a.planes.now _ now (gathered c.reconstruct_leaf_in.new.buffers.kept c.reconstruct_leaf_in.new.buffers.edges.prepared)
+    (λ k. block_by h known k l) l carried
+    (c.reconstruct_leaf_in.ensures.walked value serves ∙ same_y) refl refl

@@ -1,7 +1,7 @@
 use Rattle.std.proofs.Common.{◌≡◌, true, false, ap, arith, tests, subst, sym, ◌∙◌}
 use Rattle.av1_frame.specs.Areas.{VisibleArea}
 use Rattle.av1_frame.specs.Planes.{InPlane}
-use Rattle.av1_references.specs.References.{visible_in}
+use Rattle.av1_tile.specs.Motion.{visible_in}
 use Rattle.av1_tile.proofs.Keeping.{no_whole_kept, whole_is_kept}
 use Rattle.av1_tile.proofs.walk.keep_whole.Goals as goal
 

@@ -6,10 +6,10 @@ use Rattle.av1_intra.specs.ChromaFromLuma.{ac_at}
 use Rattle.av1_plan.specs.Geometry.{block_count, transform_block}
 use Rattle.av1_tile.specs.declared.plane_block.PlaneBlock.{PlaneBlock}
 use Rattle.av1_tile.specs.Reference.{Scene}
-use Rattle.av1_tile.specs.Predicted.{keeping_in}
+use Rattle.av1_tile.specs.Predicted.{gathered, keeping_in}
 use Rattle.av1_tile.specs.Steps.{joined, steps_at}
-use Rattle.av1_tile.specs.Walk.{Stores, edges_in, fast_in, with_header}
-use Rattle.av1_tile.proofs.BlockTriples.{IsRun, run_within, run_before, run_behind, run_is_own, own_edges, own_fits, own_kept, own_steps}
+use Rattle.av1_tile.specs.Walk.{Stores, with_header}
+use Rattle.av1_tile.proofs.BlockTriples.{IsRun, run_within, run_before, run_behind, run_is_own, own_fits, own_kept}
 use Rattle.av1_tile.proofs.BlockSteps.{no_steps, some_across}
 use Rattle.av1_tile.proofs.Loops.{fold_joined_more, fold_joined_none}
 use Rattle.av1_tile.proofs.walk.reconstruct_blocks.Goals.{in-Some, in_default}
@@ -21,10 +21,11 @@ loop-n-init g c =
     let h = a.header.now in
     let block = a.block.now in
     let luma : PlaneBlock → ℕ → ℕ → ℤ = λ _. ac_at (tx_width block.area.tx_size) a.buffers.now.luma.items in
-    let steps = steps_at h block a.triples.now in
+    let now = gathered a.buffers.now.kept a.buffers.now.edges.prepared in
     record {
-      walked = λ value. fold_joined_none (fast_in g.T.Pixel.num g.T.Pixel.pixel (with_header h value) block.plane luma) a.plane.now steps;
-      counted = fold_joined_none edges_in a.buffers.now.edges.prepared steps;
+      walked = λ value.
+          fold_joined_none (keeping_in g.T.Pixel.num g.T.Pixel.pixel (with_header h value) block.plane luma) (a.plane.now, now)
+          (steps_at h block a.triples.now);
       stores = c.requires.held.stores;
       config = refl;
       luma = refl;
@@ -33,8 +34,6 @@ loop-n-init g c =
       behind = λ k d le l. omega arith;
       column = λ l. omega (arith, some_across block.area (omega (arith, l, c.block_count-n-end.ensures.value)), c.blocks_across-across.ensures.value);
       number = omega arith;
-      predictions = λ value.
-          fold_joined_none (keeping_in g.T.Pixel.num g.T.Pixel.pixel (with_header h value) block.plane luma) (a.plane.now, a.buffers.now.kept) steps;
     }
 
 pub reconstruct_block-requires-clause-fits : goal.reconstruct_block-requires-clause-fits
@@ -50,7 +49,6 @@ loop-n-preserved g c =
     let block = a.block.now in
     let all = a.triples.now in
     let luma : PlaneBlock → ℕ → ℕ → ℤ = λ _. ac_at (tx_width block.area.tx_size) a.buffers.now.luma.items in
-    let step = λ (value : Scene). fast_in g.T.Pixel.num g.T.Pixel.pixel (with_header h value) block.plane luma in
     let keep = λ (value : Scene). keeping_in g.T.Pixel.num g.T.Pixel.pixel (with_header h value) block.plane luma in
     let n = c.loop-n.n in
     let at = c.loop-n.at in
@@ -58,10 +56,9 @@ loop-n-preserved g c =
     let end = at + count in
     let before = c.loop-n.plane in
     let after = c.match-place_in.plane in
-    let edges = c.loop-n.buffers.edges.prepared in
-    let edges_after = c.match-place_in.buffers.edges.prepared in
-    let kept = c.loop-n.buffers.kept in
-    let kept_after = c.match-place_in.buffers.kept in
+    let start = gathered a.buffers.now.kept a.buffers.now.edges.prepared in
+    let now = gathered c.loop-n.buffers.kept c.loop-n.buffers.edges.prepared in
+    let next = gathered c.match-place_in.buffers.kept c.match-place_in.buffers.edges.prepared in
     let held = c.loop-n.invariant in
     let run : IsRun n all at count = record {
       within = held.within;
@@ -72,60 +69,45 @@ loop-n-preserved g c =
       own = c.leading_count.ensures.own;
       end = c.leading_count.ensures.end;
     } in
-    let turn : ((value : Scene) → after ≡ fold (step value) before (steps_at h block all n)) × (edges_after ≡ fold edges_in edges (steps_at h block all n))
-    × Stores g.T.Pixel.num h block.plane after × (after.plane_cfg ≡ before.plane_cfg) × (c.match-place_in.buffers.luma.items ≡ c.loop-n.buffers.luma.items)
-    × ((value : Scene) → (after, kept_after) ≡ fold (keep value) (before, kept) (steps_at h block all n)) =
+    let turn : ((value : Scene) → (after, next) ≡ fold (keep value) (before, now) (steps_at h block all n))
+    × Stores g.T.Pixel.num h block.plane after × (after.plane_cfg ≡ before.plane_cfg) × (c.match-place_in.buffers.luma.items ≡ c.loop-n.buffers.luma.items) =
     elim c.match-place_in.branch [
       | in-Some w ↦
           let number : w.in-Some.place.number ≡ n = w.in-Some.ensures.some.1 in
           let one = w.reconstruct_block.ensures in
           let own = take (end - at) (drop at all) in (
-            λ value. w.plane-is ∙ one.walked value
+            λ value. ap (λ (z : Plane _). (z, next)) w.plane-is
+                ∙ ap (λ (b : _). (w.reconstruct_block.new.plane, gathered b.kept b.edges.prepared)) w.buffers-is ∙ one.walked value
                 ∙ ap (λ (ac : List ℤ). fold
-                (fast_in g.T.Pixel.num g.T.Pixel.pixel (with_header h value) block.plane (λ _. ac_at (tx_width block.area.tx_size) ac)) before
+                (keeping_in g.T.Pixel.num g.T.Pixel.pixel (with_header h value) block.plane (λ _. ac_at (tx_width block.area.tx_size) ac)) (before, now)
                 (steps_at h block own w.in-Some.place.number)) held.luma
-                ∙ ap (λ (m : ℕ). fold (step value) before (steps_at h block own m)) number
-                ∙ own_steps g.T.Pixel.num g.T.Pixel.pixel (with_header h value) block.plane luma h block all n at end (run_is_own n all at count run)
-                before,
-            ap (λ (b : _). b.edges.prepared) w.buffers-is ∙ one.counted ∙ ap (λ (m : ℕ). fold edges_in edges (steps_at h block own m)) number
-                ∙ own_edges h block own all n edges,
+                ∙ ap (λ (m : ℕ). fold (keep value) (before, now) (steps_at h block own m)) number
+                ∙ own_kept g.T.Pixel.num g.T.Pixel.pixel (with_header h value) block.plane luma h block all n at end (run_is_own n all at count run)
+                (before, now),
             subst (Stores g.T.Pixel.num h block.plane) (sym w.plane-is) one.kept.stores,
             ap (λ (p : Plane _). p.plane_cfg) w.plane-is ∙ one.kept.config,
             ap (λ (b : _). b.luma.items) w.buffers-is ∙ one.luma,
-            λ value. ap (λ (z : Plane _). (z, kept_after)) w.plane-is ∙ ap (λ (b : _). (w.reconstruct_block.new.plane, b.kept)) w.buffers-is
-                ∙ one.predictions value
-                ∙ ap (λ (ac : List ℤ). fold
-                (keeping_in g.T.Pixel.num g.T.Pixel.pixel (with_header h value) block.plane (λ _. ac_at (tx_width block.area.tx_size) ac)) (before, kept)
-                (steps_at h block own w.in-Some.place.number)) held.luma
-                ∙ ap (λ (m : ℕ). fold (keep value) (before, kept) (steps_at h block own m)) number
-                ∙ own_kept g.T.Pixel.num g.T.Pixel.pixel (with_header h value) block.plane luma h block all n at end (run_is_own n all at count run)
-                (before, kept),
           )
       | in_default w ↦
           let none : transform_block h block.plane block.area n ≡ None = w.in_default.ensures.none in (
-            λ value. w.plane-is ∙ no_steps (step value) h block all n before none,
-            ap (λ (b : _). b.edges.prepared) w.buffers-is ∙ no_steps edges_in h block all n edges none,
+            λ value. ap (λ (z : Plane _). (z, next)) w.plane-is ∙ ap (λ (b : _). (before, gathered b.kept b.edges.prepared)) w.buffers-is
+                ∙ no_steps (keep value) h block all n (before, now) none,
             subst (Stores g.T.Pixel.num h block.plane) (sym w.plane-is) held.stores,
             ap (λ (p : Plane _). p.plane_cfg) w.plane-is,
             ap (λ (b : _). b.luma.items) w.buffers-is,
-            λ value. ap (λ (z : Plane _). (z, kept_after)) w.plane-is ∙ ap (λ (b : _). (before, b.kept)) w.buffers-is
-                ∙ no_steps (keep value) h block all n (before, kept) none,
           )
     ] in
     record {
-      walked = λ value. fold_joined_more (step value) a.plane.now before after n (steps_at h block all) (held.walked value) (turn.0 value);
-      counted = fold_joined_more edges_in a.buffers.now.edges.prepared edges edges_after n (steps_at h block all) held.counted turn.1;
-      stores = turn.2;
-      config = turn.3 ∙ held.config;
-      luma = turn.4 ∙ held.luma;
+      walked = λ value.
+          fold_joined_more (keep value) (a.plane.now, start) (before, now) (after, next) n (steps_at h block all) (held.walked value) (turn.0 value);
+      stores = turn.1;
+      config = turn.2 ∙ held.config;
+      luma = turn.3 ∙ held.luma;
       within = run_within n all at count run;
       before = run_before n all at count run;
       behind = run_behind n all at count run;
       column = λ l. c.next_place-place.ensures.column;
       number = c.next_place-place.ensures.number ∙ ap (λ (m : ℕ). m + 1) held.number;
-      predictions = λ value.
-          fold_joined_more (keep value) (a.plane.now, a.buffers.now.kept) (before, kept) (after, kept_after) n (steps_at h block all) (held.predictions value)
-          (turn.5 value);
     }
 
 pub returns-clause-walked : goal.returns-clause-walked
@@ -135,15 +117,5 @@ returns-clause-walked g c = λ value.
     let all : c.loop-n.n ≡ block_count block.area = omega (arith, c.loop-n-test.false, c.loop-n.auto.n-end, c.block_count-n-end.ensures.value) in
     let luma : PlaneBlock → ℕ → ℕ → ℤ = λ _. ac_at (tx_width block.area.tx_size) a.buffers.now.luma.items in
     c.loop-n.invariant.walked value
-    ∙ ap (λ (m : ℕ). fold (fast_in g.T.Pixel.num g.T.Pixel.pixel (with_header a.header.now value) block.plane luma) a.plane.now
-    (joined m (steps_at a.header.now block a.triples.now))) all
-
-pub returns-clause-predictions : goal.returns-clause-predictions
-returns-clause-predictions g c = λ value.
-    let a = c.args in
-    let block = a.block.now in
-    let all : c.loop-n.n ≡ block_count block.area = omega (arith, c.loop-n-test.false, c.loop-n.auto.n-end, c.block_count-n-end.ensures.value) in
-    let luma : PlaneBlock → ℕ → ℕ → ℤ = λ _. ac_at (tx_width block.area.tx_size) a.buffers.now.luma.items in
-    c.loop-n.invariant.predictions value
-    ∙ ap (λ (m : ℕ). fold (keeping_in g.T.Pixel.num g.T.Pixel.pixel (with_header a.header.now value) block.plane luma) (a.plane.now, a.buffers.now.kept)
-    (joined m (steps_at a.header.now block a.triples.now))) all
+    ∙ ap (λ (m : ℕ). fold (keeping_in g.T.Pixel.num g.T.Pixel.pixel (with_header a.header.now value) block.plane luma)
+    (a.plane.now, gathered a.buffers.now.kept a.buffers.now.edges.prepared) (joined m (steps_at a.header.now block a.triples.now))) all

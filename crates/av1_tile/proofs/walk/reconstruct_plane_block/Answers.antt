@@ -3,11 +3,12 @@ use Rattle.av1_blocks.specs.Transforms.{tx_width}
 use Rattle.av1_intra.specs.ChromaFromLuma.{ac_at}
 use Rattle.av1_tile.specs.declared.plane_block.PlaneBlock.{PlaneBlock}
 use Rattle.av1_tile.specs.Reference.{no_luma}
-use Rattle.av1_tile.specs.Predicted.{keeping_in}
-use Rattle.av1_tile.specs.Walk.{edges_in, fast_in, with_header}
+use Rattle.av1_tile.specs.Predicted.{gathered, keeping_in}
+use Rattle.av1_tile.specs.Steps.{whole_steps}
+use Rattle.av1_tile.specs.Walk.{with_header}
 use Rattle.av1_tile.proofs.BlockSteps.{all_steps, fits_laid, whole_between, whole_counted, whole_inside, whole_layout}
-use Rattle.av1_tile.proofs.BlockTriples.{none_counted, none_kept, none_walked}
-use Rattle.av1_tile.proofs.Keeping.{whole_steps_kept}
+use Rattle.av1_tile.proofs.BlockTriples.{none_kept}
+use Rattle.av1_tile.proofs.Keeping.{gathered_taken, whole_steps_kept}
 use Rattle.av1_tile.proofs.Lifts.{whole_steps_same}
 use Rattle.av1_tile.proofs.walk.reconstruct_plane_block.Goals as goal
 
@@ -65,30 +66,6 @@ reconstruct_blocks-requires-clause-fits g c =
     a.plane.now c.predict_whole.new.plane (c.predict_whole.ensures plan own.1 c.requires.fits.prediction) in
     fits_laid plan.header a.block.now a.triples.now a.plane.now.plane_cfg c.predict_whole.new.plane.plane_cfg laid c.requires.fits
 
-pub returns-then-is_only_predicted-clause-walked : goal.returns-then-is_only_predicted-clause-walked
-returns-then-is_only_predicted-clause-walked g c = λ value serves.
-    let a = c.args in
-    let plan = with_header a.frame.now.header.now value in
-    let block = a.block.now in
-    let luma : PlaneBlock → ℕ → ℕ → ℤ = λ _. ac_at (tx_width block.area.tx_size) a.buffers.now.luma.items in
-    let step = fast_in g.T.Pixel.num g.T.Pixel.pixel plan block.plane luma in
-    let between = c.predict_whole.new.plane in
-    let stores =
-    whole_between g.T.Pixel.num g.T.Pixel.pixel g.met.T.Pixel.num_of_pixel g.met.T.Pixel.pixel_of_num plan a.frame.now.from.now serves block
-    c.requires.plane c.requires.fits.prediction a.plane.now between (c.predict_whole.ensures plan serves c.requires.fits.prediction) c.requires.stores in
-    all_steps step plan.header block a.triples.now a.plane.now between between
-    (c.predict_whole.ensures plan serves c.requires.fits.prediction
-    ∙ whole_steps_same g.T.Pixel.num g.T.Pixel.pixel plan block.plane (λ _. no_luma) luma block a.plane.now)
-    (none_walked block a.triples.now (c.is_only_predicted.ensures.whole c.if-is_only_predicted.true) g.T.Pixel.num g.T.Pixel.pixel
-    g.met.T.Pixel.pixel_of_num plan luma between (c.is_only_predicted.ensures.none c.if-is_only_predicted.true) stores.within)
-
-pub returns-then-is_only_predicted-clause-counted : goal.returns-then-is_only_predicted-clause-counted
-returns-then-is_only_predicted-clause-counted g c =
-    let a = c.args in
-    let count = a.buffers.now.edges.prepared in
-    all_steps edges_in a.frame.now.header.now a.block.now a.triples.now count count count (whole_counted a.block.now count)
-    (none_counted a.block.now a.triples.now (c.is_only_predicted.ensures.whole c.if-is_only_predicted.true) a.frame.now.header.now count)
-
 pub returns-then-is_only_predicted-clause-kept : goal.returns-then-is_only_predicted-clause-kept
 returns-then-is_only_predicted-clause-kept g c =
     let a = c.args in
@@ -101,26 +78,6 @@ returns-then-is_only_predicted-clause-kept g c =
       config = whole_layout g.T.Pixel.num g.T.Pixel.pixel g.met.T.Pixel.num_of_pixel g.met.T.Pixel.pixel_of_num plan a.frame.now.from.now own.1 a.block.now
           c.requires.plane c.requires.fits.prediction a.plane.now c.predict_whole.new.plane whole;
     }
-
-pub returns-clause-walked : goal.returns-clause-walked
-returns-clause-walked g c = λ value serves.
-    let a = c.args in
-    let plan = with_header a.frame.now.header.now value in
-    let block = a.block.now in
-    let luma : PlaneBlock → ℕ → ℕ → ℤ = λ _. ac_at (tx_width block.area.tx_size) a.buffers.now.luma.items in
-    let step = fast_in g.T.Pixel.num g.T.Pixel.pixel plan block.plane luma in
-    all_steps step plan.header block a.triples.now a.plane.now c.predict_whole.new.plane c.reconstruct_blocks.new.plane
-    (c.predict_whole.ensures plan serves c.requires.fits.prediction
-    ∙ whole_steps_same g.T.Pixel.num g.T.Pixel.pixel plan block.plane (λ _. no_luma) luma block a.plane.now)
-    (c.reconstruct_blocks.ensures.walked value)
-
-pub returns-clause-counted : goal.returns-clause-counted
-returns-clause-counted g c =
-    let a = c.args in
-    let count = a.buffers.now.edges.prepared in
-    all_steps edges_in a.frame.now.header.now a.block.now a.triples.now count count c.reconstruct_blocks.new.buffers.edges.prepared
-    (whole_counted a.block.now count)
-    c.reconstruct_blocks.ensures.counted
 
 pub returns-clause-kept : goal.returns-clause-kept
 returns-clause-kept g c =
@@ -135,34 +92,44 @@ returns-clause-kept g c =
           (c.predict_whole.ensures plan own.1 c.requires.fits.prediction);
     }
 
-pub returns-then-is_only_predicted-clause-predictions : goal.returns-then-is_only_predicted-clause-predictions
-returns-then-is_only_predicted-clause-predictions g c = λ value serves.
+pub returns-then-is_only_predicted-clause-walked : goal.returns-then-is_only_predicted-clause-walked
+returns-then-is_only_predicted-clause-walked g c = λ value serves.
     let a = c.args in
     let plan = with_header a.frame.now.header.now value in
     let block = a.block.now in
     let luma : PlaneBlock → ℕ → ℕ → ℤ = λ _. ac_at (tx_width block.area.tx_size) a.buffers.now.luma.items in
     let between = c.predict_whole.new.plane in
-    let kept = c.keep_whole.new.kept in
+    let count = a.buffers.now.edges.prepared in
+    let now = gathered a.buffers.now.kept count in
+    let next = gathered c.keep_whole.new.kept count in
     let whole = c.predict_whole.ensures plan serves c.requires.fits.prediction in
+    let taken = gathered_taken g.T.Pixel.num g.T.Pixel.pixel block.plane between now (whole_steps block) c.keep_whole.new.kept count c.keep_whole.ensures
+    (whole_counted block count) in
     let stores =
     whole_between g.T.Pixel.num g.T.Pixel.pixel g.met.T.Pixel.num_of_pixel g.met.T.Pixel.pixel_of_num plan a.frame.now.from.now serves block
     c.requires.plane c.requires.fits.prediction a.plane.now between whole c.requires.stores in
-    all_steps (keeping_in g.T.Pixel.num g.T.Pixel.pixel plan block.plane luma) plan.header block a.triples.now (a.plane.now, a.buffers.now.kept)
-    (between, kept) (between, kept)
-    (whole_steps_kept g.T.Pixel.num g.T.Pixel.pixel plan block.plane luma a.plane.now between a.buffers.now.kept kept block
-    (whole ∙ whole_steps_same g.T.Pixel.num g.T.Pixel.pixel plan block.plane (λ _. no_luma) luma block a.plane.now) c.keep_whole.ensures)
+    all_steps (keeping_in g.T.Pixel.num g.T.Pixel.pixel plan block.plane luma) plan.header block a.triples.now (a.plane.now, now) (between, next)
+    (between, next)
+    (whole_steps_kept g.T.Pixel.num g.T.Pixel.pixel plan block.plane luma a.plane.now between now next block
+    (whole ∙ whole_steps_same g.T.Pixel.num g.T.Pixel.pixel plan block.plane (λ _. no_luma) luma block a.plane.now) taken)
     (none_kept block a.triples.now (c.is_only_predicted.ensures.whole c.if-is_only_predicted.true) g.T.Pixel.num g.T.Pixel.pixel
-    g.met.T.Pixel.pixel_of_num plan luma between (c.is_only_predicted.ensures.none c.if-is_only_predicted.true) stores.within kept)
+    g.met.T.Pixel.pixel_of_num plan luma between (c.is_only_predicted.ensures.none c.if-is_only_predicted.true) stores.within next)
 
-pub returns-clause-predictions : goal.returns-clause-predictions
-returns-clause-predictions g c = λ value serves.
+pub returns-clause-walked : goal.returns-clause-walked
+returns-clause-walked g c = λ value serves.
     let a = c.args in
     let plan = with_header a.frame.now.header.now value in
     let block = a.block.now in
     let luma : PlaneBlock → ℕ → ℕ → ℤ = λ _. ac_at (tx_width block.area.tx_size) a.buffers.now.luma.items in
-    all_steps (keeping_in g.T.Pixel.num g.T.Pixel.pixel plan block.plane luma) plan.header block a.triples.now (a.plane.now, a.buffers.now.kept)
-    (c.predict_whole.new.plane, c.keep_whole.new.kept) (c.reconstruct_blocks.new.plane, c.reconstruct_blocks.new.buffers.kept)
-    (whole_steps_kept g.T.Pixel.num g.T.Pixel.pixel plan block.plane luma a.plane.now c.predict_whole.new.plane a.buffers.now.kept c.keep_whole.new.kept
-    block (c.predict_whole.ensures plan serves c.requires.fits.prediction
-    ∙ whole_steps_same g.T.Pixel.num g.T.Pixel.pixel plan block.plane (λ _. no_luma) luma block a.plane.now) c.keep_whole.ensures)
-    (c.reconstruct_blocks.ensures.predictions value)
+    let between = c.predict_whole.new.plane in
+    let count = a.buffers.now.edges.prepared in
+    let now = gathered a.buffers.now.kept count in
+    let next = gathered c.keep_whole.new.kept count in
+    let taken = gathered_taken g.T.Pixel.num g.T.Pixel.pixel block.plane between now (whole_steps block) c.keep_whole.new.kept count c.keep_whole.ensures
+    (whole_counted block count) in
+    all_steps (keeping_in g.T.Pixel.num g.T.Pixel.pixel plan block.plane luma) plan.header block a.triples.now (a.plane.now, now) (between, next)
+    (c.reconstruct_blocks.new.plane, gathered c.reconstruct_blocks.new.buffers.kept c.reconstruct_blocks.new.buffers.edges.prepared)
+    (whole_steps_kept g.T.Pixel.num g.T.Pixel.pixel plan block.plane luma a.plane.now between now next block
+    (c.predict_whole.ensures plan serves c.requires.fits.prediction
+    ∙ whole_steps_same g.T.Pixel.num g.T.Pixel.pixel plan block.plane (λ _. no_luma) luma block a.plane.now) taken)
+    (c.reconstruct_blocks.ensures.walked value)

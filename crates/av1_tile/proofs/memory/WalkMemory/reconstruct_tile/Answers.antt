@@ -1,6 +1,7 @@
 use Rattle.std.proofs.Common.{ap, ◌∙◌}
 use Rattle.av1_plan.specs.Values.{leaves_value}
 use Rattle.av1_tile.specs.Memory.{WalkRoom}
+use Rattle.av1_tile.specs.Predicted.{gathered}
 use Rattle.av1_tile.specs.State.{edges_of}
 use Rattle.av1_tile.specs.Walk.{cell_at}
 use Rattle.av1_tile.proofs.PlansOver.{over_counts, over_fits, over_frame, over_serves, over_shows}
@@ -34,14 +35,20 @@ returns-clause-shown g c = λ scene plan is.
     let h = a.header.now in
     let leaves = leaves_value a.leaves.now in
     let walk = c.reconstruct_leaves in
+    let now = c.self.inside.buffers in
     over_shows g.T.Pixel.num h leaves a.from.now scene plan is g.T.Pixel.pixel g.met.T.Pixel.num_of_pixel g.met.T.Pixel.pixel_of_num a.planes.now
-    walk.new.planes (cell_at c.lay_out.new.self) c.requires.stores c.requires.superblocks walk.ensures.kept.stores
+    walk.new.planes (gathered now.kept now.edges.prepared) (gathered walk.new.buffers.kept walk.new.buffers.edges.prepared) (cell_at c.lay_out.new.self)
+    c.requires.stores c.requires.superblocks walk.ensures.kept.stores
     (walk.ensures.walked scene (over_serves g.T.Pixel.num h leaves a.from.now scene plan is))
 
 pub returns-clause-edges : goal.returns-clause-edges
 returns-clause-edges g c = λ scene plan is.
     let a = c.args in
     let walk = c.reconstruct_leaves in
-    over_counts g.T.Pixel.num a.header.now (leaves_value a.leaves.now) a.from.now scene plan is c.self.inside.buffers.edges.prepared
-    walk.new.buffers.edges.prepared (cell_at c.lay_out.new.self) walk.ensures.counted
+    let h = a.header.now in
+    let leaves = leaves_value a.leaves.now in
+    let now = c.self.inside.buffers in
+    over_counts g.T.Pixel.num h leaves a.from.now scene plan is g.T.Pixel.pixel a.planes.now walk.new.planes (gathered now.kept now.edges.prepared)
+    (gathered walk.new.buffers.kept walk.new.buffers.edges.prepared) (cell_at c.lay_out.new.self)
+    (walk.ensures.walked scene (over_serves g.T.Pixel.num h leaves a.from.now scene plan is))
     ∙ ap (λ (r : WalkRoom). edges_of r.edges plan) c.self.view_is
