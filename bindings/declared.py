@@ -31,13 +31,13 @@ NAMES = {
     "EdgePlane": ("av1_edge_plane", "crate::EdgePlane"),
     "EdgeBlock": ("av1_edge_block", "crate::EdgeBlock"),
     "CflBlock": ("av1_cfl_block", "crate::CflBlock"),
-    "LumaBlock": ("av1_luma_block", "crate::LumaBlock"),
+    "LumaLeafBlock": ("av1_luma_block", "crate::LumaBlock"),
     "Neighbours": ("av1_neighbours", "crate::Neighbours"),
     "PlanHeader": ("av1_plan_header", "crate::Header"),
     "BuilderPart": ("av1_builder_part", "sys::BuilderPart"),
     "Builder": ("av1_builder", "sys::Builder"),
     "Coefficient": ("av1_coefficient", "crate::Coefficient"),
-    "Motion": ("av1_motion", "crate::Motion"),
+    "LeafMotion": ("av1_motion", "crate::Motion"),
     "LeafNumbers": ("av1_leaf", "crate::Leaf"),
 }
 # The slices that stand in memory, as elements of others: in C a struct of a pointer and a length, in this order. The Rust

@@ -25,7 +25,7 @@ use Rattle.av1_planwrite.specs.Text.{fields_text}
 use Rattle.av1_calls.specs.Arguments.{or_else}
 use Rattle.av1_c.specs.declared.leaf_numbers.Coefficient.{Coefficient}
 use Rattle.av1_c.specs.declared.leaf_numbers.LeafNumbers.{LeafNumbers}
-use Rattle.av1_c.specs.declared.leaf_numbers.Motion.{Motion}
+use Rattle.av1_c.specs.declared.leaf_numbers.LeafMotion.{LeafMotion}
 
 -- the mode of a number: past the last one that of chroma from luma, with which no leaf with two references may be
 -- predicted, nor plain chroma
@@ -47,7 +47,7 @@ tx_type_of number = or_else (slice_get tx_types.ALL number) DCT_DCT
 abbrev pub are_numbers : LeafNumbers → Bool
 are_numbers n = nat_le n.tx_size 18 && nat_le n.tx_type 16 && nat_le n.uv_type 16
 
-abbrev pub vector_of : Motion → MotionVector
+abbrev pub vector_of : LeafMotion → MotionVector
 vector_of m = record { row = m.row; col = m.col }
 
 -- how the chroma of a leaf without references is predicted, where it carries chroma

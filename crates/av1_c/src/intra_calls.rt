@@ -10,7 +10,7 @@ ghost use Rattle.av1_calls.specs.IntraPlanes.{PredictsInPlane};
 ghost use Rattle.av1_calls.specs.LumaBlocks.{GivesDifferences};
 ghost use Rattle.av1_calls.specs.SmoothNeighbours.{TellsSmooth};
 
-use av1_calls::{CflBlock, EdgeBlock, EdgePlane, IntraBlock, LumaBlock, Neighbours};
+use av1_calls::{CflBlock, EdgeBlock, EdgePlane, IntraBlock, LumaLeafBlock, Neighbours};
 
 /// Predicts a block by its intra mode from the sides round it, at a depth of 8.
 #[unsafe(no_mangle)]
@@ -171,7 +171,7 @@ pub extern "C" fn av1_cfl_ac_16(
 
 /// Finds the block of chroma that is predicted from a block's luma.
 #[unsafe(no_mangle)]
-pub extern "C" fn av1_cfl_block_of(block: &mut CflBlock, luma: &LumaBlock) -> u32
+pub extern "C" fn av1_cfl_block_of(block: &mut CflBlock, luma: &LumaLeafBlock) -> u32
     ensures { FindsChroma luma.now block.old block.new result }
 {
     av1_calls::av1_cfl_block_of(block, luma)

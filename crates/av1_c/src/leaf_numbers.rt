@@ -21,7 +21,7 @@ pub struct Coefficient {
 /// A reference and its vector, in eighths of a luma sample.
 #[repr(C)]
 #[derive(Clone, Copy)]
-pub struct Motion {
+pub struct LeafMotion {
     pub row: i16,
     pub col: i16,
     /// LAST to ALTREF: 1 to 7.
@@ -34,9 +34,9 @@ pub struct Motion {
 #[derive(Clone, Copy)]
 pub struct LeafNumbers {
     /// The reference of a leaf that has one or two.
-    pub first: Motion,
+    pub first: LeafMotion,
     /// The other one of a leaf that has two.
-    pub second: Motion,
+    pub second: LeafMotion,
     /// 0 to 13 without references, 14 to 19 with one, 20 to 33 with two.
     pub mode: u8,
     /// Without references the steps of 3 degrees on the mode's angle.
@@ -111,7 +111,7 @@ fn tx_type_of(number: u8) -> TxType
     }
 }
 
-impl Motion {
+impl LeafMotion {
     // The vector.
     fn vector(self) -> MotionVector
         ensures { result ≡ vector_of self }

@@ -62,7 +62,7 @@ pub use intra_calls::{
     av1_intra_edge_16, av1_predict_cfl_8, av1_predict_cfl_16, av1_predict_in_plane_8,
     av1_predict_in_plane_16, av1_predict_intra_8, av1_predict_intra_16, av1_smooth_neighbour,
 };
-pub use leaf_numbers::{Coefficient, LeafNumbers, Motion};
+pub use leaf_numbers::{Coefficient, LeafMotion, LeafNumbers};
 pub use motion_calls::{
     av1_mc_avg_8, av1_mc_avg_16, av1_motion_place, av1_prep_8tap_8, av1_prep_8tap_16,
     av1_prep_moved_8, av1_prep_moved_16, av1_prep_tested_16, av1_put_8tap_8, av1_put_8tap_16,

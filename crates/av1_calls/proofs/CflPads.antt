@@ -16,7 +16,7 @@ use Rattle.av1_calls.specs.CflPads.{AreSizes, IsLumaFault, IsVisible, leaf_of, p
 use Rattle.av1_calls.specs.LumaBlocks.{IsSampling}
 use Rattle.av1_calls.specs.declared.argument.BadArgument.{BadArgument}
 use Rattle.av1_calls.specs.declared.argument.BadArgument.TheVariants as bad
-use Rattle.av1_calls.specs.declared.cfl_block.LumaBlock.{LumaBlock}
+use Rattle.av1_calls.specs.declared.cfl_block.LumaLeafBlock.{LumaLeafBlock}
 
 -- a side is 4, or a multiple of 8
 abbrev IsLumaSide : ℕ → Type 0
@@ -73,7 +73,7 @@ pad_ends side tx visible d plane pad long is h plane_is pad_is =
     ∙ ap (λ n. last_begun (averaged_side side (coded_side n side tx visible) d) d) (sym (start_first side d))
 
 -- the block of chroma by its pads is that of the leaf
-pub padded_same : (l : LumaBlock) (luma : BlockSize) (transform : TxSize) (chroma : BlockSize) (w_pad h_pad : ℕ) → l.xdec ≤ 1 → l.ydec ≤ 1
+pub padded_same : (l : LumaLeafBlock) (luma : BlockSize) (transform : TxSize) (chroma : BlockSize) (w_pad h_pad : ℕ) → l.xdec ≤ 1 → l.ydec ≤ 1
     → IsSubsampled luma l.xdec l.ydec chroma
     → w_pad ≡ pad_along (block_width luma) (tx_width transform) l.visible_columns l.xdec
     → h_pad ≡ pad_along (block_height luma) (tx_height transform) l.visible_rows l.ydec
@@ -113,7 +113,7 @@ height_fits luma transform visible d plane pad h seen plane_is pad_is =
     omega (arith, fits, plane_is, pad_is)
 
 -- what is asked for is not refused
-pub not_refused : (l : LumaBlock) (luma : BlockSize) (transform : TxSize) (chroma : BlockSize) (fault : BadArgument) → IsSampling l.xdec l.ydec →
+pub not_refused : (l : LumaLeafBlock) (luma : BlockSize) (transform : TxSize) (chroma : BlockSize) (fault : BadArgument) → IsSampling l.xdec l.ydec →
     AreSizes l luma transform chroma → IsVisible l → ¬ IsLumaFault l fault
 not_refused l luma transform chroma bad.Sampling sampled sizes seen f = f sampled
 not_refused l luma transform chroma bad.Size sampled sizes seen f = f.1 luma transform chroma sizes

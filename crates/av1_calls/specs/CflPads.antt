@@ -12,7 +12,7 @@ use Rattle.av1_calls.specs.IntraEdges.{IsBlockSize}
 use Rattle.av1_calls.specs.LumaBlocks.{IsChroma, IsSampling}
 use Rattle.av1_calls.specs.declared.argument.BadArgument.{BadArgument}
 use Rattle.av1_calls.specs.declared.argument.BadArgument.TheVariants as bad
-use Rattle.av1_calls.specs.declared.cfl_block.LumaBlock.{LumaBlock}
+use Rattle.av1_calls.specs.declared.cfl_block.LumaLeafBlock.{LumaLeafBlock}
 use Rattle.av1_calls.specs.declared.luma.CflBlock.{CflBlock}
 use Rattle.av1_calls.specs.declared.status.TheConstants.{BAD_PAD, BAD_SAMPLING, BAD_SIZE, DONE}
 
@@ -28,18 +28,18 @@ abbrev pub HasNoChromaSizeOf : (luma : BlockSize) → (xdec ydec : ℕ) → Type
 HasNoChromaSizeOf luma xdec ydec = (chroma : BlockSize) → ¬ IsChromaSizeOf luma xdec ydec chroma
 
 -- the numbers name the sizes of a block, of its luma transforms and of its chroma
-pub record AreSizes (l : LumaBlock) (luma : BlockSize) (transform : TxSize) (chroma : BlockSize) : Type 0 where
+pub record AreSizes (l : LumaLeafBlock) (luma : BlockSize) (transform : TxSize) (chroma : BlockSize) : Type 0 where
   pub blocked : IsBlockSize l.block_size luma
   pub sized : IsSize l.tx_size transform
   pub chroma_sized : IsChromaSizeOf luma l.xdec l.ydec chroma
 
 -- some columns and some rows of its luma are visible
-pub record IsVisible (l : LumaBlock) : Type 0 where
+pub record IsVisible (l : LumaLeafBlock) : Type 0 where
   pub columns : 0 < l.visible_columns
   pub rows : 0 < l.visible_rows
 
 -- the block as a leaf whose luma begins with the first sample of its plane
-abbrev pub leaf_of : LumaBlock → BlockSize → TxSize → LumaLeaf
+abbrev pub leaf_of : LumaLeafBlock → BlockSize → TxSize → LumaLeaf
 leaf_of l luma transform = record {
   x = 0;
   y = 0;
@@ -52,7 +52,7 @@ leaf_of l luma transform = record {
 }
 
 -- This is its block of chroma: some of it has luma of its own, and it takes the same luma as that of the leaf.
-pub record IsChromaOf (l : LumaBlock) (block : CflBlock) : Type 0 where
+pub record IsChromaOf (l : LumaLeafBlock) (block : CflBlock) : Type 0 where
   pub luma : BlockSize
   pub transform : TxSize
   pub chroma : BlockSize
@@ -64,11 +64,11 @@ pub record IsChromaOf (l : LumaBlock) (block : CflBlock) : Type 0 where
 -- ---- what is refused: each reason with what is asked before it, so that the first one that holds is told
 
 -- a number names no size, or the block's chroma has none
-abbrev pub HasNoSizes : LumaBlock → Type 0
+abbrev pub HasNoSizes : LumaLeafBlock → Type 0
 HasNoSizes l = (luma : BlockSize) → (transform : TxSize) → (chroma : BlockSize) → ¬ AreSizes l luma transform chroma
 
 -- no column or no row of its luma is visible
-abbrev pub IsHidden : LumaBlock → Type 0
+abbrev pub IsHidden : LumaLeafBlock → Type 0
 IsHidden l =
     (luma : BlockSize) × ((transform : TxSize) × ((chroma : BlockSize) × (AreSizes l luma transform chroma
     × (¬ IsVisible l))))
@@ -76,7 +76,7 @@ IsHidden l =
 -- ---- what the call says
 
 -- Of a block whose chroma is found: the block of chroma was `before` and is `after`, and `answer` is the status.
-pub record FindsChroma (l : LumaBlock) (before after : CflBlock) (answer : ℕ) : Type 0 where
+pub record FindsChroma (l : LumaLeafBlock) (before after : CflBlock) (answer : ℕ) : Type 0 where
   -- The numbers name a block with luma, and this is its block of chroma.
   pub done : answer ≡ DONE → IsChromaOf l after
   -- Nothing else is asked of the arguments.
@@ -92,7 +92,7 @@ pub record FindsChroma (l : LumaBlock) (before after : CflBlock) (answer : ℕ) 
 
 -- ---- why nothing is written: words of private contracts
 
-abbrev pub IsLumaFault : LumaBlock → BadArgument → Type 0
+abbrev pub IsLumaFault : LumaLeafBlock → BadArgument → Type 0
 IsLumaFault l bad.Sampling = ¬ IsSampling l.xdec l.ydec
 IsLumaFault l bad.Size = IsSampling l.xdec l.ydec × HasNoSizes l
 IsLumaFault l bad.Pad = IsSampling l.xdec l.ydec × IsHidden l

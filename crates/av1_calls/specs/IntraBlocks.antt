@@ -22,7 +22,7 @@ use Rattle.av1_calls.specs.declared.argument.BadArgument.{BadArgument}
 use Rattle.av1_calls.specs.declared.argument.BadArgument.TheVariants as bad
 use Rattle.av1_calls.specs.declared.intra.Counts.{Counts}
 use Rattle.av1_calls.specs.declared.intra.IntraBlock.{IntraBlock}
-use Rattle.av1_calls.specs.declared.intra.Prediction.{Prediction}
+use Rattle.av1_calls.specs.declared.intra.PredictedBlock.{PredictedBlock}
 use Rattle.av1_calls.specs.declared.motion.Place.{Place}
 use Rattle.av1_calls.specs.declared.status.TheConstants.{BAD_ANGLE, BAD_AREA, BAD_DEPTH, BAD_MODE, BAD_SIZE, DONE}
 use Rattle.av1_calls.specs.declared.status.TheConstants.{TOO_SHORT}
@@ -203,7 +203,7 @@ pub record AreSidesLong (b : DirectionalBlock) (variant : PredictionVariant) (mo
 
 -- This is what the numbers ask for, at a place and with so many samples.
 pub record IsPredictionOf (bits : ℕ) (b : IntraBlock) (mode : PredictionMode) (at : Place) (has : Counts)
-    (p : Prediction) : Type 0 where
+    (p : PredictedBlock) : Type 0 where
   pub asked : IsIntraBlock bits b mode at.stride at.x at.y has.left has.above has.ac has.samples p.size
   pub mode_is : p.mode ≡ mode_in b mode
   pub variant_is : p.variant ≡ variant_in b

@@ -15,7 +15,7 @@ use av1_blocks::{BlockSize, TxSize};
 /// A block whose chroma is predicted from its luma, in numbers.
 #[repr(C)]
 #[derive(Clone, Copy, Debug, PartialEq, Eq)]
-pub struct LumaBlock {
+pub struct LumaLeafBlock {
     /// The number of its size in luma, from 0 (`BLOCK_4X4`) to 21 (`BLOCK_64X16`).
     pub block_size: u8,
     /// The number of the size of its luma transforms, from 0 (`TX_4X4`) to 18 (`TX_64X16`).
@@ -51,7 +51,7 @@ fn chroma_of(luma: BlockSize, xdec: u8, ydec: u8) -> Option<BlockSize>
 }
 
 // The sizes that the numbers of a block name.
-fn sizes_of(luma: LumaBlock) -> Option<Sizes>
+fn sizes_of(luma: LumaLeafBlock) -> Option<Sizes>
     ensures found { IfSome result (λ sizes. AreSizes luma sizes.luma sizes.transform sizes.chroma) }
     ensures sides { IfSome result (λ sizes. IsSubsampled sizes.luma luma.xdec luma.ydec sizes.chroma) }
     ensures none { result ≡ None → HasNoSizes luma }
@@ -67,7 +67,7 @@ fn sizes_of(luma: LumaBlock) -> Option<Sizes>
 }
 
 // Whether some of the luma is visible.
-fn is_visible(luma: LumaBlock) -> bool
+fn is_visible(luma: LumaLeafBlock) -> bool
     ensures true_is { result ≡ true → IsVisible luma }
     ensures is_true { IsVisible luma → result ≡ true }
 {
@@ -91,7 +91,7 @@ fn pad_along(side: usize, tx_side: usize, visible: usize, decimation: usize) -> 
 }
 
 // The block of chroma of these sizes.
-fn padded(luma: LumaBlock, sizes: Sizes) -> CflBlock
+fn padded(luma: LumaLeafBlock, sizes: Sizes) -> CflBlock
     requires sampled { IsSampling luma.xdec luma.ydec }
     requires sized { AreSizes luma sizes.luma sizes.transform sizes.chroma }
     requires sides { IsSubsampled sizes.luma luma.xdec luma.ydec sizes.chroma }
@@ -123,7 +123,7 @@ fn padded(luma: LumaBlock, sizes: Sizes) -> CflBlock
 /// # Errors
 ///
 /// `Sampling`, then `Size`, then `Pad`.
-fn block_of(luma: LumaBlock) -> Result<CflBlock, BadArgument>
+fn block_of(luma: LumaLeafBlock) -> Result<CflBlock, BadArgument>
     ensures found { IfOk result (IsChromaOf luma) }
     ensures fault { IfErr result (IsLumaFault luma) }
 {
@@ -148,7 +148,7 @@ fn block_of(luma: LumaBlock) -> Result<CflBlock, BadArgument>
 ///
 /// `DONE`: that was done. `BAD_SAMPLING`: chroma has no such decimations. `BAD_SIZE`: a number names no size, the
 /// block's chroma has none, or a side of it is longer than 32. `BAD_PAD`: no column, or no row, of its luma is visible.
-pub fn av1_cfl_block_of(block: &mut CflBlock, luma: &LumaBlock) -> u32
+pub fn av1_cfl_block_of(block: &mut CflBlock, luma: &LumaLeafBlock) -> u32
     ensures { FindsChroma luma.now block.old block.new result }
 {
     match block_of(*luma) {

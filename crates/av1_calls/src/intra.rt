@@ -66,7 +66,7 @@ struct Counts {
 
 /// A block as it is predicted, and the rectangle that it is.
 #[derive(Clone, Copy)]
-struct Prediction {
+struct PredictedBlock {
     size: TxSize,
     mode: PredictionMode,
     variant: PredictionVariant,
@@ -146,7 +146,7 @@ fn prediction_in(
     size: TxSize,
     x: usize,
     y: usize,
-) -> Prediction
+) -> PredictedBlock
     ensures size { result.size ≡ size }
     ensures mode { result.mode ≡ mode_in block mode }
     ensures variant { result.variant ≡ variant_in block }
@@ -157,7 +157,7 @@ fn prediction_in(
     let has_above = usize::from(block.has_above);
     let mode = effective(mode, has_left, has_above);
     let block = block_of(block, mode, size);
-    Prediction {
+    PredictedBlock {
         size,
         mode,
         variant: PredictionVariant::new(has_left, has_above),
@@ -193,7 +193,7 @@ fn are_sides_long(
 // Whether the sides and luma's differences are as long as a block reads them. No mode reads more of a side than both
 // sides of the block.
 #[inline(always)]
-fn are_long(prediction: Prediction, counts: Counts) -> bool
+fn are_long(prediction: PredictedBlock, counts: Counts) -> bool
     requires width { prediction.block.width ≤ 64 }
     requires height { prediction.block.height ≤ 64 }
     ensures true_is { result ≡ true → AreLong prediction.block prediction.variant prediction.mode counts.left counts.above counts.ac }
@@ -218,7 +218,7 @@ fn prediction_of(
     mode: PredictionMode,
     at: Place,
     counts: Counts,
-) -> Result<Prediction, BadArgument>
+) -> Result<PredictedBlock, BadArgument>
     ensures found { IfOk result (IsPredictionOf bits block mode at counts) }
     ensures fault { IfErr result (IsIntraFault bits block mode at counts) }
 {

@@ -22,7 +22,7 @@ const LEFT_SAMPLES: usize = 128;
 
 /// A transform, and where it is.
 #[derive(Clone, Copy)]
-struct Transform {
+struct EdgeTransform {
     plane: EdgePlane,
     block: EdgeBlock,
     smooth_neighbour: u8,
@@ -38,7 +38,7 @@ fn has_before(place: usize) -> u8
 
 // The transform as a block that is predicted.
 #[inline(always)]
-fn block_in(at: Transform) -> IntraBlock
+fn block_in(at: EdgeTransform) -> IntraBlock
     ensures { result ≡ block_in at.plane at.block at.smooth_neighbour }
 {
     let (plane, block) = (at.plane, at.block);
@@ -88,7 +88,7 @@ fn row_in(plane: EdgePlane, block: EdgeBlock, samples: usize) -> usize
 #[inline(always)]
 fn predict_prepared<T: Pixel>(
     samples: &mut [T],
-    at: Transform,
+    at: EdgeTransform,
     edge: &[T],
     corner: T,
     ac: &[i16],
@@ -149,7 +149,7 @@ pub fn av1_predict_in_plane_8(
     if prepared != DONE {
         return prepared;
     }
-    let at = Transform {
+    let at = EdgeTransform {
         plane: *plane,
         block: *block,
         smooth_neighbour,
@@ -174,7 +174,7 @@ pub fn av1_predict_in_plane_16(
     if prepared != DONE {
         return prepared;
     }
-    let at = Transform {
+    let at = EdgeTransform {
         plane: *plane,
         block: *block,
         smooth_neighbour,

@@ -60,7 +60,7 @@ mod window;
 pub use angle_step::av1_angle_step;
 pub use argument::filter_mode;
 pub use av1_itx::TxRoom;
-pub use cfl_block::{LumaBlock, av1_cfl_block_of};
+pub use cfl_block::{LumaLeafBlock, av1_cfl_block_of};
 pub use intra::{
     IntraBlock, av1_predict_cfl_8, av1_predict_cfl_16, av1_predict_intra_8, av1_predict_intra_16,
 };

@@ -37,7 +37,7 @@ pub struct CflBlock {
 
 /// The size of a block of chroma, and the rectangle of luma that is read for it.
 #[derive(Clone, Copy)]
-struct Luma {
+struct ChromaSource {
     size: BlockSize,
     area: StoredArea,
 }
@@ -129,7 +129,7 @@ fn luma_of(
     y: usize,
     ac: usize,
     samples: usize,
-) -> Result<Luma, BadArgument>
+) -> Result<ChromaSource, BadArgument>
     ensures found { IfOk result (λ luma. IsCflBlock block stride x y ac samples luma.size) }
     ensures area { IfOk result (λ luma. luma.area ≡ luma_area block luma.size x y) }
     ensures some_columns { IfOk result (λ luma. 0 < luma.area.width) }
@@ -152,7 +152,7 @@ fn luma_of(
     if ac < size.area() {
         return Err(BadArgument::Short);
     }
-    Ok(Luma { size, area })
+    Ok(ChromaSource { size, area })
 }
 
 /// The same where samples have more than 8 bits.
@@ -168,7 +168,7 @@ fn deep_luma_of(
     y: usize,
     ac: usize,
     bit_depth: usize,
-) -> Result<Luma, BadArgument>
+) -> Result<ChromaSource, BadArgument>
     ensures found { IfOk result (λ luma. IsCflBlock block stride x y ac (length samples.now) luma.size) }
     ensures area { IfOk result (λ luma. luma.area ≡ luma_area block luma.size x y) }
     ensures some_columns { IfOk result (λ luma. 0 < luma.area.width) }
@@ -213,7 +213,7 @@ fn put_differences<T: Pixel, const XDEC: usize, const YDEC: usize>(
     ac: &mut [i16],
     samples: &[T],
     stride: usize,
-    luma: Luma,
+    luma: ChromaSource,
     w_pad: usize,
     h_pad: usize,
 )
@@ -243,7 +243,7 @@ fn put_differences_of<T: Pixel>(
     stride: usize,
     x: usize,
     y: usize,
-    luma: Luma,
+    luma: ChromaSource,
     block: CflBlock,
 )
     requires asked { IsCflBlock block stride x y (length ac.old) (length samples.now) luma.size }

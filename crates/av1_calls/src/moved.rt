@@ -14,7 +14,7 @@ use av1_frame::{Pixel, StoredArea};
 
 /// A block that a vector moves, and where it is read.
 #[derive(Clone, Copy)]
-pub(crate) struct Moved {
+pub(crate) struct MovedCall {
     pub(crate) plane: MotionPlane,
     pub(crate) block: MovedBlock,
     pub(crate) place: MovedPlace,
@@ -96,7 +96,7 @@ fn is_within(place: isize, side: usize, visible: usize) -> bool
 
 /// Whether all that is read from the place is visible.
 #[inline(always)]
-pub(crate) fn lies_within(moved: Moved) -> bool
+pub(crate) fn lies_within(moved: MovedCall) -> bool
     requires found { IsPlaceOf moved.plane moved.block moved.place }
     requires short { moved.block.width ≤ 128 }
     requires low { moved.block.height ≤ 128 }
@@ -110,7 +110,7 @@ pub(crate) fn lies_within(moved: Moved) -> bool
 
 /// The place in the samples of its plane.
 #[inline(always)]
-pub(crate) fn stored_at(moved: Moved, samples: usize) -> Place
+pub(crate) fn stored_at(moved: MovedCall, samples: usize) -> Place
     requires within { LiesWithin moved.plane moved.block moved.place }
     requires visible { AreRows moved.plane.stride (visible_of moved.plane) samples }
     ensures { result ≡ stored_at moved.plane moved.place }
@@ -125,7 +125,7 @@ pub(crate) fn stored_at(moved: Moved, samples: usize) -> Place
 
 /// All that is read for the block becomes the front of the window: the place at which the block stands there.
 #[inline(always)]
-pub(crate) fn gathered<T: Pixel>(window: &mut [T], src: &[T], moved: Moved) -> Place
+pub(crate) fn gathered<T: Pixel>(window: &mut [T], src: &[T], moved: MovedCall) -> Place
     requires sides { AreSides moved.block.width moved.block.height }
     requires found { IsPlaceOf moved.plane moved.block moved.place }
     requires source { IsSourced moved.plane (length src.now) moved.block }

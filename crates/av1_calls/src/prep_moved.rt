@@ -12,7 +12,8 @@ use crate::argument::{BadArgument, are_rows, is_depth};
 use crate::motion::are_sides;
 use crate::motion_place::{MotionPlane, MovedBlock, place_of};
 use crate::moved::{
-    Moved, are_moved_filters, gathered, is_sourced, lies_within, motion_at, stored_at, window_of,
+    MovedCall, are_moved_filters, gathered, is_sourced, lies_within, motion_at, stored_at,
+    window_of,
 };
 use crate::prep_8tap::prep;
 use crate::samples::have_8_bits;
@@ -86,7 +87,7 @@ fn test_deep_prep_moved(
 
 /// The first values become those of the block, which is read where it is.
 #[inline(always)]
-fn prep_within<T: Pixel>(values: &mut [i16], src: &[T], moved: Moved, bit_depth: usize)
+fn prep_within<T: Pixel>(values: &mut [i16], src: &[T], moved: MovedCall, bit_depth: usize)
     requires sides { AreSides moved.block.width moved.block.height }
     requires filters { AreMovedFilters moved.block }
     requires source { IsSourced moved.plane (length src.now) moved.block }
@@ -107,7 +108,7 @@ fn prep_within<T: Pixel>(values: &mut [i16], src: &[T], moved: Moved, bit_depth:
 fn prep_gathered<T: Pixel>(
     values: &mut [i16],
     src: &[T],
-    moved: Moved,
+    moved: MovedCall,
     window: &mut [T],
     bit_depth: usize,
 )
@@ -137,7 +138,7 @@ fn prep_moved<T: Pixel>(
     requires deep { AreMovedWithin bit_depth plane block (map T.num src.now) }
     ensures { HoldBlock bit_depth (motion_of plane block) (moved_source plane block (map T.num src.now)) values.old values.new }
 {
-    let moved = Moved {
+    let moved = MovedCall {
         plane,
         block,
         place: place_of(plane, block),

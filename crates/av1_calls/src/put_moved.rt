@@ -13,7 +13,8 @@ use crate::argument::{BadArgument, are_rows, is_depth};
 use crate::motion::{Place, are_sides, rectangle_at};
 use crate::motion_place::{MotionPlane, MovedBlock, place_of};
 use crate::moved::{
-    Moved, are_moved_filters, gathered, is_sourced, lies_within, motion_at, stored_at, window_of,
+    MovedCall, are_moved_filters, gathered, is_sourced, lies_within, motion_at, stored_at,
+    window_of,
 };
 use crate::put_8tap::put;
 use crate::samples::have_8_bits;
@@ -89,7 +90,7 @@ fn test_deep_moved(
 
 /// The rectangle becomes the block, which is read where it is.
 #[inline(always)]
-fn put_within<T: Pixel>(dst: &mut [T], to: Place, src: &[T], moved: Moved, bit_depth: usize)
+fn put_within<T: Pixel>(dst: &mut [T], to: Place, src: &[T], moved: MovedCall, bit_depth: usize)
     requires sides { AreSides moved.block.width moved.block.height }
     requires filters { AreMovedFilters moved.block }
     requires placed { IsPlaced to (length dst.old) moved.plane (length src.now) moved.block }
@@ -112,7 +113,7 @@ fn put_gathered<T: Pixel>(
     dst: &mut [T],
     to: Place,
     src: &[T],
-    moved: Moved,
+    moved: MovedCall,
     window: &mut [T],
     bit_depth: usize,
 )
@@ -147,7 +148,7 @@ fn put_moved<T: Pixel>(
     ensures { dst.new ≡ paint to.stride (rectangle_at to block.width block.height)
         (λ r c _. T.pixel (moved_sample bit_depth (motion_of plane block) (moved_source plane block (map T.num src.now)) r c)) dst.old }
 {
-    let moved = Moved {
+    let moved = MovedCall {
         plane,
         block,
         place: place_of(plane, block),

@@ -18,7 +18,7 @@ use av1_itx::{TxRoom, inverse_transform_add_in};
 
 /// A transform, and the rectangle to which its residue is added.
 #[derive(Clone, Copy)]
-pub(crate) struct Block {
+pub(crate) struct ResidualBlock {
     pub(crate) size: TxSize,
     pub(crate) kind: TxType,
     pub(crate) area: StoredArea,
@@ -39,7 +39,12 @@ fn is_runnable(size: TxSize, kind: TxType) -> bool
 ///
 /// `Size`, then `Kind`, then `Area`.
 #[inline(always)]
-fn block_of(tx_size: u8, tx_type: u8, at: Place, samples: usize) -> Result<Block, BadArgument>
+fn block_of(
+    tx_size: u8,
+    tx_type: u8,
+    at: Place,
+    samples: usize,
+) -> Result<ResidualBlock, BadArgument>
     ensures found { IfOk result (λ block. IsBlock tx_size tx_type at.stride at.x at.y samples block.size block.kind) }
     ensures area { IfOk result (λ block. block.area ≡ rectangle at.x at.y block.size) }
     ensures fault { IfErr result (IsBlockFault tx_size tx_type at.stride at.x at.y samples) }
@@ -57,7 +62,7 @@ fn block_of(tx_size: u8, tx_type: u8, at: Place, samples: usize) -> Result<Block
     if !are_rows(at.stride, area, samples) {
         return Err(BadArgument::Area);
     }
-    Ok(Block { size, kind, area })
+    Ok(ResidualBlock { size, kind, area })
 }
 
 // Reads each number, so that the proof knows that it has 16 bits: it compiles to nothing.
@@ -159,7 +164,7 @@ pub(crate) fn block_at_depth(
     at: Place,
     samples: usize,
     bit_depth: usize,
-) -> Result<Block, BadArgument>
+) -> Result<ResidualBlock, BadArgument>
     ensures found { IfOk result (λ block. IsBlock tx_size tx_type at.stride at.x at.y samples block.size block.kind) }
     ensures area { IfOk result (λ block. block.area ≡ rectangle at.x at.y block.size) }
     ensures depth { IfOk result (λ _. IsDepth bit_depth) }
@@ -186,7 +191,7 @@ fn deep_block_of(
     coefficients: &[i32],
     samples: usize,
     bit_depth: usize,
-) -> Result<Block, BadArgument>
+) -> Result<ResidualBlock, BadArgument>
     ensures found { IfOk result (λ block. IsBlock tx_size tx_type at.stride at.x at.y samples block.size block.kind) }
     ensures area { IfOk result (λ block. block.area ≡ rectangle at.x at.y block.size) }
     ensures depth { IfOk result (λ _. IsDepth bit_depth) }
@@ -208,7 +213,7 @@ pub(crate) fn add_deep(
     coefficients: &[i32],
     samples: &mut [u16],
     stride: usize,
-    block: Block,
+    block: ResidualBlock,
     bit_depth: usize,
     by_av1: bool,
 )

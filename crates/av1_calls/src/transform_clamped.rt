@@ -12,7 +12,7 @@ ghost use Rattle.av1_calls.specs.Transforms.{AddsClamped, IsRunnable, cut_to};
 use crate::motion::Place;
 use crate::status::DONE;
 use crate::transform_add::{
-    Block, add_deep, all_given_fit, block_at_depth, given_count, number_at,
+    ResidualBlock, add_deep, all_given_fit, block_at_depth, given_count, number_at,
 };
 use av1_dct::clamp_value;
 use av1_itx::TxRoom;
@@ -40,7 +40,7 @@ fn add_cut(
     coefficients: &[i32],
     samples: &mut [u16],
     stride: usize,
-    block: Block,
+    block: ResidualBlock,
     bit_depth: usize,
 )
     requires is_depth { IsDepth bit_depth }
@@ -71,7 +71,7 @@ fn add_clamped(
     coefficients: &[i32],
     samples: &mut [u16],
     stride: usize,
-    block: Block,
+    block: ResidualBlock,
     bit_depth: usize,
 )
     requires is_depth { IsDepth bit_depth }

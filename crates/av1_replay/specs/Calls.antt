@@ -5,29 +5,29 @@ use Rattle.av1_blocks.specs.Transforms.{tx_number, tx_type_number}
 use Rattle.av1_replay.specs.Fields.{flag_before, four_before, signed_before, two_before}
 use Rattle.av1_replay.specs.Rows.{format_number, margins_before, signed_numbers_before, way_number}
 use Rattle.av1_replay.specs.declared.availability.Availability.{Availability}
-use Rattle.av1_replay.specs.declared.availability.Block.{Block}
+use Rattle.av1_replay.specs.declared.availability.PlacedBlock.{PlacedBlock}
 use Rattle.av1_replay.specs.declared.availability.Unit.{Unit}
 use Rattle.av1_replay.specs.declared.call.BlockCall.{BlockCall}
 use Rattle.av1_replay.specs.declared.call.BlockCall.TheVariants as kinds
 use Rattle.av1_replay.specs.declared.edge.Edge.{Edge}
-use Rattle.av1_replay.specs.declared.edge.Place.{Place}
+use Rattle.av1_replay.specs.declared.edge.TransformPlace.{TransformPlace}
 use Rattle.av1_replay.specs.declared.edge.Sheet.{Sheet}
 use Rattle.av1_replay.specs.declared.intra.FromLuma.{FromLuma}
 use Rattle.av1_replay.specs.declared.intra.Intra.{Intra}
-use Rattle.av1_replay.specs.declared.luma.Luma.{Luma}
+use Rattle.av1_replay.specs.declared.luma.DrawnLuma.{DrawnLuma}
 use Rattle.av1_replay.specs.declared.motion.Average.{Average}
 use Rattle.av1_replay.specs.declared.motion.Reference.{Reference}
 use Rattle.av1_replay.specs.declared.network.Network.{Network}
 use Rattle.av1_replay.specs.declared.samples.Format.{Format}
 use Rattle.av1_replay.specs.declared.samples.Format.TheVariants.{Short}
-use Rattle.av1_replay.specs.declared.transform.Transform.{Transform}
+use Rattle.av1_replay.specs.declared.transform.DrawnTransform.{DrawnTransform}
 
 -- a one-dimensional transform
 abbrev pub network_before : Network → List ℕ → List ℕ
 network_before n others = n.number ∷ n.range ∷ signed_numbers_before n.drawn (four_before n.seed others)
 
 -- a transform of a block
-abbrev pub transform_before : Transform → List ℕ → List ℕ
+abbrev pub transform_before : DrawnTransform → List ℕ → List ℕ
 transform_before t others =
     tx_number t.size ∷ tx_type_number t.kind ∷ format_number t.format ∷
     signed_numbers_before t.drawn (margins_before t.margins (four_before t.seed others))
@@ -64,7 +64,7 @@ sheet_before s others =
     two_before s.tile_x (two_before s.tile_y (two_before s.tile_width (two_before s.tile_height others)))))
 
 -- the places of a transform and its block
-abbrev pub place_before : Place → List ℕ → List ℕ
+abbrev pub place_before : TransformPlace → List ℕ → List ℕ
 place_before p others =
     two_before p.x (two_before p.y (
     two_before p.cell_x (two_before p.cell_y (two_before p.unit_x (two_before p.unit_y others)))))
@@ -77,13 +77,13 @@ edge_before e others =
     margins_before e.margins (way_number e.way ∷ four_before e.seed others))))
 
 -- luma over a block of chroma
-abbrev pub luma_before : Luma → List ℕ → List ℕ
+abbrev pub luma_before : DrawnLuma → List ℕ → List ℕ
 luma_before l others =
     format_number l.format ∷ l.block_size ∷ l.xdec ∷ l.ydec ∷ l.w_pad ∷ l.h_pad ∷
     margins_before l.margins (way_number l.way ∷ four_before l.seed others)
 
 -- a block, and a transform in it
-abbrev pub block_before : Block → List ℕ → List ℕ
+abbrev pub block_before : PlacedBlock → List ℕ → List ℕ
 block_before b others = block_number b.size ∷ b.x ∷ b.y ∷ others
 
 abbrev pub unit_before : Unit → List ℕ → List ℕ

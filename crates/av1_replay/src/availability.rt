@@ -16,22 +16,22 @@ use std::alloc::Global;
 
 /// A block by its size and the cell that it begins at.
 #[derive(Clone, Copy)]
-pub struct Block {
+pub struct PlacedBlock {
     size: BlockSize,
     x: u8,
     y: u8,
 }
 
-impl Block {
+impl PlacedBlock {
     #[tactic(auto, using(crate::proofs::Numbered::block_numbered))]
-    fn read(fields: &mut Fields) -> Option<Block>
+    fn read(fields: &mut Fields) -> Option<PlacedBlock>
         ensures found { IfSome result (λ block. unread fields.old ≡ block_before block (unread fields.new)) }
         ensures later { length (unread fields.new) ≤ length (unread fields.old) }
     {
         let size = BlockSize::from_number(fields.byte()?)?;
         let x = fields.byte()?;
         let y = fields.byte()?;
-        Some(Block { size, x, y })
+        Some(PlacedBlock { size, x, y })
     }
 
     // The cell that it begins at.
@@ -70,7 +70,7 @@ impl Unit {
 /// A transform in a block, and what lies in the frame beside it.
 #[derive(Clone, Copy)]
 pub struct Availability {
-    block: Block,
+    block: PlacedBlock,
     /// Whether the row above lies in the frame, or the one below.
     first: bool,
     /// Whether the column on the right lies in the frame, or the one on the left.
@@ -86,7 +86,7 @@ impl Availability {
         ensures found { IfSome result (λ asked. unread fields.old ≡ availability_before asked (unread fields.new)) }
         ensures later { length (unread fields.new) ≤ length (unread fields.old) }
     {
-        let block = Block::read(fields)?;
+        let block = PlacedBlock::read(fields)?;
         let first = fields.flag()?;
         let second = fields.flag()?;
         let unit = Unit::read(fields)?;

@@ -12,11 +12,11 @@ use crate::edge::Edge;
 use crate::error::CallFault;
 use crate::fields::Fields;
 use crate::intra::{FromLuma, Intra};
-use crate::luma::Luma;
+use crate::luma::DrawnLuma;
 use crate::motion::{Average, Reference};
 use crate::network::Network;
 use crate::samples::{Format, Margins};
-use crate::transform::Transform;
+use crate::transform::DrawnTransform;
 use std::alloc::Global;
 
 /// A call on one block.
@@ -25,7 +25,7 @@ pub enum BlockCall {
     /// Kind 2: a one-dimensional transform.
     Network(Network),
     /// Kind 3: the inverse transform of a block.
-    Transform(Transform),
+    Transform(DrawnTransform),
     /// Kind 4: prediction from a reference.
     Put(Reference, Margins),
     /// Kind 5: a prepared block of a reference.
@@ -39,7 +39,7 @@ pub enum BlockCall {
     /// Kind 9: the edge of a transform.
     Edge(Edge),
     /// Kind 10: luma's differences from its mean.
-    Luma(Luma),
+    Luma(DrawnLuma),
     /// Kind 11: what is coded before a transform.
     Availability(Availability),
 }
@@ -53,7 +53,7 @@ impl BlockCall {
     {
         match kind {
             2 => Some(BlockCall::Network(Network::read(fields)?)),
-            3 => Some(BlockCall::Transform(Transform::read(fields)?)),
+            3 => Some(BlockCall::Transform(DrawnTransform::read(fields)?)),
             4 => {
                 let reference = Reference::read(fields)?;
                 let margins = Margins::read(fields)?;
@@ -64,7 +64,7 @@ impl BlockCall {
             7 => Some(BlockCall::Intra(Intra::read(fields)?)),
             8 => Some(BlockCall::FromLuma(FromLuma::read(fields)?)),
             9 => Some(BlockCall::Edge(Edge::read(fields)?)),
-            10 => Some(BlockCall::Luma(Luma::read(fields)?)),
+            10 => Some(BlockCall::Luma(DrawnLuma::read(fields)?)),
             11 => Some(BlockCall::Availability(Availability::read(fields)?)),
             _ => None,
         }

@@ -21,7 +21,7 @@ pub struct Source<'a, T> {
 
 /// The sides of a block.
 #[derive(Clone, Copy)]
-pub struct Sides<'a, T> {
+pub struct BlockSides<'a, T> {
     pub left: &'a [T],
     pub corner: T,
     pub above: &'a [T],
@@ -45,14 +45,14 @@ pub trait Called: Pixel {
     fn average(to: &mut [Self], target: Target, first: &[i16], second: &[i16], depth: u8) -> u32;
 
     /// Predicts a block from its sides.
-    fn predict(to: &mut [Self], target: Target, block: &IntraBlock, sides: Sides<Self>) -> u32;
+    fn predict(to: &mut [Self], target: Target, block: &IntraBlock, sides: BlockSides<Self>) -> u32;
 
     /// Predicts a block of chroma from its sides and luma's differences.
     fn predict_from_luma(
         to: &mut [Self],
         target: Target,
         block: &IntraBlock,
-        sides: Sides<Self>,
+        sides: BlockSides<Self>,
         differences: &[i16],
         alpha: i16,
     ) -> u32;
@@ -114,7 +114,7 @@ impl Called for u8 {
         )
     }
 
-    fn predict(to: &mut [u8], target: Target, block: &IntraBlock, sides: Sides<u8>) -> u32 {
+    fn predict(to: &mut [u8], target: Target, block: &IntraBlock, sides: BlockSides<u8>) -> u32 {
         av1_predict_intra_8(
             to,
             target.stride,
@@ -131,7 +131,7 @@ impl Called for u8 {
         to: &mut [u8],
         target: Target,
         block: &IntraBlock,
-        sides: Sides<u8>,
+        sides: BlockSides<u8>,
         differences: &[i16],
         alpha: i16,
     ) -> u32 {
@@ -220,7 +220,7 @@ impl Called for u16 {
         )
     }
 
-    fn predict(to: &mut [u16], target: Target, block: &IntraBlock, sides: Sides<u16>) -> u32 {
+    fn predict(to: &mut [u16], target: Target, block: &IntraBlock, sides: BlockSides<u16>) -> u32 {
         av1_predict_intra_16(
             to,
             target.stride,
@@ -237,7 +237,7 @@ impl Called for u16 {
         to: &mut [u16],
         target: Target,
         block: &IntraBlock,
-        sides: Sides<u16>,
+        sides: BlockSides<u16>,
         differences: &[i16],
         alpha: i16,
     ) -> u32 {

@@ -65,7 +65,7 @@ impl Sheet {
 
 /// Where a transform stands in its tile, its block in the tile, and the transform in the block.
 #[derive(Clone, Copy)]
-pub struct Place {
+pub struct TransformPlace {
     x: u16,
     y: u16,
     cell_x: u16,
@@ -74,12 +74,12 @@ pub struct Place {
     unit_y: u16,
 }
 
-impl Place {
+impl TransformPlace {
     ghost use Rattle.std.specs.Prelude.{◌≡◌, length, IfSome};
     ghost use Rattle.av1_replay.specs.Calls.{place_before};
     ghost use Rattle.av1_replay.specs.Fields.{unread};
 
-    fn read(fields: &mut Fields) -> Option<Place>
+    fn read(fields: &mut Fields) -> Option<TransformPlace>
         ensures found { IfSome result (λ place. unread fields.old ≡ place_before place (unread fields.new)) }
         ensures later { length (unread fields.new) ≤ length (unread fields.old) }
     {
@@ -89,7 +89,7 @@ impl Place {
         let cell_y = fields.two()?;
         let unit_x = fields.two()?;
         let unit_y = fields.two()?;
-        Some(Place {
+        Some(TransformPlace {
             x,
             y,
             cell_x,
@@ -110,7 +110,7 @@ pub struct Edge {
     angle_step: i8,
     edge_filter: u8,
     sheet: Sheet,
-    place: Place,
+    place: TransformPlace,
     left: u8,
     above: u8,
     margins: Margins,
@@ -138,7 +138,7 @@ impl Edge {
         let angle_step = fields.signed()?;
         let edge_filter = fields.byte()?;
         let sheet = Sheet::read(fields)?;
-        let place = Place::read(fields)?;
+        let place = TransformPlace::read(fields)?;
         let left = fields.byte()?;
         let above = fields.byte()?;
         let margins = Margins::read(fields)?;

@@ -5,7 +5,7 @@ ghost use Rattle.av1_replay.specs.Fields.{unread};
 ghost use Rattle.av1_replay.specs.Rows.{depth_of};
 
 use crate::answer::Answer;
-use crate::called::{Called, Sides};
+use crate::called::{BlockSides, Called};
 use crate::drawn::Numbers;
 use crate::error::CallFault;
 use crate::fields::Fields;
@@ -115,7 +115,7 @@ impl Intra {
     {
         let drawn: Drawn<T> = self.draw(alloc, &mut Numbers::new(self.seed))?;
         let mut samples = drawn.samples;
-        let sides = Sides {
+        let sides = BlockSides {
             left: &drawn.left,
             corner: drawn.corner,
             above: &drawn.above,
@@ -165,7 +165,7 @@ impl FromLuma {
         let differences = numbers.signed::<i16>(alloc, intra.size.area(), self.drawn)?;
         let drawn: Drawn<T> = intra.draw(alloc, &mut numbers)?;
         let mut samples = drawn.samples;
-        let sides = Sides {
+        let sides = BlockSides {
             left: &drawn.left,
             corner: drawn.corner,
             above: &drawn.above,

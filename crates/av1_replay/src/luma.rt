@@ -21,7 +21,7 @@ const BEHIND: usize = 4;
 
 /// A block of chroma, and drawn luma over it.
 #[derive(Clone, Copy)]
-pub struct Luma {
+pub struct DrawnLuma {
     pub(crate) format: Format,
     block_size: u8,
     xdec: u8,
@@ -33,9 +33,9 @@ pub struct Luma {
     seed: u32,
 }
 
-impl Luma {
+impl DrawnLuma {
     /// The next one.
-    pub fn read(fields: &mut Fields) -> Option<Luma>
+    pub fn read(fields: &mut Fields) -> Option<DrawnLuma>
         ensures found { IfSome result (λ luma. unread fields.old ≡ luma_before luma (unread fields.new)) }
         ensures later { length (unread fields.new) ≤ length (unread fields.old) }
     {
@@ -48,7 +48,7 @@ impl Luma {
         let margins = Margins::read(fields)?;
         let way = Way::read(fields)?;
         let seed = fields.four()?;
-        Some(Luma {
+        Some(DrawnLuma {
             format,
             block_size,
             xdec,

@@ -20,7 +20,7 @@ use std::alloc::Global;
 
 /// The residue of drawn coefficients, added to drawn samples.
 #[derive(Clone, Copy)]
-pub struct Transform {
+pub struct DrawnTransform {
     size: TxSize,
     kind: TxType,
     pub(crate) format: Format,
@@ -32,12 +32,12 @@ pub struct Transform {
     ghost fits: { drawn.bits ≤ depth_of format + 8 },
 }
 
-impl Transform {
+impl DrawnTransform {
     ghost use Rattle.av1_replay.specs.Calls.{transform_before};
 
     /// The next one: a type that its size has, and coefficients of at most 8 bits more than the depth.
     #[tactic(auto, using(crate::proofs::Numbered::size_numbered, crate::proofs::Numbered::type_numbered))]
-    pub fn read(fields: &mut Fields) -> Option<Transform>
+    pub fn read(fields: &mut Fields) -> Option<DrawnTransform>
         ensures found { IfSome result (λ transform. unread fields.old ≡ transform_before transform (unread fields.new)) }
         ensures later { length (unread fields.new) ≤ length (unread fields.old) }
     {
@@ -50,7 +50,7 @@ impl Transform {
         if !has_type(size, kind) || format.depth() + 8 < drawn.bits {
             return None;
         }
-        Some(Transform {
+        Some(DrawnTransform {
             size,
             kind,
             format,

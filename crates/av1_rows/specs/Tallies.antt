@@ -2,7 +2,7 @@
 use Rattle.std.specs.Prelude.{ℕ, List, Option, Some, None, Bool, set, get_or, replicate, fold, if◌then◌else◌}
 use Rattle.av1_lists.specs.Counts.{counted}
 use Rattle.av1_rows.specs.Rows.{Told, Replayed, told_by, wanted_by, kinds}
-use Rattle.av1_rows.specs.declared.tally.Difference.{Difference}
+use Rattle.av1_rows.specs.declared.tally.DifferingRow.{DifferingRow}
 use Rattle.av1_rows.specs.declared.tally.Tally.{Tally}
 
 -- a row that differs: its number, its kind, what came and what was wanted
@@ -20,7 +20,7 @@ pub record Counts : Type 0 where
   pub first : Option Differs
 
 -- the counts that a tally holds
-abbrev pub differs_by : Difference → Differs
+abbrev pub differs_by : DifferingRow → Differs
 differs_by difference = record {
   row = difference.row;
   kind = difference.kind;
@@ -28,7 +28,7 @@ differs_by difference = record {
   wanted = told_by difference.wanted;
 }
 
-abbrev pub first_by : Option Difference → Option Differs
+abbrev pub first_by : Option DifferingRow → Option Differs
 first_by None = None
 first_by (Some difference) = Some (differs_by difference)
 

@@ -11,7 +11,7 @@ ghost use Rattle.av1_rows.specs.Tallies.{counts_by, differs_by};
 
 use crate::error::RowsError;
 use crate::row::KINDS;
-use crate::tally::{Difference, Tally};
+use crate::tally::{DifferingRow, Tally};
 use av1_recon::{Sink, plain_line, say};
 use av1_replay::Answer;
 use av1_streams::Line;
@@ -72,7 +72,7 @@ fn kind_line(kind: usize, rows: u64, differ: u64) -> Line
     line
 }
 
-fn push_difference(first: &Difference, report: &mut Vec<u8>) -> Result<(), AllocError>
+fn push_difference(first: &DifferingRow, report: &mut Vec<u8>) -> Result<(), AllocError>
     ensures { OnOk result (report.new.items ≡ report.old.items ++ first_text (Some (differs_by first.now))) }
 {
     report.extend_from_slice(row_line(first.row, first.kind).as_bytes())?;

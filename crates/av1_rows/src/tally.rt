@@ -10,7 +10,7 @@ use std::alloc::{AllocError, Global};
 
 /// A row that differs.
 #[derive(Drop)]
-pub struct Difference {
+pub struct DifferingRow {
     /// Its number, from 0.
     pub row: u64,
     /// The number of its kind.
@@ -29,7 +29,7 @@ pub struct Tally {
     /// How many of each kind differ.
     pub differ: [u64; KINDS],
     /// The first one that does.
-    pub first: Option<Difference>,
+    pub first: Option<DifferingRow>,
 }
 
 impl Tally {
@@ -70,7 +70,7 @@ impl Tally {
         self.differ[kind] = self.differ[kind].saturating_add(1);
         if self.first.is_none() {
             let wanted = wanted.to_answer(alloc)?;
-            self.first = Some(Difference {
+            self.first = Some(DifferingRow {
                 row,
                 kind,
                 came,

@@ -5,16 +5,16 @@ use Rattle.av1_tile.specs.Canvas.{Component}
 use Rattle.av1_tile.specs.Output.{visible}
 use Rattle.av1_tile.specs.Walk.{AreFrame, samples_of}
 use Rattle.av1_tiles.specs.declared.joined.Frame.{Frame}
-use Rattle.av1_tiles.specs.declared.joined.Samples.{Samples}
-use Rattle.av1_tiles.specs.declared.joined.Samples.TheVariants.{Bytes, Words}
+use Rattle.av1_tiles.specs.declared.joined.FrameSamples.{FrameSamples}
+use Rattle.av1_tiles.specs.declared.joined.FrameSamples.TheVariants.{Bytes, Words}
 
 -- the numbers of its samples, by column and row
-abbrev pub samples_in : Samples → Component → ℕ → ℕ → ℕ
+abbrev pub samples_in : FrameSamples → Component → ℕ → ℕ → ℕ
 samples_in (Bytes planes) = samples_of (λ v. v) planes
 samples_in (Words planes) = samples_of (λ v. v) planes
 
 -- the planes have the sides that the header says, and one byte a sample exactly at depth 8
-abbrev pub HavePlanes : Header → Samples → Type 0
+abbrev pub HavePlanes : Header → FrameSamples → Type 0
 HavePlanes h (Bytes planes) = AreFrame h planes × (h.depth ≡ 8)
 HavePlanes h (Words planes) = AreFrame h planes × (h.depth ≢ 8)
 

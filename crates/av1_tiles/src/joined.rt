@@ -16,13 +16,12 @@ use crate::frame::reconstruct_in;
 use av1_blocks::OutOfMemory;
 use av1_frame::{FrameInvariants, Pixel};
 use av1_plan::Header;
-use av1_tile::stored_references;
-use av1_tile::{Planes, WalkMemory};
+use av1_tile::{Planes, WalkMemory, stored_references};
 use std::alloc::Global;
 
 /// The planes of a frame, in samples as narrow as its depth allows.
 #[derive(Drop)]
-pub enum Samples {
+pub enum FrameSamples {
     /// One byte a sample, at depth 8.
     Bytes(Planes<u8>),
     /// Two bytes a sample, at depths 10 and 12.
@@ -35,7 +34,7 @@ pub struct Frame {
     /// Its settings.
     pub header: Header,
     /// Its planes.
-    pub samples: Samples,
+    pub samples: FrameSamples,
 }
 
 /// What an error of tile number `tile` is for its grid, which has fewer than 65,536 tiles.
@@ -107,8 +106,8 @@ pub fn join_frame(alloc: Global, file: &TileFile<'_>) -> Result<Frame, TilesErro
 {
     let header = file.front.header;
     let samples = match header.depth {
-        8 => Samples::Bytes(join_tiles(alloc, file)?),
-        _ => Samples::Words(join_tiles(alloc, file)?),
+        8 => FrameSamples::Bytes(join_tiles(alloc, file)?),
+        _ => FrameSamples::Words(join_tiles(alloc, file)?),
     };
     Ok(Frame { header, samples })
 }

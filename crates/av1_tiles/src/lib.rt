@@ -37,7 +37,7 @@ pub use container::read_tiles;
 pub use error::{TileError, TilesError};
 pub use file::{Front, TileFile};
 pub use frame::{TilePicture, place_tile, reconstruct_alone, reconstruct_in};
-pub use joined::{Frame, Samples, join_frame, join_tiles};
+pub use joined::{Frame, FrameSamples, join_frame, join_tiles};
 pub use laws::{grids_are_texts, outcomes_are_one, tiles_are_isolated};
 pub use reconstruct::reconstruct_tiles;
 pub use tile::{parse_tile, read_tile, tile_area};

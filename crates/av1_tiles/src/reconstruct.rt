@@ -13,7 +13,7 @@ ghost use Rattle.av1_tiles.specs.declared.error.TilesError.TheVariants.{Memory};
 
 use crate::container::read_tiles;
 use crate::error::TilesError;
-use crate::joined::{Frame, Samples, join_frame};
+use crate::joined::{Frame, FrameSamples, join_frame};
 use av1_recon::write_frame;
 use av1_streams::{Sink, Source, WriteFault, read_plan_bytes};
 use std::alloc::Global;
@@ -74,7 +74,7 @@ fn write_samples<W: Sink>(frame: &Frame, sink: &mut W) -> Result<(), WriteFault>
     ensures cause { HasCause (W.faults sink.old) (W.faults sink.new) result }
 {
     match &frame.samples {
-        Samples::Bytes(planes) => write_frame(&frame.header, planes, sink),
-        Samples::Words(planes) => write_frame(&frame.header, planes, sink),
+        FrameSamples::Bytes(planes) => write_frame(&frame.header, planes, sink),
+        FrameSamples::Words(planes) => write_frame(&frame.header, planes, sink),
     }
 }

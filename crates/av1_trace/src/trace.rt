@@ -32,7 +32,7 @@ pub struct Trace<'a> {
 
 // The parts of a trace, neither of which is read yet.
 #[derive(Clone, Copy)]
-struct Parts<'a> {
+struct TraceParts<'a> {
     // The bytes of its plan.
     plan: &'a [u8],
     // The bytes of its planes.
@@ -129,7 +129,7 @@ fn malformed(at: usize) -> TraceError
 }
 
 // The plan and the planes of a trace.
-fn trace_parts(bytes: &[u8]) -> Result<Parts<'_>, TraceError>
+fn trace_parts(bytes: &[u8]) -> Result<TraceParts<'_>, TraceError>
     requires short { length bytes.now ≤ max_trace_bytes }
     ensures found { IfOk result (λ parts. HasParts bytes.now parts.plan.now parts.planes.now) }
     ensures refused { IfErr result (λ e. (at : ℕ) × (e ≡ Malformed at) × IsMalformedAt bytes.now at) }
@@ -148,7 +148,7 @@ fn trace_parts(bytes: &[u8]) -> Result<Parts<'_>, TraceError>
         return Err(malformed(HEAD));
     }
     let (plan, planes) = bytes[HEAD..].split_at(len);
-    Ok(Parts { plan, planes })
+    Ok(TraceParts { plan, planes })
 }
 
 // The valid plan that these bytes are.

@@ -1,10 +1,10 @@
 -- The words after the program's name.
 use Rattle.std.specs.Prelude.{ℕ, List, [], ◌∷◌, Option, Some, None, bytes_eq, codes, if◌then◌else◌}
-use Rattle.av1_view.specs.declared.command.Command.{Command}
-use Rattle.av1_view.specs.declared.command.Command.TheVariants.{Plan, Trace, Sequence, Tiles}
+use Rattle.av1_view.specs.declared.command.ViewCommand.{ViewCommand}
+use Rattle.av1_view.specs.declared.command.ViewCommand.TheVariants.{Plan, Trace, Sequence, Tiles}
 
 -- the command of this name
-unfoldable pub named : List ℕ → Option Command
+unfoldable pub named : List ℕ → Option ViewCommand
 named name =
     if bytes_eq name (codes "trace")
     then Some Trace
@@ -15,7 +15,7 @@ named name =
     else None
 
 -- what the words ask for, each word given by its bytes; None where they are no command
-abbrev pub command_of : List (List ℕ) → Option Command
+abbrev pub command_of : List (List ℕ) → Option ViewCommand
 command_of [] = Some Plan
 command_of (word ∷ []) = named word
 command_of (word ∷ other ∷ words) = None

@@ -4,7 +4,7 @@ ghost use Rattle.av1_view.specs.Commands.{command_of, named};
 
 /// What the program is asked to show.
 #[derive(Clone, Copy, Debug, PartialEq, Eq)]
-pub enum Command {
+pub enum ViewCommand {
     /// A plan.
     Plan,
     /// A trace: a plan, and the planes that another encoder left of it.
@@ -15,31 +15,31 @@ pub enum Command {
     Tiles,
 }
 
-impl Command {
+impl ViewCommand {
     /// What the words after the program's name ask for, if they are a command.
-    pub fn from_words(words: &[String]) -> Option<Command>
+    pub fn from_words(words: &[String]) -> Option<ViewCommand>
         ensures { result ≡ command_of (map string_bytes words.now) }
     {
         match words {
-            [] => Some(Command::Plan),
-            [word] => Command::named(word.as_str()),
+            [] => Some(ViewCommand::Plan),
+            [word] => ViewCommand::named(word.as_str()),
             _ => None,
         }
     }
 
     // The command of this name.
     #[tactic(auto, unfolding(crate::specs::Commands::named))]
-    fn named(name: &str) -> Option<Command>
+    fn named(name: &str) -> Option<ViewCommand>
         ensures { result ≡ named name.now }
     {
         if name == "trace" {
-            return Some(Command::Trace);
+            return Some(ViewCommand::Trace);
         }
         if name == "sequence" {
-            return Some(Command::Sequence);
+            return Some(ViewCommand::Sequence);
         }
         if name == "tiles" {
-            return Some(Command::Tiles);
+            return Some(ViewCommand::Tiles);
         }
         None
     }

@@ -13,10 +13,10 @@ ghost use Rattle.av1_view.specs.Commands.{command_of};
 ghost use Rattle.av1_view.specs.FilePages.{sequence_page_task, tiles_page_task};
 ghost use Rattle.av1_view.specs.Shown.{plan_page};
 ghost use Rattle.av1_view.specs.TracePages.{trace_page_task};
-ghost use Rattle.av1_view.specs.declared.command.Command.TheVariants.{Plan, Trace, Sequence, Tiles};
+ghost use Rattle.av1_view.specs.declared.command.ViewCommand.TheVariants.{Plan, Trace, Sequence, Tiles};
 
 use crate::answer::report_trace;
-use crate::command::Command;
+use crate::command::ViewCommand;
 use crate::sequence::view_sequence;
 use crate::tiles::view_tiles;
 use crate::trace::view_trace;
@@ -78,11 +78,11 @@ pub fn run_view<R: Source, W: Sink, E: Sink>(
     ensures tiles_ends { command_of (map string_bytes words.now) ≡ Some Tiles →
         EndsWith IsDone tiles_page_task R.left R.faults W.taken W.faults source.old source.new out.old out.new result }
 {
-    match Command::from_words(words) {
-        Some(Command::Plan) => report(view_plan(alloc, source, out), err),
-        Some(Command::Trace) => report_trace(view_trace(alloc, source, out), err),
-        Some(Command::Sequence) => report_sequence(view_sequence(alloc, source, out), err),
-        Some(Command::Tiles) => report_tiles(view_tiles(alloc, source, out), err),
+    match ViewCommand::from_words(words) {
+        Some(ViewCommand::Plan) => report(view_plan(alloc, source, out), err),
+        Some(ViewCommand::Trace) => report_trace(view_trace(alloc, source, out), err),
+        Some(ViewCommand::Sequence) => report_sequence(view_sequence(alloc, source, out), err),
+        Some(ViewCommand::Tiles) => report_tiles(view_tiles(alloc, source, out), err),
         None => {
             say(b"usage: view [trace | sequence | tiles]\n", err);
             NO_COMMAND

@@ -38,7 +38,7 @@ pub fn view_plan<R: Source, W: Sink>(
 
 /// What the page of a plan shows, in memory.
 #[derive(Drop)]
-pub struct Parts {
+pub struct PageParts {
     /// The plan's bytes.
     pub plan: Vec<u8>,
     /// Its planes.
@@ -52,7 +52,7 @@ pub struct Parts {
 /// # Errors
 ///
 /// `OutOfMemory` where memory runs out.
-pub fn gather(alloc: Global, plan: &Plan) -> Result<Parts, OutOfMemory>
+pub fn gather(alloc: Global, plan: &Plan) -> Result<PageParts, OutOfMemory>
     requires valid { first_fault (plan_value plan.now) ≡ None }
     ensures plan { IfOk result (λ parts. parts.plan.items ≡ plan_text (plan_value plan.now)) }
     ensures planes { IfOk result (λ parts. parts.planes.items ≡ planes_of (plan_value plan.now)) }
@@ -62,7 +62,7 @@ pub fn gather(alloc: Global, plan: &Plan) -> Result<Parts, OutOfMemory>
     let row = row_len(plan.header());
     let predictions = pack(alloc, row, &made.planes, &made.predictions)?;
     let Reconstructed { planes, .. } = made;
-    Ok(Parts {
+    Ok(PageParts {
         plan: write_plan(alloc, plan)?,
         planes,
         predictions,

@@ -2,7 +2,7 @@ use Rattle.std.proofs.Common.{◌≡◌, ◌+◌, ◌<◌, ◌≤◌, length, ma
 use Rattle.av1_blocks.specs.Transforms.{coded_area}
 use Rattle.av1_dct.specs.Arithmetic.{at, FitsBits}
 use Rattle.av1_replay.proofs.Fitting.{fits_at}
-use Rattle.av1_replay.proofs.transform.Transform.replay_as.Goals as goal
+use Rattle.av1_replay.proofs.transform.DrawnTransform.replay_as.Goals as goal
 
 pub inverse_transform_add_to-requires-clause-input_fits : goal.inverse_transform_add_to-requires-clause-input_fits
 inverse_transform_add_to-requires-clause-input_fits g c =
