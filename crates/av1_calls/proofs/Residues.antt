@@ -23,7 +23,6 @@ use Rattle.av1_itx.specs.Networks.{network}
 use Rattle.av1_itx.specs.Residue.{column_network, column_power, column_range, column_shift, column_value, is_lossless, residue, residue_by, row_input}
 use Rattle.av1_itx.specs.Residue.{row_power}
 use Rattle.av1_itx.specs.Residue.{row_range, row_value, transformed_column, transformed_row}
-use Rattle.av1_itx.proofs.NoWrap.{lossless_residue, shallow_residue}
 use Rattle.av1_itx.proofs.Passes.{input_past, row_is, row_past}
 use Rattle.av1_lists.proofs.Lists.{by_index-same}
 use Rattle.av1_calls.specs.Transforms.{cut_to}
@@ -60,16 +59,6 @@ module _ (by_av1 : Bool) (size : TxSize) (type : TxType) (depth : ℕ) (xs ys : 
   residue_same r c =
       ap (λ zs. round_shift (at (network (column_kind type) (column_range depth) (column_power size) zs) r) (column_shift type))
       (by_index-same (tx_height size) _ _ (λ y _. ap (column_value by_av1 size type depth) (row_same y c)))
-
--- at a depth of 8 the residue of coefficients of 16 bits is the same by both rules
-pub shallow_same : (size : TxSize) (type : TxType) (cs : List ℤ) (r c : ℕ) → (type ≡ WHT_WHT → size ≡ TX_4X4) → All (FitsBits 17) cs →
-    residue size type 8 cs r c ≡ residue_by true size type 8 cs r c
-shallow_same size type cs r c small few =
-    (elim type as (λ t. (t ≡ WHT_WHT → size ≡ TX_4X4) → residue size t 8 cs r c ≡ residue_by true size t 8 cs r c) [
-      | WHT_WHT ↦ (λ told. subst (λ s. residue s WHT_WHT 8 cs r c ≡ residue_by true s WHT_WHT 8 cs r c) (sym (told refl))
-          (sym (lossless_residue true 8 cs r c few)))
-      | _ ↦ (λ told. sym (shallow_residue true size _ 8 cs r c (omega arith) (λ e. let no : false ≡ true = ap is_lossless e in cc)))
-    ]) small
 
 -- a coefficient of the cut list is the one that is cut, and 0 behind the end
 cut_at : (bits : ℕ) (coefficients : List ℤ) (i : ℕ) → at (cut_to bits coefficients) i ≡ clamp_value (at coefficients i) bits

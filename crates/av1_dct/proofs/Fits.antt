@@ -75,16 +75,6 @@ all-fit b w xs h all = λ i.
       | inr g ↦ subst P (sym (get_or_past xs i (pos 0) g)) (zero_fits w)
     ]
 
--- one more number of a list whose first i fit
-pub fits_more : (b : ℕ) (xs : List ℤ) (i k : ℕ) (x d : ℤ) → i < length xs → ((j : ℕ) (e : ℤ) → j < i → FitsBits b (get_or xs j e)) → FitsBits b x → k < i + 1 →
-    FitsBits b (get_or (set xs i x) k d)
-fits_more b xs i k x d h below here lt =
-    let P : ℤ → Type 0 = λ z. FitsBits b z in
-    elim (cases_lt k i) [
-      | inl less ↦ subst P (let e : get_or xs k d ≡ get_or (set xs i x) k d = grind (arith, get_or-set_other) in e) (below k d less)
-      | inr ge ↦ subst P (let e : x ≡ get_or (set xs i x) k d = grind (arith, get_or-set_at) in e) here
-    ]
-
 pub outer_turn-fits : (k : ℕ) (v : List ℤ) (i : ℕ) → FitsBits 20 (outer_turn k v i)
 unfolding outer_turn_with
 outer_turn-fits k v i = cond-fits _ _ _ (half_btf-fits _ _ _ _) (half_btf-fits _ _ _ _)

@@ -261,15 +261,3 @@ read_on n start k lanes values room f len same fit = (
     λ q lt. elim (cases_lt q k) [ inl b ↦ fit q b | inr b ↦ (let P : ℕ → Type 0 = λ p. FitsSigned w32 (at values (start + p)) in subst P (omega arith) f) ],
   ),
 )
-
--- what was computed from two vectors whose lanes were read, into a vector whose lanes are read
-pub restored : (n : ℕ) (F : ℤ → ℤ → ℤ) (x y r : List ℤ) (i : ℕ) → i < n → Bits n (map (of_z w32) x) → Bits n (map (of_z w32) y) → Bits n (map (of_z w32) r)
-    → lane_of_vector r i ≡ F (lane_of_vector (map (to_z w32) (map (of_z w32) x)) i) (lane_of_vector (map (to_z w32) (map (of_z w32) y)) i)
-    → lane_of_vector (map (to_z w32) (map (of_z w32) r)) i ≡ F (lane_of_vector x i) (lane_of_vector y i)
-restored n F x y r i h bx by br is =
-    stored n r i h br ∙ is ∙ ap (λ z. F z (lane_of_vector (map (to_z w32) (map (of_z w32) y)) i)) (stored n x i h bx)
-    ∙ ap (F (lane_of_vector x i)) (stored n y i h by)
-
-pub stored-fits : (n : ℕ) (x : List ℤ) (i : ℕ) → i < n → Bits n (map (of_z w32) x) → FitsBits 20 (lane_of_vector x i) →
-    FitsBits 20 (lane_of_vector (map (to_z w32) (map (of_z w32) x)) i)
-stored-fits n x i h bx fit = subst (FitsBits 20) (sym (stored n x i h bx)) fit

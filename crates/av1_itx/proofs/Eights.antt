@@ -50,13 +50,6 @@ lanes-fit lane h range i n f line rest en len is fit =
     let e : column lane i (take h (line ++ rest)) ≡ by_index n f = ap (column lane i) (take_at line rest h len) ∙ is in
     subst P (sym e) (by_index-all (FitsBits range) _ _ (λ r l. fit r (omega arith)))
 
--- all of a lane
-pub whole_lane : {W : Type 0} (lane : W → ℕ → ℤ) (i h : ℕ) (line rest : List W) → length line ≡ h →
-    take h (column lane i (take h (line ++ rest))) ≡ column lane i (take h (line ++ rest))
-whole_lane {W} lane i h line rest len =
-    take_all h (column lane i (take h (line ++ rest)))
-    (omega (arith, length-map (take h (line ++ rest)) (λ (x : W). lane x i), ap length (take_at line rest h len)))
-
 -- a lane that was gathered and run
 pub lane_run : {W : Type 0} (lane : W → ℕ → ℤ) (h i n : ℕ) (made : List ℤ → List ℤ) (f g : ℕ → ℤ) (line rest out rest2 : List W) → n ≡ h → length line ≡ h →
     length out ≡ h
@@ -85,10 +78,6 @@ dct_is range k x = refl
 pub cosine_value : (kind : TxType1D) (range k r : ℕ) (xs : List ℤ) (z : ℤ) → is_cosine kind ≡ true → z ≡ at (cosine range k xs) r →
     z ≡ at (network kind range k xs) r
 cosine_value kind range k r xs z hk is = is ∙ ap (λ zs. at zs r) (dct_is range k xs ∙ ap (λ t. network t range k xs) (sym (cosine_kind kind hk)))
-
--- a cosine transform that there is has one of five lengths
-pub cosine_rounds : (kind : TxType1D) (k : ℕ) → is_cosine kind ≡ true → HasNetwork kind k → (1 ≤ k) × (k ≤ 5)
-cosine_rounds kind k told has = subst (λ t. HasNetwork t k) (cosine_kind kind told) has
 
 -- a group that is one of the w / m has its columns, and all of them have all
 pub group_room : (m g w : ℕ) → m * (w / m) ≡ w → g < w / m → m * g + m ≤ w
@@ -136,23 +125,6 @@ groups_written m l g columns buffer old F is whole within end before =
     let n = columns.count in
     let whole_m : m * (n / m) ≡ n = subst (λ (k : ℕ). k * (n / k) ≡ n) (sym is) whole in
     column_written n columns.width (m * g) columns.height buffer old F before (all_groups m g n whole_m end) within
-
--- one more group of m columns, where what was done to it is told of the buffer as it was before
-pub groups_next : (w c d m h : ℕ) (F G X : ℕ → ℕ → ℤ) (old new : List ℤ) → d ≡ c + m
-    → ((r q : ℕ) → r < h → q < w → at old (r * w + q) ≡ cond (ltb q c) (F r q) (G r q))
-    → ((r q : ℕ) → r < h → q < w → at new (r * w + q) ≡ cond (leb c q && ltb q (c + m)) (X r q) (at old (r * w + q)))
-    → ((r q : ℕ) → r < h → c ≤ q → q < c + m → X r q ≡ F r q)
-    → (r q : ℕ) → r < h → q < w → at new (r * w + q) ≡ cond (ltb q d) (F r q) (G r q)
-groups_next w c d m h F G X old new ed before now here = λ r q hr hq.
-    let a = before r q hr hq in
-    let b = now r q hr hq in
-    elim (cases_lt q c) [
-      | inl lo ↦ grind (arith, nat_tests)
-      | inr lo ↦ elim (cases_lt q (c + m)) [
-        | inl hi ↦ (let u = here r q hr lo hi in grind (arith, nat_tests))
-        | inr hi ↦ grind (arith, nat_tests)
-      ]
-    ]
 
 -- of no group so far
 pub none_done : (m q : ℕ) (x y : ℤ) → y ≡ cond (ltb q (m * 0)) x y

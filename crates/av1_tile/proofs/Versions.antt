@@ -20,7 +20,7 @@ use Rattle.av1_inter.specs.Filters.{mode_along}
 use Rattle.av1_inter.specs.Prediction.{compound_prediction, single_prediction}
 use Rattle.av1_inter.specs.Reference.{is_reference, vector_of, reference_of as reference_in}
 use Rattle.av1_itx.specs.Residue.{is_lossless, residue, residue_by}
-use Rattle.av1_itx.proofs.NoWrap.{lossless_residue, shallow_residue}
+use Rattle.av1_itx.proofs.NoWrap.{shallow_same}
 use Rattle.av1_plan.specs.declared.header.Header.{Header}
 use Rattle.av1_plan.specs.Geometry.{coded_width, coded_height, xdec, ydec, plane_width, plane_height, carries_chroma, covers_plane, plane_place, plane_size}
 use Rattle.av1_plan.specs.Geometry.{plane_tx_size, plane_area}
@@ -186,17 +186,7 @@ stays true SWITCHABLE side other = refl
 pub earlier_versions_keep_the_short_filter : EarlierKeepFilter
 earlier_versions_keep_the_short_filter h few side = ap (λ (b : Bool). mode_along b h.filter side) (not_third h.version few)
 
--- residues at depths up to 10
-shallow_same : (b : Bool) (size : TxSize) (type : TxType) (depth : ℕ) (cs : List ℤ) (r c : ℕ) → depth ≤ 10
-    → (type ≡ WHT_WHT → (size ≡ TX_4X4) × All (FitsBits 17) cs) → residue_by b size type depth cs r c ≡ residue size type depth cs r c
-shallow_same b size type depth cs r c shallow few =
-    (elim type as (λ t. (t ≡ WHT_WHT → (size ≡ TX_4X4) × All (FitsBits 17) cs) → residue_by b size t depth cs r c ≡ residue size t depth cs r c) [
-      | WHT_WHT ↦ (λ told. subst (λ s. residue_by b s WHT_WHT depth cs r c ≡ residue s WHT_WHT depth cs r c) (sym (told refl).0)
-          (lossless_residue b depth cs r c (told refl).1))
-      | _ ↦ (λ told. shallow_residue b size _ depth cs r c shallow (λ e. let no : false ≡ true = ap is_lossless e in cc))
-    ]) few
-
--- and those that a step adds
+-- residuals that a step adds, at depths up to 10
 added_same : (version : ℕ) (h : Header) (s : Step) → h.depth ≤ 10 → HasFewBits s → AddsTheSame version h s
 unfolding block_residue
 added_same version h (predict block n a) shallow few = few
