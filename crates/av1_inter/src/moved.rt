@@ -18,7 +18,7 @@ use av1_frame::{FrameInvariants, Pixel, Plane, PlaneOffset, PlaneRegionMut, Plan
 
 /// A rectangle of a plane that is predicted: where it begins, counted from the first visible sample, and its sides.
 #[derive(Clone, Copy)]
-pub(crate) struct PlaneBlock {
+pub(crate) struct MovedArea {
     pub(crate) at: PlaneOffset,
     pub(crate) width: usize,
     pub(crate) height: usize,
@@ -75,7 +75,7 @@ fn frame_filter<T: Pixel>(fi: &FrameInvariants<T>, length: usize) -> FilterMode
 pub(crate) fn put_moved<T: Pixel>(
     dst: &mut PlaneRegionMut<'_, T>,
     plane: &Plane<T>,
-    block: PlaneBlock,
+    block: MovedArea,
     mv: MotionVector,
     fi: &FrameInvariants<T>,
 )
@@ -114,7 +114,7 @@ pub(crate) fn put_moved<T: Pixel>(
 pub(crate) fn prepare_moved<T: Pixel>(
     tmp: &mut [i16],
     plane: &Plane<T>,
-    block: PlaneBlock,
+    block: MovedArea,
     mv: MotionVector,
     fi: &FrameInvariants<T>,
 )

@@ -14,7 +14,7 @@ ghost use Rattle.av1_inter.specs.Reference.{frame_filter, is_reference, IsServed
 
 use crate::average::mc_avg;
 use crate::buffers::InterCompoundBuffers;
-use crate::moved::{PlaneBlock, prepare_moved, put_moved};
+use crate::moved::{MovedArea, prepare_moved, put_moved};
 use av1_blocks::{MotionVector, PredictionMode, RefType};
 use av1_frame::{FrameInvariants, Pixel, PlaneOffset, PlaneRegionMut, TileRect};
 
@@ -78,7 +78,7 @@ pub fn predict_inter_single<T: Pixel>(
 {
     prove!(!mode.is_intra());
     let at = tile_rect.to_frame_plane_offset(po);
-    let block = PlaneBlock { at, width, height };
+    let block = MovedArea { at, width, height };
     if let Some(plane) = fi.slot(slot_of(fi, ref_frame), p) {
         put_moved(dst, plane, block, mv, fi);
     }
@@ -89,7 +89,7 @@ fn prepare_from<T: Pixel>(
     tmp: &mut [i16],
     fi: &FrameInvariants<T>,
     p: usize,
-    block: PlaneBlock,
+    block: MovedArea,
     reference: RefType,
     mv: MotionVector,
 )
@@ -115,7 +115,7 @@ fn predict_over<T: Pixel>(
     fi: &FrameInvariants<T>,
     p: usize,
     dst: &mut PlaneRegionMut<'_, T>,
-    block: PlaneBlock,
+    block: MovedArea,
     references: TwoReferences,
 )
     requires first_long { block.height * block.width ≤ length tmp1.old }
@@ -185,7 +185,7 @@ pub fn predict_inter_compound<T: Pixel>(
         fi,
         p,
         dst,
-        PlaneBlock { at, width, height },
+        MovedArea { at, width, height },
         references,
     );
 }

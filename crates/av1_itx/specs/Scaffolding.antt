@@ -9,7 +9,7 @@ use Rattle.av1_dct.specs.Operations.{half_btf}
 use Rattle.av1_frame.specs.Areas.{AreRows}
 use Rattle.av1_frame.specs.Arithmetic.{round_shift}
 use Rattle.av1_itx.specs.declared.block.Block.{Block}
-use Rattle.av1_itx.specs.declared.inverse.Place.{Place}
+use Rattle.av1_itx.specs.declared.inverse.StridedArea.{StridedArea}
 use Rattle.av1_itx.specs.declared.kinds.TxType1D.{TxType1D}
 use Rattle.av1_itx.specs.declared.columns.Columns.{Columns}
 use Rattle.av1_itx.specs.Kinds.{column_kind, row_kind, row_kind_by}
@@ -86,7 +86,7 @@ AreRowsDone block coefficients buffer = (r c : ℕ) → r < tx_height block.tx_s
     (at (transformed_row block.by_av1 block.tx_size block.tx_type block.bd coefficients r) c)
 
 -- A rectangle among so many samples that has the sides of a block.
-pub record IsPlaceFor (block : Block) (place : Place) (count : ℕ) : Type 0 where
+pub record IsPlaceFor (block : Block) (place : StridedArea) (count : ℕ) : Type 0 where
   pub rows : AreRows place.stride place.area count
   pub width : place.area.width ≡ tx_width block.tx_size
   pub height : place.area.height ≡ tx_height block.tx_size

@@ -92,7 +92,7 @@ fn column_shift_of(tx_type: TxType) -> usize
 
 // A rectangle of a slice whose rows stand `stride` apart.
 #[derive(Clone, Copy)]
-struct Place {
+struct StridedArea {
     stride: usize,
     area: StoredArea,
 }
@@ -103,7 +103,7 @@ fn add_single<T: Pixel>(
     count: &mut LaneCount,
     input: &[T::Coeff],
     samples: &mut [T],
-    place: Place,
+    place: StridedArea,
     block: Block,
 )
     requires depth { block.bd ≤ T.BITS }
@@ -131,7 +131,7 @@ fn add_block<T: Pixel>(
     count: &mut LaneCount,
     input: &[T::Coeff],
     samples: &mut [T],
-    place: Place,
+    place: StridedArea,
     block: Block,
 )
     requires depth { block.bd ≤ T.BITS }
@@ -157,7 +157,7 @@ fn add_over<T: Pixel>(
     count: &mut LaneCount,
     input: &[T::Coeff],
     samples: &mut [T],
-    place: Place,
+    place: StridedArea,
     block: Block,
 )
     requires depth { block.bd ≤ T.BITS }
@@ -224,7 +224,7 @@ pub fn inverse_transform_add_to<T: Pixel>(
         &mut scratch.count,
         input,
         samples,
-        Place { stride, area },
+        StridedArea { stride, area },
         Block {
             tx_size,
             tx_type,
@@ -262,7 +262,7 @@ pub fn inverse_transform_add_in<T: Pixel>(
         &mut LaneCount::new(),
         input,
         samples,
-        Place { stride, area },
+        StridedArea { stride, area },
         block,
     );
 }
