@@ -34,4 +34,4 @@ pub use edge::{EdgePlaces, IntraEdge};
 pub use fill::{base, extend_from, fill_with};
 pub use intra_edges::{get_intra_edges, get_intra_edges_to};
 pub use laws::prepared_edges_lie_within;
-pub use parts::effective;
+pub use parts::{angle, effective, step_of};

@@ -36,8 +36,8 @@ pub fn effective(mode: PredictionMode, x: usize, y: usize) -> PredictionMode
     }
 }
 
-/// The steps that a directional mode turns.
-fn step_of(param: IntraParam) -> i8
+/// The steps of 3 degrees that a directional mode turns: 0 for a parameter of another kind.
+pub fn step_of(param: IntraParam) -> i8
     ensures { result ≡ step_of param }
 {
     match param {
@@ -46,8 +46,8 @@ fn step_of(param: IntraParam) -> i8
     }
 }
 
-/// The angle of a directional mode that turns `step` steps, in degrees.
-fn angle(mode: PredictionMode, step: i8) -> isize
+/// The angle of a directional mode that turns `step` steps of 3 degrees, in degrees.
+pub fn angle(mode: PredictionMode, step: i8) -> isize
     ensures { result ≡ angle mode step }
 {
     intra_mode_to_angle(mode) + isize::from(ANGLE_STEP) * isize::from(step)

@@ -4,7 +4,8 @@ ghost use Rattle.std.specs.Prelude.{◌≡◌};
 ghost use Rattle.av1_intra.specs.Angles.{derivative};
 ghost use Rattle.av1_intra.specs.Predicted.{alpha_of, angle_or_alpha};
 
-use av1_blocks::{ANGLE_STEP, IntraParam, PredictionMode, intra_mode_to_angle};
+use av1_blocks::{IntraParam, PredictionMode};
+use av1_edges::{angle, step_of};
 
 /// How far a line of the angle `p_angle`, in degrees, moves along an edge for each sample away from it, in 64ths of a
 /// sample; 0 for an angle that no directional mode asks for.
@@ -60,13 +61,8 @@ pub fn alpha_of(intra_param: IntraParam) -> i16
 pub fn angle_or_alpha(mode: PredictionMode, intra_param: IntraParam) -> isize
     ensures { result ≡ angle_or_alpha mode intra_param }
 {
-    let (step, alpha) = match intra_param {
-        IntraParam::AngleDelta(step) => (step, 0),
-        IntraParam::Alpha(alpha) => (0, alpha),
-        IntraParam::None => (0, 0),
-    };
     match mode {
-        PredictionMode::UV_CFL_PRED => isize::from(alpha),
-        _ => intra_mode_to_angle(mode) + isize::from(ANGLE_STEP) * isize::from(step),
+        PredictionMode::UV_CFL_PRED => isize::from(alpha_of(intra_param)),
+        _ => angle(mode, step_of(intra_param)),
     }
 }
