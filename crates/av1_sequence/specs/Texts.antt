@@ -47,8 +47,8 @@ IsBegun version run =
     ((values : List ℕ) × Spells (entry_head version) values (heads.Coded shown h) ×
     ((len : ℕ) × (len < 2 ^ 32) × (run ≡ text (entry_head version) values ++ length_text len)))))
 
--- The text of the first fields of n entries. Either there is no field, or fields of an entry that is not whole, or a whole
--- entry and then the first fields of the other entries.
+-- The text of the first fields of n entries. Either there is no field, or fields of an entry that is not whole, or a
+-- whole entry and then the first fields of the other entries.
 abbrev pub IsRun : (version n : ℕ) → List ℕ → Type 0
 IsRun version zero run = run ≡ []
 IsRun version (suc n) run =
