@@ -141,8 +141,8 @@ fn block_of(luma: LumaLeafBlock) -> Result<CflBlock, BadArgument>
 }
 
 /// Finds the block of chroma that is predicted from a block's luma, as `av1_cfl_ac_8` takes it. The result has the size
-/// of the chroma, and how many units of 4 columns and of 4 rows have no luma of their own. A unit has no luma of its
-/// own if no transform that begins in the visible plane codes it (`MaxLumaW` and `MaxLumaH` of the AV1 specification).
+/// of the chroma, and how many units of 4 columns and of 4 rows have no luma of their own. These are the units that no
+/// transform codes that begins in the visible plane. In the AV1 specification, `MaxLumaW` and `MaxLumaH` say so.
 ///
 /// If a dimension of 4 is halved, the block shares its chroma with the block before it. `av1_cfl_ac_8` then reads all 8
 /// samples of luma of both blocks.

@@ -132,10 +132,11 @@ fn predict_prepared<T: Pixel>(
 /// transform on. `smooth_neighbour` is 0 if no neighbour has a smooth mode.
 ///
 /// `DONE`: success. `BAD_MODE`, `BAD_SIZE`: no intra mode or no size has the number. `BAD_ANGLE`: the mode does not
-/// turn this many steps. `BAD_DEPTH`: the samples have no such depth. `BAD_AREA`: the plane or the transform does not
-/// lie in the samples, or the tile not in the plane, or the transform does not begin in the tile. It is also the status
-/// if the transform begins 65536 units of 4 samples or more from the start of its block. `TOO_SHORT`: `ac` has fewer
-/// entries than the transform has samples.
+/// turn this many steps. `BAD_DEPTH`: the samples have no such depth. `TOO_SHORT`: `ac` has fewer entries than the
+/// transform has samples. `BAD_AREA`: one of these:
+///
+/// - The plane or the transform does not lie in the samples, or the tile not in the plane.
+/// - The transform does not begin in the tile, or begins 65536 units of 4 samples or more from the start of its block.
 pub fn av1_predict_in_plane_8(
     samples: &mut [u8],
     plane: &EdgePlane,

@@ -174,8 +174,8 @@ pub(crate) fn place_of(plane: MotionPlane, block: MovedBlock) -> MovedPlace
 
 /// Finds where a block that a vector moves is read in its reference. This is the specification's "motion vector scaling
 /// process" at a scale of one. `place` becomes the position of the block's first sample, counted from the first visible
-/// sample of the plane, and the rest of the vector in sixteenths of a sample. The call does not read the filters, nor
-/// the plane's `stride`, `x` and `y`.
+/// sample of the plane. It also gets the fractions of the vector, in sixteenths of a sample. The call does not read the
+/// filters, nor the plane's `stride`, `x` and `y`.
 ///
 /// Each sample outside the plane has the value of the nearest visible sample. So a vector that leads far outside gets a
 /// position nearer to the plane, with the same samples. Padding of `width + 7` columns and `height + 7` rows on each

@@ -32,8 +32,8 @@ use Rattle.av1_planwrite.specs.Text.{byte, header_text, plane_text, fields_text}
 
 -- ---- unfinished plans
 
--- An unfinished plan: its header, the slot whose planes it needs next (8 if none), the parts that it still needs, in
--- order, and the bytes of all fields so far.
+-- An unfinished plan: its header, the slot whose planes it needs next (8 if none), and the parts that it still needs,
+-- in order. And the bytes of all fields so far.
 pub record Building : Type 0 where
   pub header : Header
   pub slot : ℕ

@@ -266,8 +266,8 @@ impl<T: Pixel> SequenceOf<T> {
         }
     }
 
-    /// The visible samples of row `y` of plane `p` (0 for Y, 1 for U and 2 for V) of the last frame that was accepted
-    /// or shown again. `None` if there was none yet.
+    /// The visible samples of row `y` of plane `p` (0 for Y, 1 for U and 2 for V). The frame is the last one that was
+    /// accepted or shown again. `None` if there was none yet.
     pub fn last_row(&self, p: usize, y: usize) -> Option<&[T]>
         requires plane { p < 3 }
         requires in_plane { y < shown_rows self.now.frames p }

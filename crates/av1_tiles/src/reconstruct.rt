@@ -18,9 +18,9 @@ use av1_recon::write_frame;
 use av1_streams::{Sink, Source, WriteFault, read_plan_bytes};
 use std::alloc::Global;
 
-/// Reads a grid of tiles from the source to its end, reconstructs each tile separately, and appends the visible planes
-/// of their frame to the sink. The planes are Y, U and V, each row by row. A sample has one byte at depth 8, else two,
-/// the low byte first.
+/// Reads a grid of tiles from the source to its end, and reconstructs each tile separately. Then appends the visible
+/// planes of their frame to the sink. The planes are Y, U and V, each row by row. A sample has one byte at depth 8,
+/// else two, the low byte first.
 ///
 /// # Errors
 ///

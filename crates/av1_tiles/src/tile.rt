@@ -205,8 +205,8 @@ pub fn parse_tile(alloc: Global, file: &TileFile<'_>, index: usize) -> Result<Pl
 ///
 /// # Errors
 ///
-/// `Refused` with `Malformed` if the tile's part does not spell a plan, as for [`parse_tile`], then with `Invalid` if a
-/// leaf of the plan is bad. `Memory` if memory runs out.
+/// `Refused` with `Malformed` if the tile's part does not spell a plan, as for [`parse_tile`]. Then `Refused` with
+/// `Invalid` if a leaf of the plan is bad. `Memory` if memory runs out.
 pub fn read_tile(alloc: Global, file: &TileFile<'_>, index: usize) -> Result<Plan, TileError>
     requires read { IsReadFile file.now }
     requires tile { index < count_tiles (front_value file.now.front) }

@@ -98,8 +98,8 @@ pub fn trace_differences(alloc: Global, bytes: &[u8]) -> Result<Vec<Difference>,
     Ok(compare(alloc, &trace.plan, trace.planes)?)
 }
 
-/// Reads a trace from its bytes: the letters `RTR1`, the length of the plan in four bytes, the low byte first, the
-/// plan, and the bytes of its planes, as [`compare`] takes them.
+/// Reads a trace from its bytes. These are the letters `RTR1`, the length of the plan in four bytes, the low byte
+/// first, the plan, and the planes, as [`compare`] takes them.
 ///
 /// # Errors
 ///
