@@ -1,4 +1,4 @@
-//! From the bytes of a plan to the sums of its planes.
+//! Reconstructs a plan many times, and sums its samples.
 ghost use Rattle.av1_recon.specs.Lines.{sum_lines};
 ghost use Rattle.av1_recon.specs.Outcomes.{Converts};
 
@@ -6,13 +6,13 @@ use av1_recon::{ReconError, Sink, Source, read_plan, write_sums};
 use std::alloc::Global;
 use std::num::NonZeroU32;
 
-/// Reads a plan from the source to its end, reconstructs it as often as `rounds` says in one state, and appends four
-/// lines to the sink: the number of its leaves, and the sum of the visible samples of each plane.
+/// Reads a plan from the source to its end, and reconstructs it `rounds` times in the same state. Appends four lines to
+/// the sink: the number of its leaves, and the sum of the visible samples of each plane.
 ///
 /// # Errors
 ///
-/// `ReadFault` and `TooLong` while it reads, then `Malformed`, then `Invalid`, then `WriteFault`. `Memory` may stand in
-/// place of any of them, before the first written byte.
+/// `ReadFault` and `TooLong` while the call reads, then `Malformed`, then `Invalid`, then `WriteFault`. `Memory` may
+/// replace any of them, before the first byte is written.
 pub fn bench<R: Source, W: Sink>(
     alloc: Global,
     rounds: NonZeroU32,

@@ -1,4 +1,4 @@
-//! What the words after the program's name are.
+//! Reads the command line's arguments.
 ghost use Rattle.std.specs.Prelude.{◌≡◌, ℕ, None, IfSome, map, string_bytes};
 ghost use Rattle.std.specs.NonZero.{non_zero_u32_get};
 ghost use Rattle.av1_bench.specs.Count.{IsCount, made_of};
@@ -6,7 +6,7 @@ ghost use Rattle.av1_bench.specs.Count.{IsCount, made_of};
 use av1_recon::number_of;
 use std::num::NonZeroU32;
 
-/// The number that the words after the program's name are: one word, a number and not 0.
+/// The number of rounds, if the only argument is a number other than 0.
 pub fn count_of(words: &[String]) -> Option<NonZeroU32>
     ensures number { IfSome result (λ count. IsCount (map string_bytes words.now) (non_zero_u32_get count)) }
     ensures none { result ≡ None → (count : ℕ) → ¬ IsCount (map string_bytes words.now) count }
@@ -17,7 +17,7 @@ pub fn count_of(words: &[String]) -> Option<NonZeroU32>
     }
 }
 
-/// The number whose plan the words after the program's name ask for: `make`, and a number.
+/// The number of the plan to write, if the arguments are `make` and a number.
 pub fn made_of(words: &[String]) -> Option<u32>
     ensures { result ≡ made_of (map string_bytes words.now) }
 {

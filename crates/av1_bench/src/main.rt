@@ -1,9 +1,10 @@
-//! Reconstructs the plan on standard input as often as its one word says, and prints the plan's leaves and the sums of
-//! the visible samples of its planes once.
+//! Reconstructs the plan on standard input N times, where N is the only argument. Then it prints the number of the
+//! plan's leaves and the sums of the visible samples of its planes.
 //!
-//! The plan is read, parsed and checked once, and one state serves all its reconstructions, so the time between two
-//! counts is that of reconstruction alone. All that the program does is [`program::run`]; here are its real source and
-//! sinks. The words of its command line, the flush of its output and its exit status are `av1_recon::run_on_words`.
+//! The plan is read, parsed and checked once, and one state serves all reconstructions. So the difference in time
+//! between two values of N is only the time of reconstruction. [`program::run`] is all that the program does. This file
+//! connects it to the real source and sinks. `av1_recon::run_on_words` reads the arguments, flushes the output and sets
+//! the exit status.
 #![tactic(auto)]
 
 mod bench;

@@ -12,10 +12,10 @@ use crate::count::{count_of, made_of};
 use av1_recon::{Sink, Source, report, say, write_made_in};
 use std::alloc::Global;
 
-/// Reads a plan from `source`, reconstructs it as often as the one word says, writes its four lines to `out`, and gives
-/// the exit status: that of `av1_recon::report` and its line on `err`. By the words `make N` nothing is read, and the
-/// plan of the number N in the third version of the plan grammar is written. Of other words, and of 0, the status is 1,
-/// with a line of usage.
+/// Reads a plan from `source`, reconstructs it as often as the only argument says, and writes its four lines to `out`.
+/// Returns the exit status of `av1_recon::report`, which also writes its line to `err`. The arguments `make N` read
+/// nothing and write plan number N, in version 3 of the plan grammar. Other arguments, and 0, give status 1 and a line
+/// of usage.
 pub fn run<R: Source, W: Sink, E: Sink>(
     alloc: Global,
     words: &[String],

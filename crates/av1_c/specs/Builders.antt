@@ -1,4 +1,4 @@
--- What the numbers of C's builder stand for.
+-- The plan, the header and the parts that the numbers of C's builder stand for.
 use Rattle.std.specs.Prelude.{◌≡◌, ℕ, ◌+◌, ◌^◌, ◌≤◌, ◌==◌, Bool, true, ◌&&◌, ◌||◌, nat_lt, nat_le, if◌then◌else◌, List}
 use Rattle.std.specs.Prelude.{◌++◌, length, map, take, drop, slice_get}
 use Rattle.std.specs.List.{list_all}
@@ -34,18 +34,18 @@ header_of n = record {
   mask = n.mask;
 }
 
--- ---- what is asked for next
+-- ---- what the plan needs next
 
 -- the part of these numbers
 abbrev pub part_of : BuilderPart → Part
 part_of n = if n.kind == 1 then Node n.number n.x n.y
     else Leaf (or_else (slice_get sizes.ALL n.number) BLOCK_4X4) n.x n.y
 
--- whether these are the numbers of a part
+-- whether these numbers are a valid part
 abbrev pub is_part : BuilderPart → Bool
 is_part n = n.kind == 1 || (n.kind == 0 && nat_lt n.number 22)
 
--- how far the plan has come
+-- the state of the plan
 abbrev pub state_of : Builder → State
 state_of b = record {
   slot = b.slot;
@@ -53,31 +53,31 @@ state_of b = record {
   left = record { row = b.row; col = b.col };
 }
 
--- whether these are the numbers of a builder over a buffer of this length
+-- whether these numbers are a valid builder over a buffer of this length
 abbrev pub is_builder : Builder → ℕ → Bool
 is_builder b room = nat_le b.written room && list_all is_part b.parts && is_state (header_of b.header) (state_of b)
 
--- the plan in the making that a builder and its buffer hold
+-- the unfinished plan that a builder and its buffer hold
 abbrev pub plan_of : Builder → List ℕ → Building
 plan_of b room =
     let s = stopped (header_of b.header) (state_of b) in
     record { header = s.header; slot = s.slot; parts = s.parts; bytes = take b.written room }
 
--- ---- what a call leaves
+-- ---- what a call writes
 
--- So many bytes of the buffer were kept, and behind them these were written, up to this end. What stands behind it is
--- as before.
+-- The bytes `more` were appended to the first `written` bytes of the buffer, up to this end. The rest of the buffer is
+-- unchanged.
 pub record AreAppended (room room' more : List ℕ) (written end : ℕ) : Type 0 where
   pub end_is : end ≡ written + length more
   pub fits : end ≤ length room
   pub short : end ≤ 2 ^ 26
   pub room_is : room' ≡ take written room ++ more ++ drop end room
 
--- why a plan of so many bytes doesn't stand in a buffer in which it has no place
+-- why a plan of this many bytes can't be written to a buffer
 abbrev pub room_fault : ℕ → BuildFault
 room_fault len = if nat_le len (2 ^ 26) then RoomTooSmall else Refused TooLong
 
--- The builder and its buffer hold this plan, and what stands in the buffer behind its bytes is as before.
+-- The builder and its buffer hold this plan. The bytes after the plan's are unchanged.
 pub record Hold (b : Builder) (room before : List ℕ) (plan : Building) : Type 0 where
   pub valid : is_builder b (length room) ≡ true
   pub holds : plan_of b room ≡ plan

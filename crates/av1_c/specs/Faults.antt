@@ -1,4 +1,4 @@
--- What is told of a fault.
+-- The faults of a call on a plan: their statuses, and what the caller learns about each.
 use Rattle.std.specs.Prelude.{ℕ}
 use Rattle.av1_plan.specs.declared.error.PlanError.{PlanError}
 use Rattle.av1_plan.specs.declared.error.PlanError.TheVariants as plan_errors
@@ -13,12 +13,12 @@ use Rattle.av1_c.specs.declared.status.TheConstants.{OUT_OF_MEMORY, TOO_LONG, MA
 use Rattle.av1_c.specs.declared.status.TheConstants.{INVALID_BLOCK_SIZE, INVALID_TRANSFORM, INVALID_MODE}
 use Rattle.av1_c.specs.declared.status.TheConstants.{INVALID_VECTOR, MISSING_REFERENCE, INVALID_COEFFICIENT}
 
--- an error of parsing
+-- the fault of an error of parsing
 abbrev pub plan_fault : PlanError → PlanCallFault
 plan_fault (plan_errors.Malformed at) = Malformed at
 plan_fault plan_errors.Memory = Memory
 
--- the first faulty leaf and its first reason
+-- the fault of a bad leaf
 abbrev pub invalid_fault : InvalidLeaf → PlanCallFault
 invalid_fault fault = Invalid fault.leaf fault.kind
 
@@ -31,7 +31,7 @@ kind_number kinds.Vector = INVALID_VECTOR
 kind_number kinds.MissingReference = MISSING_REFERENCE
 kind_number kinds.Coefficient = INVALID_COEFFICIENT
 
--- the status of a call that ended so
+-- the status of a call with this fault
 abbrev pub status_of : PlanCallFault → ℕ
 status_of Memory = OUT_OF_MEMORY
 status_of RoomTooSmall = ROOM_TOO_SMALL
@@ -39,15 +39,15 @@ status_of TooLong = TOO_LONG
 status_of (Malformed at) = MALFORMED
 status_of (Invalid leaf kind) = INVALID
 
--- the field at fault
+-- the refusal for a bad field
 abbrev pub malformed_at : ℕ → Refusal
 malformed_at at = record { at = at; leaf = 0; kind = 0 }
 
--- the first faulty leaf, and why
+-- the refusal for a bad leaf
 abbrev pub invalid_leaf : ℕ → InvalidKind → Refusal
 invalid_leaf leaf kind = record { at = 0; leaf = leaf; kind = kind_number kind }
 
--- what is told of a fault, where this was told before
+-- the refusal after a call with this fault, if it was `before` before the call
 abbrev pub told : PlanCallFault → Refusal → Refusal
 told Memory before = before
 told RoomTooSmall before = before

@@ -1,4 +1,4 @@
--- What the numbers of a leaf stand for.
+-- The fields of a leaf that the numbers of C's leaf stand for.
 use Rattle.std.specs.Prelude.{ℕ, ◌==◌, Bool, ◌&&◌, nat_lt, nat_le, if◌then◌else◌, List, [], ◌∷◌, map, Option, Some}
 use Rattle.std.specs.Prelude.{None, slice_get}
 use Rattle.av1_blocks.specs.declared.mc.MotionVector.{MotionVector}
@@ -27,30 +27,30 @@ use Rattle.av1_c.specs.declared.leaf_numbers.Coefficient.{Coefficient}
 use Rattle.av1_c.specs.declared.leaf_numbers.LeafNumbers.{LeafNumbers}
 use Rattle.av1_c.specs.declared.leaf_numbers.LeafMotion.{LeafMotion}
 
--- the mode of a number: past the last one that of chroma from luma, with which no leaf with two references may be
--- predicted, nor plain chroma
+-- The mode of a number. Each number past the last one gives chroma from luma. That mode is valid neither for a leaf
+-- with two references nor for plain chroma.
 abbrev pub mode_of : ℕ → PredictionMode
 mode_of number = or_else (slice_get modes.ALL number) UV_CFL_PRED
 
--- the reference of a number: past the last one none of those that a leaf may have
+-- the reference of a number; each number past the last one gives one that no leaf may have
 abbrev pub reference_of : ℕ → RefType
 reference_of number = or_else (slice_get references.ALL number) NONE_FRAME
 
--- the size and the type of a transform
+-- the size and the type of a transform from their numbers
 abbrev pub tx_size_of : ℕ → TxSize
 tx_size_of number = or_else (slice_get tx_sizes.ALL number) TX_4X4
 
 abbrev pub tx_type_of : ℕ → TxType
 tx_type_of number = or_else (slice_get tx_types.ALL number) DCT_DCT
 
--- each number of a transform names one
+-- the numbers of the transforms are in range
 abbrev pub are_numbers : LeafNumbers → Bool
 are_numbers n = nat_le n.tx_size 18 && nat_le n.tx_type 16 && nat_le n.uv_type 16
 
 abbrev pub vector_of : LeafMotion → MotionVector
 vector_of m = record { row = m.row; col = m.col }
 
--- how the chroma of a leaf without references is predicted, where it carries chroma
+-- how chroma is predicted in a leaf without references, if it carries chroma
 abbrev pub chroma_of : LeafNumbers → Option ChromaMode
 chroma_of n =
     if n.chroma == 0 then None
@@ -65,11 +65,11 @@ kind_of n =
     else Compound (mode_of n.mode) (reference_of n.first.reference ∷ reference_of n.second.reference ∷ [])
     (vector_of n.first ∷ vector_of n.second ∷ []))
 
--- the type of its chroma transforms, where it carries chroma
+-- the type of the leaf's chroma transforms, if it carries chroma
 abbrev pub uv_type_of : LeafNumbers → Option TxType
 uv_type_of n = if n.chroma == 0 then None else Some (tx_type_of n.uv_type)
 
--- a coefficient
+-- a coefficient as a plan has it
 abbrev pub triple_of : Coefficient → Triple
 triple_of c = record { block = c.block; place = c.place; value = c.value }
 
@@ -85,12 +85,12 @@ fields_of n y u v = record {
   v = map triple_of v;
 }
 
--- their bytes
+-- the bytes of the leaf's fields
 abbrev pub leaf_bytes : LeafNumbers → (y u v : List Coefficient) → List ℕ
 leaf_bytes n y u v = let l = fields_of n y u v in fields_text l.kind l.tx_size l.tx_type l.uv_type l.y l.u l.v
 
--- The first reason that holds for which this leaf is refused: no leaf is asked for; a number names nothing, or the
--- fields aren't admitted; or the bytes would be too many.
+-- The first reason to reject this leaf. Either the plan needs no leaf next. Or a number is out of range, or the fields
+-- are not valid here. Or the plan would have too many bytes.
 abbrev pub numbers_refusal : Building → LeafNumbers → (y u v : List Coefficient) → Option BuildError
 numbers_refusal b n y u v =
     let l = fields_of n y u v in

@@ -1,4 +1,4 @@
--- What is told of bytes that hold plans as parts, and are refused.
+-- The faults of bytes that hold plans as parts: their statuses, and what the caller learns about each.
 use Rattle.std.specs.Prelude.{ℕ}
 use Rattle.av1_recon.specs.declared.error.PlanFault.{PlanFault}
 use Rattle.av1_recon.specs.declared.error.PlanFault.TheVariants as refusals
@@ -19,18 +19,18 @@ use Rattle.av1_c.specs.declared.part_fault.PartRefusal.{PartRefusal}
 use Rattle.av1_c.specs.declared.status.TheConstants.{OUT_OF_MEMORY, TOO_LONG, MALFORMED}
 use Rattle.av1_c.specs.declared.status.TheConstants.{TOO_LONG_PART, MALFORMED_PART, INVALID_PART, EMPTY_SLOT}
 
--- a part is refused that is a plan, or the leaves of one
+-- the fault of a part that is a plan, or the leaves of one
 abbrev pub in_part : ℕ → PlanFault → PartFault
 in_part part (refusals.Malformed at) = MalformedPart part at
 in_part part (refusals.Invalid leaf kind) = InvalidPart part leaf kind
 
--- a part is refused that is a frame of a sequence
+-- the fault of a part that is a frame of a sequence
 abbrev pub frame_fault : ℕ → FrameFault → PartFault
 frame_fault part frames.TooLarge = TooLongPart part
 frame_fault part (frames.Malformed at) = MalformedPart part at
 frame_fault part (frames.Invalid leaf kind) = InvalidPart part leaf kind
 
--- an error of a grid of tiles
+-- the fault of an error of a grid of tiles
 abbrev pub tiles_fault : TilesError → PartFault
 tiles_fault tiles.ReadFault = Memory
 tiles_fault tiles.TooLong = TooLong
@@ -39,7 +39,7 @@ tiles_fault (tiles.Tile tile fault) = in_part tile fault
 tiles_fault tiles.WriteFault = Memory
 tiles_fault tiles.Memory = Memory
 
--- an error of a sequence
+-- the fault of an error of a sequence
 abbrev pub sequence_fault : SequenceError → PartFault
 sequence_fault sequence.ReadFault = Memory
 sequence_fault sequence.TooLong = TooLong
@@ -49,7 +49,7 @@ sequence_fault (sequence.EmptySlot frame) = EmptySlot frame
 sequence_fault sequence.WriteFault = Memory
 sequence_fault sequence.Memory = Memory
 
--- an error of a trace, whose only part is its plan
+-- the fault of an error of a trace; the only part of a trace is its plan
 abbrev pub trace_fault : TraceError → PartFault
 trace_fault trace.ReadFault = Memory
 trace_fault trace.TooLong = TooLong
@@ -58,7 +58,7 @@ trace_fault (trace.Plan fault) = in_part 0 fault
 trace_fault trace.WriteFault = Memory
 trace_fault trace.Memory = Memory
 
--- the status of a call that ended so
+-- the status of a call with this fault
 abbrev pub part_status : PartFault → ℕ
 part_status Memory = OUT_OF_MEMORY
 part_status RoomTooSmall = ROOM_TOO_SMALL
@@ -69,11 +69,11 @@ part_status (MalformedPart part at) = MALFORMED_PART
 part_status (InvalidPart part leaf kind) = INVALID_PART
 part_status (EmptySlot part) = EMPTY_SLOT
 
--- this field is at fault, of a part or of all
+-- the refusal for a bad field, of a part or of all bytes
 abbrev pub field_of : (part at : ℕ) → PartRefusal
 field_of part at = record { part = part; at = at; leaf = 0; kind = 0 }
 
--- what is told of a fault, where this was told before
+-- the refusal after a call with this fault, if it was `before` before the call
 abbrev pub part_told : PartFault → PartRefusal → PartRefusal
 part_told Memory before = before
 part_told RoomTooSmall before = before

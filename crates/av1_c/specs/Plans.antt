@@ -1,4 +1,4 @@
--- What the calls on plans say of the bytes and of the caller's buffer.
+-- Definitions for the contracts of the calls on plans: the bytes, the caller's buffer and the status.
 use Rattle.std.specs.Prelude.{◌≡◌, ℕ, ◌<◌, ◌≤◌, nat_le, if◌then◌else◌, List, ◌++◌, length, drop, Ok, Err, ⊤}
 use Rattle.av1_plan.specs.Grammar.{header}
 use Rattle.av1_plan.specs.Spelling.{IsPrefix, Spells, text}
@@ -13,17 +13,17 @@ use Rattle.av1_c.specs.declared.status.TheConstants.{OUT_OF_MEMORY, TOO_LONG, MA
 
 -- ---- what the bytes are
 
--- they begin with the fields of this header
+-- the bytes begin with the fields of this header
 abbrev pub BeginWith : List ℕ → Header → Type 0
 BeginWith bytes h = (values : List ℕ) × Spells header values h × IsPrefix (text header values) bytes
 
--- they are a valid plan, and P holds of its planes by the slow definition
+-- the bytes are a valid plan, and P holds of its planes by the slow definition
 abbrev pub ComeToPlanes : List ℕ → (List ℕ → Type 0) → Type 0
 ComeToPlanes bytes P = (planes : List ℕ) × HasOutcome bytes (Ok planes) × P planes
 
 -- ---- the buffer
 
--- The front of the buffer is now these bytes, of which there are this many, and the rest of it is as it was.
+-- The front of the buffer is now these bytes, `count` of them, and the rest of the buffer is unchanged.
 pub record AreWritten (bytes room room' : List ℕ) (count : ℕ) : Type 0 where
   pub count_is : count ≡ length bytes
   pub fits : length bytes ≤ length room
@@ -31,7 +31,7 @@ pub record AreWritten (bytes room room' : List ℕ) (count : ℕ) : Type 0 where
 
 -- ---- statuses
 
--- the status that an outcome of bytes asks for, where the buffer is this long; bytes come to none of the last three
+-- The status for an outcome, with a buffer of this length. The last three outcomes never occur.
 abbrev pub status_for : ℕ → Outcome → ℕ
 status_for room (Ok planes) = if nat_le (length planes) room then DONE else ROOM_TOO_SMALL
 status_for room (Err errors.TooLong) = TOO_LONG
@@ -41,9 +41,9 @@ status_for room (Err errors.ReadFault) = OUT_OF_MEMORY
 status_for room (Err errors.WriteFault) = OUT_OF_MEMORY
 status_for room (Err errors.Memory) = OUT_OF_MEMORY
 
--- ---- why nothing is written: words of private contracts
+-- ---- definitions for private contracts: why nothing is written
 
--- the fault is that of the bytes, or of a buffer of this length
+-- the bytes, or a buffer of this length, have this fault
 abbrev pub IsCause : List ℕ → ℕ → PlanCallFault → Type 0
 IsCause bytes room Memory = length bytes ≤ max_plan_bytes
 IsCause bytes room RoomTooSmall = ComeToPlanes bytes (λ planes. room < length planes)
@@ -51,7 +51,7 @@ IsCause bytes room TooLong = HasOutcome bytes (Err errors.TooLong)
 IsCause bytes room (Malformed at) = HasOutcome bytes (Err (errors.Malformed at))
 IsCause bytes room (Invalid leaf kind) = HasOutcome bytes (Err (errors.Invalid leaf kind))
 
--- the fault is one of the header at their front
+-- the header at the front of the bytes has this fault
 abbrev pub IsHeaderFault : List ℕ → PlanCallFault → Type 0
 IsHeaderFault bytes Memory = ⊥
 IsHeaderFault bytes RoomTooSmall = ⊥
@@ -59,7 +59,7 @@ IsHeaderFault bytes TooLong = HasOutcome bytes (Err errors.TooLong)
 IsHeaderFault bytes (Malformed at) = HasOutcome bytes (Err (errors.Malformed at))
 IsHeaderFault bytes (Invalid leaf kind) = ⊥
 
--- so many bytes were to be written to a buffer of this length
+-- the write of `len` bytes to a buffer of this length has this fault
 abbrev pub IsWritingFault : ℕ → ℕ → PlanCallFault → Type 0
 IsWritingFault len room Memory = ⊤
 IsWritingFault len room RoomTooSmall = room < len

@@ -1,4 +1,4 @@
--- What the call that compares a trace says of the bytes and of the caller's buffer.
+-- The contract of the call that compares a trace.
 use Rattle.std.specs.Prelude.{◌≡◌, ◌≢◌, ◌⊎◌, ℕ, List, ◌++◌, length, take, drop, map, Result, Ok, Err, ⊤}
 use Rattle.av1_trace.specs.Checking.{HasOutcome}
 use Rattle.av1_trace.specs.declared.entry.Difference.{Difference}
@@ -12,17 +12,17 @@ use Rattle.av1_c.specs.declared.part_fault.PartFault.TheVariants.{MalformedPart,
 use Rattle.av1_c.specs.declared.part_fault.PartRefusal.{PartRefusal}
 use Rattle.av1_c.specs.declared.status.TheConstants.{OUT_OF_MEMORY}
 
--- ---- what the bytes come to
+-- ---- the outcome of the bytes
 
 abbrev pub TraceOutcome : Type 0
 TraceOutcome = Result (List Difference) PartFault
 
--- the differences of the trace that they are, or why they are refused
+-- the differences of the trace, or why the bytes are rejected
 abbrev pub TraceComesTo : List ℕ → TraceOutcome → Type 0
 TraceComesTo bytes (Ok list) = HasOutcome bytes (Ok list)
 TraceComesTo bytes (Err fault) = (e : TraceError) × HasOutcome bytes (Err e) × (fault ≡ trace_fault e)
 
--- the status that an outcome asks for
+-- the status for an outcome
 abbrev pub status_of_trace : TraceOutcome → ℕ
 status_of_trace (Ok list) = DONE
 status_of_trace (Err fault) = part_status fault
@@ -39,32 +39,33 @@ difference_numbers d = record {
   plane = d.plane;
 }
 
--- the first of a list at the front of a buffer, as many as it has room for
+-- the buffer after the first entries of a list are written to its front, as many as fit
 abbrev pub listed : List TraceDifference → (room : List TraceDifference) → List TraceDifference
 listed list room = take (length room) list ++ drop (length list) room
 
--- ---- what the call says
+-- ---- the contracts
 
--- The buffer was `room` and is `room'`, and so with what is told, and `status` is the answer.
+-- The call lists differences. Without a prime a name is the value before the call, with a prime after it. `status` is
+-- the result.
 pub record ListsDifferences (bytes : List ℕ) (room room' : List TraceDifference) (found found' : ℕ)
     (refusal refusal' : PartRefusal) (status : ℕ) : Type 0 where
-  -- The bytes are a trace; it has so many differences, and the first of them stand at the front of the buffer.
+  -- The bytes are a trace. `found` is the number of its differences, and the buffer begins with them.
   pub done : status ≡ DONE → (list : List Difference) × TraceComesTo bytes (Ok list) × (found' ≡ length list)
       × (room' ≡ listed (map difference_numbers list) room)
-  -- Each other status refuses the bytes, and this is why, unless memory ran out.
+  -- Each other status, except out of memory, says that the bytes are rejected, and why.
   pub refused : status ≢ DONE → status ≢ OUT_OF_MEMORY
       → (fault : PartFault) × TraceComesTo bytes (Err fault) × (status ≡ part_status fault)
       × (refusal' ≡ part_told fault refusal)
-  -- The status is the one that the bytes ask for, unless memory ran out.
+  -- The bytes decide the status, unless memory runs out.
   pub exactly : (outcome : TraceOutcome) → TraceComesTo bytes outcome
       → (status ≡ status_of_trace outcome) ⊎ (status ≡ OUT_OF_MEMORY)
-  -- What is not written or told stays as it was.
+  -- What the call does not set is unchanged.
   pub kept : status ≢ DONE → (room' ≡ room) × (found' ≡ found)
   pub untold : (status ≡ DONE) ⊎ (status ≡ OUT_OF_MEMORY) → refusal' ≡ refusal
 
--- ---- why nothing is written: a word of a private contract
+-- ---- a definition for a private contract: why nothing is written
 
--- the fault is that of the bytes
+-- the bytes have this fault
 abbrev pub IsTraceCause : List ℕ → PartFault → Type 0
 IsTraceCause bytes Memory = ⊤
 IsTraceCause bytes RoomTooSmall = ⊥

@@ -1,4 +1,4 @@
-//! The fields of a leaf appended to the bytes of a plan, in a buffer of the caller.
+//! Appends the fields of a leaf to the bytes of a plan, in the caller's buffer.
 
 ghost use Rattle.std.specs.Prelude.{◌≡◌, ◌<◌, ◌≤◌, ◌+◌, ◌*◌, ◌++◌, ◌^◌, true, length, map, take, is_some, if◌then◌else◌, IfErr, IfOk, OnErr, OnOk};
 ghost use Rattle.std.specs.List.{All};
@@ -13,7 +13,8 @@ use crate::build_fault::BuildFault;
 use crate::leaf_numbers::{Coefficient, LeafNumbers};
 use av1_planwrite::{MOST_LEADING, put, put_leading, put_pair, triple_fields};
 
-/// Puts the coefficients of a plane into a slice behind its first `at`, their count first, and says where they end.
+/// Writes the coefficients of a plane, first their count, into a slice from offset `at` on. Returns the offset of their
+/// end.
 fn put_coefficients(slice: &mut [u8], at: usize, coefficients: &[Coefficient]) -> usize
     requires few { length coefficients.now < 2 ^ 16 }
     requires room { at + (2 + 7 * length coefficients.now) ≤ length slice.old }
@@ -28,7 +29,7 @@ fn put_coefficients(slice: &mut [u8], at: usize, coefficients: &[Coefficient]) -
     end
 }
 
-/// Puts those of U and V, where chroma is carried.
+/// Writes the coefficients of U and V if the leaf carries chroma. Returns the offset of their end.
 fn put_chroma_coefficients(
     slice: &mut [u8],
     at: usize,
@@ -50,7 +51,7 @@ fn put_chroma_coefficients(
     put_coefficients(slice, at, v)
 }
 
-/// How many bytes the coefficients of a leaf have, those of U and V where chroma is carried.
+/// How many bytes the coefficients of a leaf have. U and V only count if the leaf carries chroma.
 fn coefficients_len(carried: bool, y: &[Coefficient], u: &[Coefficient], v: &[Coefficient]) -> usize
     requires few { (length y.now < 2 ^ 16) × (length u.now < 2 ^ 16) × (length v.now < 2 ^ 16) }
     ensures { result ≡ 2 + 7 * length y.now + (if carried then 4 + 7 * (length u.now + length v.now) else 0) }
@@ -63,7 +64,7 @@ fn coefficients_len(carried: bool, y: &[Coefficient], u: &[Coefficient], v: &[Co
     2 + 7 * y.len() + chroma
 }
 
-/// Appends the fields of a leaf, of which these are the coefficients of Y, U and V.
+/// Appends the fields of a leaf with its coefficients of Y, U and V. Returns how many bytes the plan then has.
 ///
 /// # Errors
 ///

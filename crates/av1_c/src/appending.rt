@@ -1,4 +1,4 @@
-//! Fields appended to the bytes of a plan, in a buffer of the caller.
+//! Appends fields to the bytes of a plan, in the caller's buffer.
 
 ghost use Rattle.std.specs.Prelude.{◌≡◌, ◌<◌, ◌≤◌, ◌+◌, ◌++◌, ◌^◌, length, IfErr, IfOk, OnErr};
 ghost use Rattle.av1_planwrite.specs.Text.{plane_text};
@@ -10,11 +10,11 @@ use crate::build_fault::BuildFault;
 use av1_planwrite::{BuildError, put_planes, slot_len};
 use av1_streams::MAX_PLAN_BYTES;
 
-/// Where so many bytes end that are appended to those at the front of the buffer.
+/// The offset of the end if `len` bytes are appended to the first `written` bytes of the buffer.
 ///
 /// # Errors
 ///
-/// `TooLong` where all would be more than 2^26, then `RoomTooSmall`.
+/// `TooLong` if the end is above 2^26, then `RoomTooSmall`.
 pub fn end_of(room: &[u8], written: usize, len: usize) -> Result<usize, BuildFault>
     requires written { written ≤ length room.now }
     requires len { len < 2 ^ 62 }
@@ -34,11 +34,11 @@ pub fn end_of(room: &[u8], written: usize, len: usize) -> Result<usize, BuildFau
     Ok(end)
 }
 
-/// Appends bytes, and says how many these are then.
+/// Appends bytes to the first `written` bytes of the buffer. Returns how many bytes there are then.
 ///
 /// # Errors
 ///
-/// `TooLong` where they would be more than 2^26, then `RoomTooSmall`.
+/// `TooLong` if there would be more than 2^26 bytes, then `RoomTooSmall`.
 pub fn append(room: &mut [u8], written: usize, bytes: &[u8]) -> Result<usize, BuildFault>
     requires written { written ≤ length room.old }
     requires few { length bytes.now < 2 ^ 62 }
@@ -54,7 +54,7 @@ pub fn append(room: &mut [u8], written: usize, bytes: &[u8]) -> Result<usize, Bu
     Ok(end)
 }
 
-/// Appends the planes of a slot.
+/// Appends the planes of a slot. Returns how many bytes there are then.
 ///
 /// # Errors
 ///

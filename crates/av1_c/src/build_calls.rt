@@ -1,4 +1,4 @@
-//! The calls of a builder, but that on leaves.
+//! The calls of a builder, except the call on leaves.
 
 ghost use Rattle.std.specs.Prelude.{◌≡◌, ◌≢◌, ◌≤◌, true, length, take, if◌then◌else◌, OnErr, OnOk};
 ghost use Rattle.av1_plan.specs.Grammar.{plan};
@@ -19,7 +19,7 @@ use av1_planwrite::{BuildError, Progress, header_fields};
 
 // ---- the header
 
-/// Begins a plan, whose header's fields stand at the front of the buffer then.
+/// Begins a plan: writes the header's fields to the front of the buffer.
 ///
 /// # Errors
 ///
@@ -39,11 +39,10 @@ fn begin(header: &PlanHeader, builder: &mut Builder, room: &mut [u8]) -> Result<
     Ok(())
 }
 
-/// Begins a plan of this header, whose fields stand at the front of `room` then: the first 20 bytes. What `builder`
-/// held before is lost.
+/// Begins a plan with this header. The first 20 bytes of `room` become the header's fields. `builder` may hold anything
+/// before the call.
 ///
-/// `DONE`: that was done. `NOT_ADMITTED`: a value of the header is not admitted. `ROOM_TOO_SMALL`: the fields don't fit
-/// `room`.
+/// `DONE`: success. `NOT_ADMITTED`: a value of the header is not valid. `ROOM_TOO_SMALL`: the fields don't fit `room`.
 #[unsafe(no_mangle)]
 pub extern "C" fn av1_builder_begin(
     header: &PlanHeader,
@@ -52,11 +51,11 @@ pub extern "C" fn av1_builder_begin(
 ) -> u32
     // The plan has exactly the fields of this header.
     ensures done { result ≡ DONE → Hold builder.new room.new room.old (begun (header_of header.now)) }
-    // The status is the one that the header and the length of the buffer ask for.
+    // The header and the length of the buffer decide the status.
     ensures status { result ≡ asked_status true (header_refusal (header_of header.now)) 20 (length room.old) }
-    // The bytes tell of a plan its header.
+    // The bytes spell the header of a plan.
     ensures told { result ≡ DONE → Tells (plan_of builder.new room.new) (plan_begun (header_of header.now)) }
-    // After a refusal all is as before.
+    // After each other status the builder and the buffer are unchanged.
     ensures kept { result ≢ DONE → (builder.new ≡ builder.old) × (room.new ≡ room.old) }
 {
     answer(begin(header, builder, room))
@@ -92,11 +91,11 @@ fn give_reference(
     Ok(())
 }
 
-/// Gives the planes of the next slot of the mask, each row by row: they are appended to the bytes in `room`.
+/// Appends the planes of the next slot of the mask, each row by row, to the bytes in `room`.
 ///
-/// `DONE`: that was done. `NOT_NOW`: no planes are asked for. `NOT_ADMITTED`: a plane has another number of samples, or
-/// one of them is not below `1 << depth`. `TOO_LONG`: the bytes would be more than 2^26. `ROOM_TOO_SMALL`: they would
-/// not fit `room`. `BAD_STATE`: `builder` is none over `room`.
+/// `DONE`: success. `NOT_NOW`: the plan needs no planes next. `NOT_ADMITTED`: a plane has the wrong number of samples,
+/// or one of its samples is not below `1 << depth`. `TOO_LONG`: there would be more than 2^26 bytes. `ROOM_TOO_SMALL`:
+/// the bytes would not fit `room`. `BAD_STATE`: `builder` is not a valid builder over `room`.
 #[unsafe(no_mangle)]
 pub extern "C" fn av1_builder_reference(
     builder: &mut Builder,
@@ -105,15 +104,15 @@ pub extern "C" fn av1_builder_reference(
     u: &[u16],
     v: &[u16],
 ) -> u32
-    // Exactly these planes are appended.
+    // The call appends exactly these planes.
     ensures done { result ≡ DONE → Hold builder.new room.new room.old (with_reference (plan_of builder.old room.old) y.now u.now v.now) }
-    // The status is the one that is asked for.
+    // The plan so far, the planes and the length of the buffer decide the status.
     ensures status { result ≡ asked_status (is_builder builder.old (length room.old)) (reference_refusal (plan_of builder.old room.old) y.now u.now v.now)
         (length (with_reference (plan_of builder.old room.old) y.now u.now v.now).bytes) (length room.old) }
-    // What the bytes told of a plan before, they tell of it with what is given.
+    // If the bytes before spell a part of a plan, the bytes after spell this part with these planes.
     ensures told { (p : PlanValue) → Tells (plan_of builder.old room.old) p → result ≡ DONE →
         Tells (plan_of builder.new room.new) (plan_with_reference p y.now u.now v.now) }
-    // After a refusal all is as before.
+    // After each other status the builder and the buffer are unchanged.
     ensures kept { result ≢ DONE → (builder.new ≡ builder.old) × (room.new ≡ room.old) }
 {
     answer(give_reference(builder, room, y, u, v))
@@ -141,21 +140,21 @@ fn give_mark(builder: &mut Builder, room: &mut [u8], mark: u8) -> Result<(), Bui
     Ok(())
 }
 
-/// Gives the mark of the next node: it is appended to the bytes in `room`.
+/// Appends the mark of the next node to the bytes in `room`.
 ///
-/// `DONE`: that was done. `NOT_NOW`: no mark is asked for. `NOT_ADMITTED`: the node can't have this mark. `TOO_LONG`:
-/// the bytes would be more than 2^26. `ROOM_TOO_SMALL`: they would not fit `room`. `BAD_STATE`: `builder` is none over
-/// `room`.
+/// `DONE`: success. `NOT_NOW`: the plan needs no mark next. `NOT_ADMITTED`: the node can't have this mark. `TOO_LONG`:
+/// there would be more than 2^26 bytes. `ROOM_TOO_SMALL`: the bytes would not fit `room`. `BAD_STATE`: `builder` is not
+/// a valid builder over `room`.
 #[unsafe(no_mangle)]
 pub extern "C" fn av1_builder_mark(builder: &mut Builder, room: &mut [u8], mark: u8) -> u32
-    // Exactly this mark is appended.
+    // The call appends exactly this mark.
     ensures done { result ≡ DONE → Hold builder.new room.new room.old (with_mark (plan_of builder.old room.old) mark) }
-    // The status is the one that is asked for.
+    // The plan so far, the mark and the length of the buffer decide the status.
     ensures status { result ≡ asked_status (is_builder builder.old (length room.old)) (mark_refusal (plan_of builder.old room.old) mark)
         (length (with_mark (plan_of builder.old room.old) mark).bytes) (length room.old) }
-    // What the bytes told of a plan before, they tell of it with what is given.
+    // If the bytes before spell a part of a plan, so do the bytes after.
     ensures told { (p : PlanValue) → Tells (plan_of builder.old room.old) p → result ≡ DONE → Tells (plan_of builder.new room.new) p }
-    // After a refusal all is as before.
+    // After each other status the builder and the buffer are unchanged.
     ensures kept { result ≢ DONE → (builder.new ≡ builder.old) × (room.new ≡ room.old) }
 {
     answer(give_mark(builder, room, mark))
@@ -163,17 +162,17 @@ pub extern "C" fn av1_builder_mark(builder: &mut Builder, room: &mut [u8], mark:
 
 // ---- the end
 
-/// Tells how many bytes the plan has, once all its fields are given: those at the front of `room`.
+/// Gives the length of the plan in bytes, after all its fields are given. The plan is at the front of `room`.
 ///
-/// `DONE`: `len` has the number. `NOT_NOW`: a field is still asked for. `BAD_STATE`: `builder` is none over `room`. The
-/// plan can be gone on with after any of them.
+/// `DONE`: `len` has the length. `NOT_NOW`: the plan still needs a field. `BAD_STATE`: `builder` is not a valid builder
+/// over `room`. The call changes neither the builder nor the buffer.
 #[unsafe(no_mangle)]
 pub extern "C" fn av1_builder_finish(builder: &Builder, room: &[u8], len: &mut usize) -> u32
     ensures done { result ≡ DONE → take len.new room.now ≡ (plan_of builder.now room.now).bytes }
     ensures within { result ≡ DONE → len.new ≤ length room.now }
-    // They are the text of the plan of which all is told.
+    // The bytes are the text of the plan whose parts were given.
     ensures text { (p : PlanValue) → Tells (plan_of builder.now room.now) p → result ≡ DONE → AreText plan (take len.new room.now) p }
-    // The status is the one that is asked for.
+    // The builder decides the status.
     ensures status { result ≡ (if is_builder builder.now (length room.now) then (if asks_more (plan_of builder.now room.now) then NOT_NOW else DONE)
         else BAD_STATE) }
     ensures kept { result ≢ DONE → len.new ≡ len.old }

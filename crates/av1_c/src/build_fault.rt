@@ -1,4 +1,4 @@
-//! Why a call of a builder did nothing.
+//! Why a builder's call fails, and its status.
 
 ghost use Rattle.std.specs.Prelude.{◌≡◌};
 ghost use Rattle.av1_c.specs.BuildFaults.{answered, build_status};
@@ -8,12 +8,12 @@ use crate::status::{BAD_STATE, NOT_ADMITTED, NOT_NOW, OUT_OF_MEMORY, TOO_LONG};
 use av1_calls::{DONE, ROOM_TOO_SMALL};
 use av1_planwrite::BuildError;
 
-/// Why a call of a builder did nothing.
+/// Why a builder's call fails. Such a call changes nothing.
 #[derive(Clone, Copy, Debug, PartialEq, Eq)]
 pub enum BuildFault {
-    /// The caller's numbers aren't those of a builder.
+    /// The caller's numbers are not a valid builder.
     BadState,
-    /// The plan refuses the call.
+    /// The plan so far rejects what the caller gives.
     Refused(BuildError),
     /// The buffer is too short for what the call appends.
     RoomTooSmall,
@@ -28,7 +28,7 @@ impl From<BuildError> for BuildFault {
 }
 
 impl BuildFault {
-    /// The status of a call that ended so.
+    /// The status of a call that fails for this reason.
     fn status(self) -> u32
         ensures { result ≡ build_status self }
     {
@@ -43,7 +43,7 @@ impl BuildFault {
     }
 }
 
-/// The status of a call that ended, well or not.
+/// The status of a call with this result.
 pub fn answer(ended: Result<(), BuildFault>) -> u32
     ensures { result ≡ answered ended }
 {

@@ -16,11 +16,11 @@ use crate::leaf_numbers::{Coefficient, LeafNumbers};
 use av1_calls::DONE;
 use av1_planwrite::{BuildError, Part, Progress};
 
-/// Whether a leaf of these numbers may come next that has so many coefficients in Y, U and V.
+/// Tests that a leaf of these numbers may come next, with `y`, `u` and `v` coefficients in Y, U and V.
 ///
 /// # Errors
 ///
-/// `NotNow` where no leaf is asked for, then `NotAdmitted`.
+/// `NotNow` if the plan needs no leaf next, then `NotAdmitted`.
 fn check_leaf(
     progress: &Progress,
     leaf: &LeafNumbers,
@@ -77,13 +77,17 @@ fn give_leaf(
     Ok(())
 }
 
-/// Gives the next leaf, with its coefficients in Y, U and V: its fields are appended to the bytes in `room`. Its size
-/// and its place come from the marks.
+/// Appends the fields of the next leaf, with its coefficients in Y, U and V, to the bytes in `room`. The marks decide
+/// the leaf's size and position.
 ///
-/// `DONE`: that was done. `NOT_NOW`: no leaf is asked for. `NOT_ADMITTED`: a number names nothing or is not admitted
-/// here, chroma is given though the leaf carries none or is missing though it does, there are coefficients of chroma
-/// that it doesn't carry, or more than 65,535 of a plane. `TOO_LONG`: the bytes would be more than 2^26.
-/// `ROOM_TOO_SMALL`: they would not fit `room`. `BAD_STATE`: `builder` is none over `room`.
+/// `DONE`: success. `NOT_NOW`: the plan needs no leaf next. `TOO_LONG`: there would be more than 2^26 bytes.
+/// `ROOM_TOO_SMALL`: the bytes would not fit `room`. `BAD_STATE`: `builder` is not a valid builder over `room`.
+/// `NOT_ADMITTED`: one of these:
+///
+/// - A number is out of range, or is not valid in this leaf.
+/// - The leaf carries no chroma and chroma is given, or it carries chroma and none is given.
+/// - There are coefficients of U or V, and the leaf carries no chroma.
+/// - A plane has more than 65,535 coefficients.
 #[unsafe(no_mangle)]
 pub extern "C" fn av1_builder_leaf(
     builder: &mut Builder,
@@ -93,16 +97,16 @@ pub extern "C" fn av1_builder_leaf(
     u: &[Coefficient],
     v: &[Coefficient],
 ) -> u32
-    // Exactly the fields of this leaf are appended.
+    // The call appends exactly the fields of this leaf.
     ensures done { result ≡ DONE → Hold builder.new room.new room.old (with_leaf (plan_of builder.old room.old) (fields_of leaf.now y.now u.now v.now)) }
-    // The status is the one that is asked for.
+    // The plan so far, the leaf and the length of the buffer decide the status.
     ensures status { result ≡ asked_status (is_builder builder.old (length room.old))
         (numbers_refusal (plan_of builder.old room.old) leaf.now y.now u.now v.now)
         (length (with_leaf (plan_of builder.old room.old) (fields_of leaf.now y.now u.now v.now)).bytes) (length room.old) }
-    // What the bytes told of a plan before, they tell of it with what is given.
+    // If the bytes before spell a part of a plan, the bytes after spell this part with this leaf.
     ensures told { (p : PlanValue) → Tells (plan_of builder.old room.old) p → result ≡ DONE →
         Tells (plan_of builder.new room.new) (plan_with_leaf p (asked_part (plan_of builder.old room.old)) (fields_of leaf.now y.now u.now v.now)) }
-    // After a refusal all is as before.
+    // After each other status the builder and the buffer are unchanged.
     ensures kept { result ≢ DONE → (builder.new ≡ builder.old) × (room.new ≡ room.old) }
 {
     answer(give_leaf(builder, room, leaf, y, u, v))

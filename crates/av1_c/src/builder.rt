@@ -1,4 +1,4 @@
-//! A builder of plans in memory of the caller.
+//! A builder of plans in the caller's memory.
 
 ghost use Rattle.std.specs.Prelude.{◌≡◌, true, map};
 ghost use Rattle.std.specs.List.{list_all};
@@ -9,47 +9,48 @@ use crate::plan_header::PlanHeader;
 use av1_blocks::BlockSize;
 use av1_planwrite::{Part, Progress, Stacked, State, Superblocks};
 
-// The most parts that are asked for at once.
+// The greatest number of parts that a superblock needs at once.
 const MOST_PARTS: usize = 13;
 
-/// A part of a plan that is asked for, at its place in luma samples.
+/// A node or leaf that the plan needs, at its position in luma samples.
 #[repr(C)]
 #[derive(Clone, Copy)]
 pub struct BuilderPart {
     /// 1 for a node, and 0 for a leaf.
     pub kind: u8,
-    /// Of a node the logarithm to base 2 of a quarter of its side, of a leaf the number of its size.
+    /// For a node, the logarithm to base 2 of a quarter of its width in luma samples. For a leaf, the number of its
+    /// size.
     pub number: u8,
     pub x: u16,
     pub y: u16,
 }
 
-/// What a plan in the making asks for next. The caller keeps it between calls, and changes nothing in it.
+/// What an unfinished plan needs next. The caller keeps it between calls, and changes nothing in it.
 #[repr(C)]
 #[derive(Clone, Copy)]
 pub struct Builder {
-    /// How many bytes of the plan stand at the front of the buffer.
+    /// How many bytes of the plan are at the front of the buffer.
     pub written: usize,
-    /// The slot whose planes are asked for next, or 8.
+    /// The slot whose planes the plan needs next, or 8 if it needs no planes.
     pub slot: usize,
-    /// How many parts of the superblock that is begun are asked for.
+    /// How many parts of the current superblock the plan still needs.
     pub count: usize,
     /// The row and the column of the next superblock.
     pub row: u16,
     pub col: u16,
     pub header: PlanHeader,
-    /// The parts of the superblock that is begun, the next one last.
+    /// The parts of the current superblock that the plan still needs, the next one last.
     pub parts: [BuilderPart; MOST_PARTS],
 }
 
-// Whether these are the numbers of a part.
+// Whether these numbers are a valid part.
 fn is_part(numbers: BuilderPart) -> bool
     ensures { result ≡ is_part numbers }
 {
     numbers.kind == 1 || (numbers.kind == 0 && numbers.number < 22)
 }
 
-// Whether each of these is.
+// Whether all of these numbers are valid parts.
 #[tactic(auto, using(std::proofs::lemmas::List::Folds::list_all_more))]
 fn are_parts(numbers: &[BuilderPart]) -> bool
     ensures { result ≡ list_all is_part numbers.now }
@@ -62,7 +63,7 @@ fn are_parts(numbers: &[BuilderPart]) -> bool
     are
 }
 
-// The part of these numbers, where they are those of one. Other numbers of a leaf stand for the smallest.
+// The part of these numbers. A leaf with no valid size becomes one of 4x4.
 fn part_of(numbers: BuilderPart) -> Part
     ensures { result ≡ part_of numbers }
 {
@@ -146,11 +147,11 @@ impl Builder {
     ghost use Rattle.av1_c.specs.Builders.{header_of, is_builder, is_part, state_of};
     ghost use Rattle.av1_c.specs.declared.build_fault.BuildFault.TheVariants as faults;
 
-    /// How far the plan has come, of which so many bytes can stand in the buffer.
+    /// The state of the plan. The buffer has `room` bytes.
     ///
     /// # Errors
     ///
-    /// `BadState` where these numbers aren't those of a builder.
+    /// `BadState` if these numbers are not a valid builder over such a buffer.
     pub fn progress(&self, room: usize) -> Result<Progress, BuildFault>
         ensures resumed { IfOk result (λ p. built p [] ≡ stopped (header_of self.now.header) (state_of self.now)) }
         ensures written { IfOk result (λ p. self.now.written ≤ room) }
@@ -181,7 +182,7 @@ impl Builder {
         }
     }
 
-    /// The builder of a plan of this header that has come so far, of which so many bytes stand.
+    /// The builder of a plan with this header in this state, with `written` bytes in the buffer.
     pub fn stopped(header: PlanHeader, state: &State, written: usize) -> Builder
         ensures header { result.header ≡ header }
         ensures state { state_of result ≡ state.now }

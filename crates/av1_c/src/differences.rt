@@ -1,4 +1,4 @@
-//! The differences of a trace, put into memory of the caller.
+//! Lists the differences of a trace in the caller's memory.
 ghost use Rattle.std.specs.Prelude.{◌≡◌, ◌<◌, Ok, IfOk, IfErr, length, map, slice_index_or};
 ghost use Rattle.av1_c.specs.TraceCalls.{IsTraceCause, ListsDifferences, TraceComesTo, difference_numbers, listed};
 
@@ -7,7 +7,7 @@ use av1_calls::DONE;
 use av1_trace::{Difference, MAX_TRACE_BYTES, trace_differences};
 use std::alloc::Global;
 
-/// The first sample of a leaf in a plane that is not the one that the plan comes to.
+/// The first sample of a leaf in a plane that differs from the sample of the plan.
 #[repr(C)]
 #[derive(Clone, Copy, Debug, PartialEq, Eq)]
 pub struct TraceDifference {
@@ -15,11 +15,11 @@ pub struct TraceDifference {
     pub leaf: u32,
     /// The row of the sample in its plane.
     pub row: u16,
-    /// Its column.
+    /// The column of the sample in its plane.
     pub column: u16,
-    /// The sample that was given, of up to 16 bits whatever the depth.
+    /// The sample that the trace has, of up to 16 bits whatever the depth.
     pub given: u16,
-    /// The sample that the plan comes to.
+    /// The sample that the plan has by definition.
     pub defined: u16,
     /// 0 for Y, 1 for U and 2 for V.
     pub plane: u8,
@@ -45,7 +45,7 @@ fn difference_at(list: &[Difference], i: usize) -> Difference
     list[i]
 }
 
-// Puts the first of the differences to the front of the buffer, as many as it has room for.
+// Writes the differences to the front of the buffer, as many as fit.
 fn put_differences(list: &[Difference], room: &mut [TraceDifference])
     ensures { room.new ≡ listed (map difference_numbers list.now) room.old }
 {
@@ -54,12 +54,12 @@ fn put_differences(list: &[Difference], room: &mut [TraceDifference])
     }
 }
 
-/// The differences of the trace that these bytes are.
+/// The differences of a trace from its bytes.
 ///
 /// # Errors
 ///
-/// `TooLong`, then `Malformed` before the planes, then `MalformedPart` or `InvalidPart` for the plan, then `Malformed`.
-/// `Memory` may stand in place of any but the first.
+/// `TooLong`, then `Malformed` for a field before the plan, then `MalformedPart` or `InvalidPart` for the plan, then
+/// `Malformed` for the planes. `Memory` may replace any but the first.
 fn differences_of(alloc: Global, bytes: &[u8]) -> Result<Vec<Difference>, PartFault>
     ensures found { IfOk result (λ list. TraceComesTo bytes.now (Ok list.items)) }
     ensures refused { IfErr result (IsTraceCause bytes.now) }
@@ -70,15 +70,16 @@ fn differences_of(alloc: Global, bytes: &[u8]) -> Result<Vec<Difference>, PartFa
     Ok(trace_differences(alloc, bytes)?)
 }
 
-/// Compares the planes of the trace that these bytes are with those that its plan comes to. `found` then has the number
-/// of differences: in coding order of the leaves, and of Y, U and V of each, there is one where a visible sample of the
-/// leaf's rectangle is not that of the plan, for the first of these in raster order. The first of them stand at the
-/// front of `room`, as many as it has room for; the rest of `room` stays.
+/// Compares the planes of a trace with the planes of its plan. `bytes` is the trace. `found` becomes the number of
+/// differences, and `room` begins with the differences, as many as fit. The rest of `room` is unchanged.
 ///
-/// `DONE`: that was done; 0 differences say that the planes are those of the plan. `TOO_LONG`: the bytes are more than
-/// 2^27. `MALFORMED`: they are no trace, for the field that begins at `refusal.at`. `MALFORMED_PART`, `INVALID_PART`:
-/// its plan is refused, for the field that begins at byte `refusal.at` of it, or for leaf `refusal.leaf` and by the
-/// reason `refusal.kind`. `OUT_OF_MEMORY`: memory ran out.
+/// There is at most one difference for each leaf and plane: the first visible sample of the leaf's rectangle, in raster
+/// order, that differs. The list follows the coding order of the leaves, and for each leaf Y, U and V.
+///
+/// `DONE`: success; without differences the planes are those of the plan. `TOO_LONG`: there are more than 2^27 bytes.
+/// `MALFORMED`: the bytes are not a valid trace; the bad field begins at `refusal.at`. `MALFORMED_PART`: the plan is
+/// not valid; the bad field begins at byte `refusal.at` of the plan. `INVALID_PART`: leaf `refusal.leaf` of the plan is
+/// rejected for reason `refusal.kind`. `OUT_OF_MEMORY`: memory ran out.
 #[unsafe(no_mangle)]
 pub extern "C" fn av1_trace_differences(
     alloc: Global,

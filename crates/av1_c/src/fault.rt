@@ -1,4 +1,4 @@
-//! Why a call on a plan wrote nothing, and what of it is told.
+//! Why a call on a plan fails, its status, and what the caller learns about the plan.
 ghost use Rattle.std.specs.Prelude.{◌≡◌};
 ghost use Rattle.av1_c.specs.Faults.{kind_number, invalid_fault, plan_fault, status_of, told};
 ghost use Rattle.av1_c.specs.declared.fault.PlanCallFault.TheVariants as faults;
@@ -11,30 +11,30 @@ use av1_blocks::OutOfMemory;
 use av1_calls::ROOM_TOO_SMALL;
 use av1_plan::{Invalid, InvalidKind, PlanError};
 
-/// Why a call on a plan wrote nothing.
+/// Why a call on a plan fails. Such a call writes no planes.
 #[derive(Clone, Copy, Debug, PartialEq, Eq)]
 pub enum PlanCallFault {
-    /// An allocation was refused.
+    /// An allocation failed.
     Memory,
     /// The buffer is shorter than the planes.
     RoomTooSmall,
-    /// There are more bytes than the longest plan has.
+    /// There are more bytes than the longest plan has: 2^26.
     TooLong,
-    /// The field that begins at byte `at` is cut, has a value that is not admitted, or is left over after the end.
+    /// The field at byte `at` is cut off, has a value that is not valid, or follows the end of the plan.
     Malformed { at: u32 },
-    /// Leaf number `leaf`, counted from 0 in coding order, is the first that is refused, and why.
+    /// Leaf number `leaf`, counted from 0 in coding order, is the first rejected leaf. `kind` is the reason.
     Invalid { leaf: u32, kind: InvalidKind },
 }
 
-/// What a plan is refused for: a field at fault, or a leaf and why. What is not told is 0.
+/// Why a plan is rejected: a bad field, or a bad leaf and the reason. Numbers that don't apply are 0.
 #[repr(C)]
 #[derive(Clone, Copy, Debug, PartialEq, Eq)]
 pub struct Refusal {
-    /// The byte at which the field at fault begins.
+    /// The byte at which the bad field begins.
     pub at: u32,
-    /// The first faulty leaf, counted from 0 in coding order.
+    /// The first bad leaf, counted from 0 in coding order.
     pub leaf: u32,
-    /// Why it is refused.
+    /// The number of the reason.
     pub kind: u32,
 }
 
@@ -68,7 +68,7 @@ impl From<OutOfMemory> for PlanCallFault {
     }
 }
 
-/// The number of a reason for which a leaf is refused.
+/// The number of the reason for which a leaf is rejected.
 pub(crate) fn kind_number(kind: InvalidKind) -> u32
     ensures { result ≡ kind_number kind }
 {
@@ -83,7 +83,8 @@ pub(crate) fn kind_number(kind: InvalidKind) -> u32
 }
 
 impl PlanCallFault {
-    /// The status of a call that ended so. What the plan is refused for is told, and nothing where it isn't.
+    /// The status of a call that fails for this reason. `refusal` becomes the bad field or leaf. It is unchanged if the
+    /// plan is not malformed or invalid.
     pub fn tell(self, refusal: &mut Refusal) -> u32
         ensures status { result ≡ status_of self }
         ensures refusal { refusal.new ≡ told self refusal.old }

@@ -1,4 +1,4 @@
-//! Bytes that are gathered in memory.
+//! A sink that collects bytes in memory.
 ghost use Rattle.std.specs.Prelude.{◌≡◌, ◌<◌, [], length, IfOk};
 ghost use Rattle.std.specs.Io.{WritesAtMost};
 ghost use Rattle.std.specs.Io.KnownBytes.{WriteAppends};
@@ -7,7 +7,7 @@ ghost use Rattle.av1_streams.specs.Faults.{HasCause};
 use av1_streams::{Failed, Sink};
 use std::alloc::Global;
 
-/// A sink in memory, which takes all that it is given. A write fails only where memory runs out.
+/// A sink in memory that takes all bytes of each write. A write only fails if memory runs out.
 #[derive(Drop)]
 pub struct GatheringSink {
     bytes: Vec<u8>,
@@ -27,7 +27,7 @@ impl GatheringSink {
         }
     }
 
-    /// All that it took.
+    /// All bytes that the sink took.
     pub fn into_bytes(self) -> Vec<u8>
         ensures { result.items ≡ gathered self }
     {

@@ -1,5 +1,5 @@
-//! Blocks that intra modes predict, alone and in their plane, their edges, luma for their chroma, and the numbers that
-//! these ask for, for C. Each call is that of `av1_calls` of the same name, which says what it does.
+//! Intra prediction for C: the calls on blocks, edges, chroma from luma and their arguments. Each call is the call of
+//! `av1_calls` with the same name. Its documentation is there.
 ghost use Rattle.std.specs.Prelude.{false, true};
 ghost use Rattle.av1_blocks.specs.declared.predict.PredictionMode.TheVariants as modes;
 ghost use Rattle.av1_calls.specs.AngleSteps.{FindsStep};
@@ -12,7 +12,7 @@ ghost use Rattle.av1_calls.specs.SmoothNeighbours.{TellsSmooth};
 
 use av1_calls::{CflBlock, EdgeBlock, EdgePlane, IntraBlock, LumaLeafBlock, Neighbours};
 
-/// Predicts a block by its intra mode from the sides round it, at a depth of 8.
+/// Predicts a block by its intra mode from the samples round it, at a depth of 8.
 #[unsafe(no_mangle)]
 pub extern "C" fn av1_predict_intra_8(
     samples: &mut [u8],
@@ -29,7 +29,7 @@ pub extern "C" fn av1_predict_intra_8(
     av1_calls::av1_predict_intra_8(samples, stride, x, y, block, left, corner, above)
 }
 
-/// The same for samples of 16 bits.
+/// Predicts a block by its intra mode, in samples of 16 bits.
 #[unsafe(no_mangle)]
 pub extern "C" fn av1_predict_intra_16(
     samples: &mut [u16],
@@ -64,7 +64,7 @@ pub extern "C" fn av1_predict_cfl_8(
     av1_calls::av1_predict_cfl_8(samples, stride, x, y, block, left, above, ac, alpha)
 }
 
-/// The same for samples of 16 bits.
+/// Predicts a block of chroma from luma, in samples of 16 bits.
 #[unsafe(no_mangle)]
 pub extern "C" fn av1_predict_cfl_16(
     samples: &mut [u16],
@@ -82,7 +82,7 @@ pub extern "C" fn av1_predict_cfl_16(
     av1_calls::av1_predict_cfl_16(samples, stride, x, y, block, left, above, ac, alpha)
 }
 
-/// Prepares the edge of a transform for the mode that is to predict it, at a depth of 8.
+/// Prepares the edge of a transform for the mode that will predict it, at a depth of 8.
 #[unsafe(no_mangle)]
 pub extern "C" fn av1_intra_edge_8(
     edge: &mut [u8],
@@ -95,7 +95,7 @@ pub extern "C" fn av1_intra_edge_8(
     av1_calls::av1_intra_edge_8(edge, samples, plane, block)
 }
 
-/// The same for samples of 16 bits.
+/// Prepares the edge of a transform, from samples of 16 bits.
 #[unsafe(no_mangle)]
 pub extern "C" fn av1_intra_edge_16(
     edge: &mut [u16],
@@ -108,7 +108,7 @@ pub extern "C" fn av1_intra_edge_16(
     av1_calls::av1_intra_edge_16(edge, samples, plane, block)
 }
 
-/// Prepares the edge of a transform and predicts it from this in the samples of its plane, at a depth of 8.
+/// Prepares the edge of a transform and predicts the transform from it in the samples of its plane, at a depth of 8.
 #[unsafe(no_mangle)]
 pub extern "C" fn av1_predict_in_plane_8(
     samples: &mut [u8],
@@ -123,7 +123,7 @@ pub extern "C" fn av1_predict_in_plane_8(
     av1_calls::av1_predict_in_plane_8(samples, plane, block, smooth_neighbour, ac, alpha)
 }
 
-/// The same for samples of 16 bits.
+/// Prepares the edge of a transform and predicts the transform from it, in samples of 16 bits.
 #[unsafe(no_mangle)]
 pub extern "C" fn av1_predict_in_plane_16(
     samples: &mut [u16],
@@ -153,7 +153,7 @@ pub extern "C" fn av1_cfl_ac_8(
     av1_calls::av1_cfl_ac_8(ac, luma, stride, x, y, block)
 }
 
-/// The same for samples of 16 bits.
+/// Gives the differences of luma from its mean, from samples of 16 bits.
 #[unsafe(no_mangle)]
 pub extern "C" fn av1_cfl_ac_16(
     ac: &mut [i16],
@@ -177,7 +177,7 @@ pub extern "C" fn av1_cfl_block_of(block: &mut CflBlock, luma: &LumaLeafBlock) -
     av1_calls::av1_cfl_block_of(block, luma)
 }
 
-/// Finds how many steps a mode turns to an angle.
+/// Finds how many steps of 3 degrees a mode turns to an angle.
 #[unsafe(no_mangle)]
 pub extern "C" fn av1_angle_step(step: &mut i8, mode: u8, angle: usize) -> u32
     ensures { FindsStep mode angle step.old step.new result }
@@ -185,7 +185,7 @@ pub extern "C" fn av1_angle_step(step: &mut i8, mode: u8, angle: usize) -> u32
     av1_calls::av1_angle_step(step, mode, angle)
 }
 
-/// Tells whether a neighbour of a block has a smooth mode.
+/// Finds whether a neighbour of a block has a smooth mode.
 #[unsafe(no_mangle)]
 pub extern "C" fn av1_smooth_neighbour(smooth: &mut u8, neighbours: &Neighbours) -> u32
     ensures { TellsSmooth neighbours.now smooth.old smooth.new result }

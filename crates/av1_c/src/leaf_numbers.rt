@@ -1,4 +1,4 @@
-//! The fields of a leaf, by numbers.
+//! The fields of a leaf as numbers, for C.
 
 ghost use Rattle.std.specs.Prelude.{◌≡◌};
 ghost use Rattle.av1_c.specs.Leaves.{are_numbers, chroma_of, kind_of, mode_of, reference_of, triple_of, tx_size_of, tx_type_of, uv_type_of, vector_of};
@@ -12,9 +12,9 @@ use av1_plan::{ChromaMode, LeafKind, Triple};
 pub struct Coefficient {
     /// Its value.
     pub value: i32,
-    /// The place in the block's list of coefficients.
+    /// Its index in the block's list of coefficients.
     pub place: u16,
-    /// The transform block, numbered in raster order over the leaf's rectangle in the plane.
+    /// The number of its transform block, in raster order over the leaf's rectangle in the plane.
     pub block: u8,
 }
 
@@ -24,28 +24,28 @@ pub struct Coefficient {
 pub struct LeafMotion {
     pub row: i16,
     pub col: i16,
-    /// LAST to ALTREF: 1 to 7.
+    /// The number of the reference: 1 (LAST) to 7 (ALTREF).
     pub reference: u8,
 }
 
-/// The fields of a leaf but its coefficients, by the numbers that they have in a plan. What a leaf doesn't have is left
-/// at 0.
+/// The fields of a leaf except its coefficients, with the numbers that plans use. Set fields to 0 that the leaf doesn't
+/// have.
 #[repr(C)]
 #[derive(Clone, Copy)]
 pub struct LeafNumbers {
-    /// The reference of a leaf that has one or two.
+    /// The first reference, if the leaf has one or two.
     pub first: LeafMotion,
-    /// The other one of a leaf that has two.
+    /// The second reference, if the leaf has two.
     pub second: LeafMotion,
-    /// 0 to 13 without references, 14 to 19 with one, 20 to 33 with two.
+    /// The number of the mode: 0 to 13 without references, 14 to 19 with one, 20 to 33 with two.
     pub mode: u8,
-    /// Without references the steps of 3 degrees on the mode's angle.
+    /// Without references: how many steps of 3 degrees the mode turns.
     pub step: i8,
-    /// Whether the leaf carries chroma: not 0.
+    /// 0 if the leaf carries no chroma.
     pub chroma: u8,
-    /// Without references, where chroma is carried: 0 to 12, or 13 for chroma from luma.
+    /// Without references and with chroma: the mode of chroma from 0 to 12, or 13 for chroma from luma.
     pub chroma_mode: u8,
-    /// The steps of 3 degrees on that mode's angle.
+    /// How many steps of 3 degrees the mode of chroma turns.
     pub chroma_step: i8,
     /// The weights of chroma from luma, in eighths.
     pub alpha_u: i8,
@@ -53,12 +53,12 @@ pub struct LeafNumbers {
     /// The size and the type of the luma transforms.
     pub tx_size: u8,
     pub tx_type: u8,
-    /// The type of the chroma transforms, where chroma is carried.
+    /// The type of the chroma transforms, if the leaf carries chroma.
     pub uv_type: u8,
 }
 
 impl Coefficient {
-    /// The same as a plan has it.
+    /// The coefficient as a plan has it.
     pub fn triple(self) -> Triple
         ensures { result ≡ triple_of self }
     {
@@ -70,8 +70,7 @@ impl Coefficient {
     }
 }
 
-// The mode of a number. Past the last one it is that of chroma from luma, which is admitted in none of the places where
-// this is called.
+// The mode of a number. Each number past the last one gives chroma from luma. No caller accepts that mode.
 fn mode_of(number: u8) -> PredictionMode
     ensures { result ≡ mode_of number }
 {
@@ -81,7 +80,7 @@ fn mode_of(number: u8) -> PredictionMode
     }
 }
 
-// The reference of a number. Past the last one it is none of those that a leaf may have.
+// The reference of a number. Each number past the last one gives `NONE_FRAME`, which no leaf may have.
 fn reference_of(number: u8) -> RefType
     ensures { result ≡ reference_of number }
 {
@@ -91,7 +90,7 @@ fn reference_of(number: u8) -> RefType
     }
 }
 
-// The size of a number. Past the last one it is any.
+// The size of a number. Each number past the last one gives an arbitrary size.
 fn tx_size_of(number: u8) -> TxSize
     ensures { result ≡ tx_size_of number }
 {
@@ -101,7 +100,7 @@ fn tx_size_of(number: u8) -> TxSize
     }
 }
 
-// The type of a number. Past the last one it is any.
+// The type of a number. Each number past the last one gives an arbitrary type.
 fn tx_type_of(number: u8) -> TxType
     ensures { result ≡ tx_type_of number }
 {
@@ -124,14 +123,14 @@ impl LeafMotion {
 }
 
 impl LeafNumbers {
-    /// Whether each number of a transform names one.
+    /// Whether the numbers of the transforms are in range.
     pub fn are_numbers(&self) -> bool
         ensures { result ≡ are_numbers self.now }
     {
         self.tx_size <= 18 && self.tx_type <= 16 && self.uv_type <= 16
     }
 
-    // How the chroma of a leaf without references is predicted, where it carries chroma.
+    // How chroma is predicted in a leaf without references, if the leaf carries chroma.
     fn chroma_mode(&self) -> Option<ChromaMode>
         ensures { result ≡ chroma_of self.now }
     {
@@ -191,7 +190,7 @@ impl LeafNumbers {
         tx_type_of(self.tx_type)
     }
 
-    /// The type of the chroma transforms, where chroma is carried.
+    /// The type of the chroma transforms, if the leaf carries chroma.
     pub fn uv_type(&self) -> Option<TxType>
         ensures { result ≡ uv_type_of self.now }
     {

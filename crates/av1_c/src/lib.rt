@@ -1,29 +1,37 @@
-//! Block reconstruction for C: the calls that an archive exports, over memory of the caller.
+//! Block reconstruction for C: the calls that the static library exports, over the caller's memory.
 //!
-//! [`av1_planes_len`] tells how many bytes the planes of a plan have, and [`av1_reconstruct_plan`] writes them to a
-//! buffer of the caller; [`av1_reconstruct_tiles`] and [`av1_reconstruct_sequence`] do the same of bytes that hold
-//! plans as parts, and [`av1_trace_differences`] lists where planes of another encoder are not those of their plan.
-//! [`av1_builder_begin`] and the calls behind it write a plan field by field to a buffer of the caller, who keeps a
-//! [`Builder`] between them, and take no memory. The calls on one block (`src/transform_calls.rt`,
-//! `src/motion_calls.rt`, `src/intra_calls.rt`) and on rows of samples (`src/row_calls.rt`) are those of `av1_calls`,
-//! and take no memory either. [`av1_c_version`] tells which version of the archive it is that is called. Each call
-//! tests all of its arguments, and answers one of the statuses of `src/status.rt` and of `av1_calls`. What is owed by
-//! the caller is told by no test: each pointer leads to as many elements as the length beside it says, and what is
-//! written overlaps nothing else.
+//! - [`av1_planes_len`] gives the length of a plan's planes in bytes. [`av1_reconstruct_plan`] writes the planes to the
+//!   caller's buffer.
+//! - [`av1_reconstruct_tiles`] and [`av1_reconstruct_sequence`] write the planes of a grid of tiles and of a sequence.
+//!   [`av1_trace_differences`] lists where the planes of another encoder differ from their plan.
+//! - [`av1_builder_begin`] and the calls after it write a plan field by field to the caller's buffer. The caller keeps
+//!   a [`Builder`] between the calls. These calls do not allocate.
+//! - The calls on one block (`src/transform_calls.rt`, `src/motion_calls.rt`, `src/intra_calls.rt`) and on rows of
+//!   samples (`src/row_calls.rt`) are those of `av1_calls`. They do not allocate either.
+//! - [`av1_c_version`] gives the version of the library that is linked.
 //!
-//! It stands on `av1_plan` for the grammar and the check of plans, on `av1_recon` for the planes that a plan comes to,
-//! on `av1_tiles` and `av1_sequence` for those of grids of tiles and of sequences, on `av1_trace` for their length and
-//! for traces, on `av1_planwrite` for what a plan asks for next and the bytes of its fields, and on `av1_calls` for all
-//! that is done with one block.
+//! Each call tests all of its arguments and returns a status of `src/status.rt` or of `av1_calls`. A test can't check
+//! pointers. So the caller has to ensure two things:
 //!
-//! Promised: every call returns. Of a call on a plan status `DONE` says that the bytes are a valid plan, and that the
-//! front of the buffer is its planes by the slow definition, the rest of it as before. Each other status has its cause,
-//! and leaves the buffer and the count as they were. The status is the one that the bytes come to (`status_for`,
-//! `specs/Plans.antt`), or that of running out of memory; so with tiles, sequences and traces (`specs/Parts.antt`,
-//! `specs/TraceCalls.antt`). Of a builder's call it says that exactly the fields of the
-//! call were appended, and that the builder asks for what the grammar asks for behind them; each other status has its
-//! cause, and leaves the builder and the buffer as they were (`specs/Builders.antt`, `specs/BuildFaults.antt`). A call
-//! on a block says what that of `av1_calls` says.
+//! - Each pointer leads to as many elements as the length beside it says.
+//! - Memory that a call writes overlaps no other memory that the call uses.
+//!
+//! This crate uses `av1_plan` for the grammar and the check of plans, and `av1_recon` for the planes of a plan. It uses
+//! `av1_tiles` and `av1_sequence` for grids and sequences, and `av1_trace` for the length of planes and for traces. It
+//! uses `av1_planwrite` for the fields that a plan needs next and their bytes, and `av1_calls` for single blocks.
+//!
+//! What the calls promise:
+//!
+//! - Every call returns.
+//! - `DONE` of a call on a plan says that the bytes are a valid plan. The front of the buffer is then its planes by the
+//!   slow definition, and the rest of the buffer is unchanged. Each other status has its cause, and then the buffer and
+//!   the count are unchanged.
+//! - The bytes decide the status (`status_for`, `specs/Plans.antt`), unless memory runs out. The same holds for tiles,
+//!   sequences and traces (`specs/Parts.antt`, `specs/TraceCalls.antt`).
+//! - `DONE` of a builder's call says that the call appended exactly its fields, and that the builder needs what the
+//!   grammar needs after them. Each other status has its cause, and then the builder and the buffer are unchanged
+//!   (`specs/Builders.antt`, `specs/BuildFaults.antt`).
+//! - A call on a block promises what the call of `av1_calls` promises.
 #![tactic(auto)]
 
 mod append_leaf;

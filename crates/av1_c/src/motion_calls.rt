@@ -1,5 +1,5 @@
-//! Blocks that are predicted from references, for C. Each call is that of `av1_calls` of the same name, which says what
-//! it does.
+//! Prediction from references for C. Each call is the call of `av1_calls` with the same name. Its documentation is
+//! there.
 ghost use Rattle.std.specs.Prelude.{◌+◌, false, true, length};
 ghost use Rattle.av1_calls.specs.MotionPlaces.{FindsPlace};
 ghost use Rattle.av1_calls.specs.Motions.{Averages, Prepares, Puts, place, source_at};
@@ -42,7 +42,7 @@ pub extern "C" fn av1_put_8tap_8(
     )
 }
 
-/// The same for samples of 16 bits.
+/// Predicts a block from a reference, in samples of 16 bits.
 #[unsafe(no_mangle)]
 pub extern "C" fn av1_put_8tap_16(
     dst: &mut [u16],
@@ -63,7 +63,7 @@ pub extern "C" fn av1_put_8tap_16(
     )
 }
 
-/// Prepares a block of a reference for the average with another, at a depth of 8.
+/// Prepares a block of a reference for the average with another block, at a depth of 8.
 #[unsafe(no_mangle)]
 pub extern "C" fn av1_prep_8tap_8(
     values: &mut [i16],
@@ -78,7 +78,7 @@ pub extern "C" fn av1_prep_8tap_8(
     av1_calls::av1_prep_8tap_8(values, src, src_stride, src_x, src_y, block)
 }
 
-/// The same for samples of 16 bits.
+/// Prepares a block of a reference for the average with another block, from samples of 16 bits.
 #[unsafe(no_mangle)]
 pub extern "C" fn av1_prep_8tap_16(
     values: &mut [i16],
@@ -111,7 +111,7 @@ pub extern "C" fn av1_mc_avg_8(
     av1_calls::av1_mc_avg_8(samples, stride, x, y, width, height, first, second)
 }
 
-/// The same for samples of 16 bits.
+/// Averages two prepared blocks, in samples of 16 bits.
 #[unsafe(no_mangle)]
 pub extern "C" fn av1_mc_avg_16(
     samples: &mut [u16],
@@ -131,7 +131,7 @@ pub extern "C" fn av1_mc_avg_16(
     )
 }
 
-/// Predicts a block that a vector moves from a plane without margins, at a depth of 8.
+/// Predicts a block that a vector moves, from a plane without margins, at a depth of 8.
 #[unsafe(no_mangle)]
 pub extern "C" fn av1_put_moved_8(
     dst: &mut [u8],
@@ -148,7 +148,7 @@ pub extern "C" fn av1_put_moved_8(
     av1_calls::av1_put_moved_8(dst, dst_stride, dst_x, dst_y, src, plane, block, window)
 }
 
-/// The same for samples of 16 bits, of which none that is read is past the depth.
+/// Predicts a block that a vector moves, in samples of 16 bits. No sample that is read may be past the depth.
 #[unsafe(no_mangle)]
 pub extern "C" fn av1_put_moved_16(
     dst: &mut [u16],
@@ -169,7 +169,8 @@ pub extern "C" fn av1_put_moved_16(
     )
 }
 
-/// Prepares a block that a vector moves from a plane without margins for the average with another, at a depth of 8.
+/// Prepares a block that a vector moves for the average with another block, from a plane without margins, at a depth of
+/// 8.
 #[unsafe(no_mangle)]
 pub extern "C" fn av1_prep_moved_8(
     values: &mut [i16],
@@ -183,7 +184,7 @@ pub extern "C" fn av1_prep_moved_8(
     av1_calls::av1_prep_moved_8(values, src, plane, block, window)
 }
 
-/// The same for samples of 16 bits, of which none that is read is past the depth.
+/// Prepares a block that a vector moves, from samples of 16 bits. No sample that is read may be past the depth.
 #[unsafe(no_mangle)]
 pub extern "C" fn av1_prep_moved_16(
     values: &mut [i16],
@@ -199,7 +200,7 @@ pub extern "C" fn av1_prep_moved_16(
     av1_calls::av1_prep_moved_16(values, src, plane, block, window, bit_depth)
 }
 
-/// Tells whether no sample of a rectangle is past a depth.
+/// Tests that no sample of a rectangle is past a depth.
 #[unsafe(no_mangle)]
 pub extern "C" fn av1_test_samples_16(
     samples: &[u16],
@@ -215,7 +216,7 @@ pub extern "C" fn av1_test_samples_16(
     av1_calls::av1_test_samples_16(samples, stride, x, y, width, height, bit_depth)
 }
 
-/// Predicts a block from a reference of which no sample that is read is past the depth.
+/// Predicts a block from a reference of 16 bits without testing samples. No sample that is read may be past the depth.
 #[unsafe(no_mangle)]
 pub extern "C" fn av1_put_tested_16(
     dst: &mut [u16],
@@ -237,7 +238,7 @@ pub extern "C" fn av1_put_tested_16(
     )
 }
 
-/// Prepares a block of such a reference for the average with another.
+/// Prepares a block of a reference of 16 bits without testing samples. No sample that is read may be past the depth.
 #[unsafe(no_mangle)]
 pub extern "C" fn av1_prep_tested_16(
     values: &mut [i16],

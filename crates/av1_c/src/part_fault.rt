@@ -1,4 +1,4 @@
-//! Why a call on bytes that hold plans as parts wrote nothing, and what of it is told.
+//! Why a call on tiles, a sequence or a trace fails, its status, and what the caller learns about the bytes.
 ghost use Rattle.std.specs.Prelude.{◌≡◌};
 ghost use Rattle.av1_c.specs.PartFaults.{field_of, frame_fault, in_part, part_status, part_told, sequence_fault, tiles_fault, trace_fault};
 
@@ -12,30 +12,29 @@ use av1_sequence::{FrameFault, SequenceError};
 use av1_tiles::TilesError;
 use av1_trace::{PlanFault, TraceError};
 
-/// Why a call on bytes that hold plans as parts wrote nothing.
+/// Why a call fails on bytes that hold plans as parts: tiles, a sequence or a trace. Such a call writes nothing.
 #[derive(Clone, Copy, Debug, PartialEq, Eq)]
 pub enum PartFault {
-    /// An allocation was refused.
+    /// An allocation failed.
     Memory,
     /// The buffer is shorter than the planes.
     RoomTooSmall,
-    /// There are more bytes than the longest that are read.
+    /// There are more bytes than the longest input that is read.
     TooLong,
-    /// The field that begins at byte `at` is cut, has a value that is not admitted, or is left over after the end. A
-    /// part is one field.
+    /// The field at byte `at` is cut off, has a value that is not valid, or follows the end. A part is one field.
     Malformed {
         at: u32,
     },
-    /// A part comes to a plan that is longer than the longest.
+    /// The plan of a part would be longer than the longest plan.
     TooLongPart {
         part: u32,
     },
-    /// The field of a part that begins at its byte `at` is cut, has a value that is not admitted, or is left over.
+    /// The field at byte `at` of a part is cut off, has a value that is not valid, or follows the part's end.
     MalformedPart {
         part: u32,
         at: u32,
     },
-    /// A leaf of a part is refused, and why.
+    /// A leaf of a part is rejected. `kind` is the reason.
     InvalidPart {
         part: u32,
         leaf: u32,
@@ -47,22 +46,22 @@ pub enum PartFault {
     },
 }
 
-/// What bytes that hold plans as parts are refused for. What is not told is 0.
+/// Why bytes that hold plans as parts are rejected. Numbers that don't apply are 0.
 #[repr(C)]
 #[derive(Clone, Copy, Debug, PartialEq, Eq)]
 pub struct PartRefusal {
-    /// The first part that is refused, counted from 0.
+    /// The first rejected part, counted from 0.
     pub part: u32,
-    /// The byte at which the field at fault begins, counted from the first of the part, or of all where no part is at
-    /// fault.
+    /// The byte at which the bad field begins, counted from the start of the part. If no part is bad, it is counted
+    /// from the start of all bytes.
     pub at: u32,
-    /// The first faulty leaf of the part, counted from 0 in coding order.
+    /// The first bad leaf of the part, counted from 0 in coding order.
     pub leaf: u32,
-    /// Why it is refused.
+    /// The number of the reason, as in `Refusal`.
     pub kind: u32,
 }
 
-// Why a part is refused that is a plan, or the leaves of one.
+// Why a part that is a plan, or the leaves of a plan, is rejected.
 fn in_part(part: u32, refusal: PlanFault) -> PartFault
     ensures { result ≡ in_part part refusal }
 {
@@ -72,7 +71,7 @@ fn in_part(part: u32, refusal: PlanFault) -> PartFault
     }
 }
 
-// Why a part is refused that is a frame of a sequence.
+// Why a part that is a frame of a sequence is rejected.
 fn frame_fault(part: u32, fault: FrameFault) -> PartFault
     ensures { result ≡ frame_fault part fault }
 {
@@ -83,7 +82,7 @@ fn frame_fault(part: u32, fault: FrameFault) -> PartFault
     }
 }
 
-// No read of a slice and no write to a sink in memory fails but where memory runs out.
+// Reads of a slice and writes to a sink in memory only fail if memory runs out.
 impl From<TilesError> for PartFault {
     ghost from_gives = { λ error fault. fault ≡ tiles_fault error };
 
@@ -132,7 +131,7 @@ impl From<TraceError> for PartFault {
     }
 }
 
-// A refusal for this field, of a part or of all.
+// The bad field at `at`, of a part or of all bytes.
 fn field_of(part: u32, at: u32) -> PartRefusal
     ensures { result ≡ field_of part at }
 {
@@ -145,7 +144,8 @@ fn field_of(part: u32, at: u32) -> PartRefusal
 }
 
 impl PartFault {
-    /// The status of a call that ended so. What the bytes are refused for is told, and nothing where they aren't.
+    /// The status of a call that fails for this reason. `refusal` says where the bytes are bad. It is unchanged if the
+    /// bytes are not.
     pub fn tell(self, refusal: &mut PartRefusal) -> u32
         ensures status { result ≡ part_status self }
         ensures refusal { refusal.new ≡ part_told self refusal.old }

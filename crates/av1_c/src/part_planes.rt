@@ -1,11 +1,11 @@
-//! Planes put to the front of a buffer of the caller.
+//! Writes planes to the front of the caller's buffer.
 ghost use Rattle.std.specs.Prelude.{◌≡◌, ◌<◌, IfOk, IfErr, OnErr, length};
 ghost use Rattle.av1_c.specs.Plans.{AreWritten};
 ghost use Rattle.av1_c.specs.declared.part_fault.PartFault.TheVariants.{RoomTooSmall};
 
 use crate::part_fault::PartFault;
 
-/// Puts planes to the front of the buffer, and says how many bytes they have.
+/// Writes planes to the front of the buffer, and returns their length in bytes.
 ///
 /// # Errors
 ///

@@ -1,4 +1,4 @@
-//! The header of a plan, by numbers.
+//! The header of a plan as numbers, for C.
 
 ghost use Rattle.std.specs.Prelude.{◌≡◌};
 ghost use Rattle.av1_c.specs.Builders.{header_of};
@@ -6,16 +6,16 @@ ghost use Rattle.av1_c.specs.Builders.{header_of};
 use av1_calls::filter_mode;
 use av1_plan::Header;
 
-/// The frame that a plan is for, and what holds for all its leaves: the numbers of the fields that a plan begins with.
+/// The fields that a plan begins with: the frame that it is for, and what holds for all leaves.
 #[repr(C)]
 #[derive(Clone, Copy)]
 pub struct PlanHeader {
-    /// Columns of luma samples that are shown, from 1 to 2048: up to the second version a multiple of 8.
+    /// Visible columns of luma samples, from 1 to 2048. In versions 1 and 2 it is a multiple of 8.
     pub width: u16,
-    /// Rows of luma samples that are shown, from 1 to 2048: up to the second version a multiple of 8.
+    /// Visible rows of luma samples, from 1 to 2048. In versions 1 and 2 it is a multiple of 8.
     pub height: u16,
-    /// The version of the grammar: 1, or 2, in which a node may be cut into four leaves that are a quarter as wide or
-    /// as high, or 3, in which the frame has any sides besides.
+    /// The version of the grammar, from 1 to 3. From version 2 on, a node may be cut into four leaves that are a
+    /// quarter as wide or as high. In version 3, the dimensions need not be multiples of 8.
     pub version: u8,
     /// Bits of a sample: 8, 10 or 12.
     pub depth: u8,
@@ -23,11 +23,11 @@ pub struct PlanHeader {
     pub sampling: u8,
     /// The interpolation filter of motion compensation: 0 to 3.
     pub filter: u8,
-    /// Whether intra edges are filtered: not 0.
+    /// 0 if intra edges are not filtered.
     pub edge_filter: u8,
     /// The slots that carry planes: bit s is slot s.
     pub mask: u8,
-    /// For each reference from LAST to ALTREF the slot that it names, from 0 to 7.
+    /// The slot that each reference names, from LAST to ALTREF: 0 to 7.
     pub slots: [u8; 7],
 }
 

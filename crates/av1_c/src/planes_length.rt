@@ -1,4 +1,4 @@
-//! How many bytes the planes of a plan have.
+//! Computes the length of a plan's planes in bytes.
 ghost use Rattle.std.specs.Prelude.{◌≡◌, ◌≢◌, ◌⊎◌, ◌↔◌, ℕ, ◌<◌, ◌≤◌, length, Err, IfOk, IfErr, IsOkAnd, IsErrOf};
 ghost use Rattle.av1_plan.specs.Plan.{PlanValue};
 ghost use Rattle.av1_plan.specs.declared.header.Header.{Header};
@@ -17,7 +17,7 @@ use av1_plan::Reader;
 use av1_recon::MAX_PLAN_BYTES;
 use av1_trace::planes_len;
 
-/// How many bytes the planes of a plan have, by the header at its front.
+/// The length of a plan's planes in bytes, from the header at the plan's front.
 ///
 /// # Errors
 ///
@@ -37,24 +37,24 @@ fn wanted(bytes: &[u8]) -> Result<usize, PlanCallFault>
     Ok(planes_len(&header))
 }
 
-/// Tells by the header at the front of a plan how many bytes its planes have: those that [`av1_reconstruct_plan`]
-/// writes.
+/// Gives the length in bytes of the planes that [`av1_reconstruct_plan`] writes. The call reads only the header at the
+/// plan's front, and does not allocate.
 ///
-/// `DONE`: `len` has the number. `TOO_LONG`, `MALFORMED`: the bytes are refused, the latter for the field that begins
-/// at `refusal.at`. All that stands behind the header is left unread, and no memory is taken.
+/// `DONE`: `len` has the length. `TOO_LONG`: there are more than 2^26 bytes. `MALFORMED`: the header is not valid; its
+/// bad field begins at `refusal.at`.
 #[unsafe(no_mangle)]
 pub extern "C" fn av1_planes_len(bytes: &[u8], len: &mut usize, refusal: &mut Refusal) -> u32
-    // The bytes begin with a header, and this is the length of its planes.
+    // The bytes begin with a header, and `len` is the length of its planes.
     ensures done { result ≡ DONE → (header : Header) × BeginWith bytes.now header × (len.new ≡ planes_len header) }
-    // Every plan has this length.
+    // The call gives the length of the planes of every plan.
     ensures plan { (value : PlanValue) → ArePlan bytes.now value → (result ≡ DONE) × (len.new ≡ length (planes_of value)) }
-    // The bytes are refused, and this is why.
+    // The bytes are rejected for this reason.
     ensures too_long { (result ≡ TOO_LONG) ↔ (max_plan_bytes < length bytes.now) }
     ensures malformed { result ≡ MALFORMED → (at : ℕ) × HasOutcome bytes.now (Err (errors.Malformed at)) × (refusal.new ≡ malformed_at at) }
-    // A header is found where there is one.
+    // If the bytes begin with a header, the call finds it.
     ensures header { (header : Header) → BeginWith bytes.now header → length bytes.now ≤ max_plan_bytes
         → (result ≡ DONE) × (len.new ≡ planes_len header) }
-    // What is not told stays as it was.
+    // What the call does not set is unchanged.
     ensures kept { result ≢ DONE → len.new ≡ len.old }
     ensures untold { result ≢ MALFORMED → refusal.new ≡ refusal.old }
     ensures known { (result ≡ DONE) ⊎ ((result ≡ TOO_LONG) ⊎ (result ≡ MALFORMED)) }

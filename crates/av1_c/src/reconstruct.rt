@@ -1,4 +1,4 @@
-//! Planes written to memory of the caller.
+//! Reconstructs a plan and writes its planes to the caller's memory.
 ghost use Rattle.std.specs.Prelude.{◌≡◌, ◌≢◌, ◌⊎◌, ◌↔◌, ℕ, ◌<◌, ◌≤◌, None, length, Err, IfOk, IfErr, OnErr};
 ghost use Rattle.av1_plan.specs.Values.{plan_value};
 ghost use Rattle.av1_plan.specs.Validity.{first_fault};
@@ -18,11 +18,11 @@ use av1_recon::{MAX_PLAN_BYTES, MemSink, reconstruct_valid};
 use av1_trace::planes_len;
 use std::alloc::Global;
 
-/// The valid plan that these bytes are.
+/// Reads and checks a plan.
 ///
 /// # Errors
 ///
-/// `TooLong`, then `Malformed`, then `Invalid`. `Memory` may stand in place of the latter two.
+/// `TooLong`, then `Malformed`, then `Invalid`. `Memory` may replace the latter two.
 fn read(alloc: Global, bytes: &[u8]) -> Result<Plan, PlanCallFault>
     ensures found { IfOk result (λ plan. ArePlan bytes.now (plan_value plan) × (first_fault (plan_value plan) ≡ None)) }
     ensures fault { IfErr result (λ fault. (room : ℕ) → IsCause bytes.now room fault) }
@@ -35,7 +35,7 @@ fn read(alloc: Global, bytes: &[u8]) -> Result<Plan, PlanCallFault>
     Ok(plan)
 }
 
-/// Writes the visible planes of a valid plan to the front of the buffer, and says how many bytes they have.
+/// Writes the visible planes of a valid plan to the front of the buffer, and returns their length in bytes.
 ///
 /// # Errors
 ///
@@ -56,17 +56,16 @@ fn write_planes(alloc: Global, plan: &Plan, room: &mut [u8]) -> Result<usize, Pl
             room[..len].copy_from_slice(sink.bytes());
             Ok(len)
         }
-        // The sink has room for all planes, so that nothing but running out of memory stops it.
+        // The sink has room for all planes, so a write can only fail if memory runs out.
         Err(_) => Err(PlanCallFault::Memory),
     }
 }
 
-/// Writes the visible planes of the plan that these bytes are to the front of the buffer, and says how many bytes they
-/// have.
+/// Reads a plan and writes its visible planes to the front of the buffer. Returns their length in bytes.
 ///
 /// # Errors
 ///
-/// `TooLong`, then `Malformed`, then `Invalid`, then `RoomTooSmall`. `Memory` may stand in place of any but the first.
+/// `TooLong`, then `Malformed`, then `Invalid`, then `RoomTooSmall`. `Memory` may replace any but the first.
 fn reconstruct_into(alloc: Global, bytes: &[u8], room: &mut [u8]) -> Result<usize, PlanCallFault>
     ensures written { IfOk result (λ count. ComeToPlanes bytes.now (λ planes. AreWritten planes room.old room.new count)) }
     ensures fault { IfErr result (IsCause bytes.now (length room.old)) }
@@ -76,12 +75,13 @@ fn reconstruct_into(alloc: Global, bytes: &[u8], room: &mut [u8]) -> Result<usiz
     write_planes(alloc, &plan, room)
 }
 
-/// Reconstructs the plan that these bytes are, and writes its visible planes to the front of `room`: Y, U and V, each
-/// row by row, one byte a sample at depth 8, else two, the low one first. `written` then has the number of bytes.
+/// Reconstructs a plan and writes its visible planes to the front of `room`. `bytes` is the plan. The planes are Y, U
+/// and V, each row by row. A sample has one byte at depth 8, else two, the low byte first. `written` becomes the length
+/// of the planes in bytes.
 ///
-/// `DONE`: that was done. `TOO_LONG`, `MALFORMED`, `INVALID`: the bytes are refused, for the field that begins at
-/// `refusal.at`, or for leaf `refusal.leaf` and by the reason `refusal.kind`. `ROOM_TOO_SMALL`: the planes of the plan
-/// are longer than `room`. `OUT_OF_MEMORY`: memory ran out.
+/// `DONE`: success. `TOO_LONG`: there are more than 2^26 bytes. `MALFORMED`: the bytes are not a valid plan; the bad
+/// field begins at `refusal.at`. `INVALID`: leaf `refusal.leaf` is rejected for reason `refusal.kind`.
+/// `ROOM_TOO_SMALL`: the planes are longer than `room`. `OUT_OF_MEMORY`: memory ran out.
 #[unsafe(no_mangle)]
 pub extern "C" fn av1_reconstruct_plan(
     alloc: Global,
@@ -90,19 +90,19 @@ pub extern "C" fn av1_reconstruct_plan(
     written: &mut usize,
     refusal: &mut Refusal,
 ) -> u32
-    // The bytes are a valid plan, the front of the buffer is its planes by the slow definition, and the rest of it is
-    // as it was.
+    // The bytes are a valid plan. The front of the buffer is its planes by the slow definition, and the rest of the
+    // buffer is unchanged.
     ensures done { result ≡ DONE → ComeToPlanes bytes.now (λ planes. AreWritten planes room.old room.new written.new) }
-    // The bytes are refused, and this is why.
+    // The bytes are rejected for this reason.
     ensures too_long { (result ≡ TOO_LONG) ↔ (max_plan_bytes < length bytes.now) }
     ensures malformed { result ≡ MALFORMED → (at : ℕ) × HasOutcome bytes.now (Err (errors.Malformed at)) × (refusal.new ≡ malformed_at at) }
     ensures invalid { result ≡ INVALID →
         (leaf : ℕ) × ((kind : InvalidKind) × HasOutcome bytes.now (Err (errors.Invalid leaf kind)) × (refusal.new ≡ invalid_leaf leaf kind)) }
     // The bytes are a valid plan, and its planes are longer than the buffer.
     ensures small { result ≡ ROOM_TOO_SMALL → ComeToPlanes bytes.now (λ planes. length room.old < length planes) }
-    // The status is the one that the bytes and the length of the buffer ask for, unless memory ran out.
+    // The bytes and the length of the buffer decide the status, unless memory runs out.
     ensures exactly { (outcome : Outcome) → HasOutcome bytes.now outcome → (result ≡ status_for (length room.old) outcome) ⊎ (result ≡ OUT_OF_MEMORY) }
-    // What is not written or told stays as it was.
+    // What the call does not set is unchanged.
     ensures kept { result ≢ DONE → (room.new ≡ room.old) × (written.new ≡ written.old) }
     ensures untold { result ≢ MALFORMED → result ≢ INVALID → refusal.new ≡ refusal.old }
     ensures known { result ≤ INVALID }

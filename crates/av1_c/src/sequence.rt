@@ -1,4 +1,4 @@
-//! The planes of a sequence of frames, written to memory of the caller.
+//! Reconstructs a sequence of frames and writes the planes of shown frames to the caller's memory.
 ghost use Rattle.std.specs.Prelude.{ℕ, List, Ok, IfOk, IfErr, OnErr, ◌≡◌, length};
 ghost use Rattle.av1_c.specs.Parts.{IsPartCause, PutsPlanes};
 ghost use Rattle.av1_c.specs.Plans.{AreWritten};
@@ -12,12 +12,12 @@ use av1_sequence::reconstruct_sequence;
 use av1_streams::SliceSource;
 use std::alloc::Global;
 
-/// The planes of all frames that the sequence shows that these bytes are.
+/// The planes of all frames that a sequence shows.
 ///
 /// # Errors
 ///
-/// `TooLong`, then `Malformed`, then `TooLongPart`, `MalformedPart`, `InvalidPart` or `EmptySlot`. `Memory` may stand
-/// in place of any of them.
+/// `TooLong`, then `Malformed`, then `TooLongPart`, `MalformedPart`, `InvalidPart` or `EmptySlot`. `Memory` may replace
+/// any of them.
 fn sequence_planes(alloc: Global, bytes: &[u8]) -> Result<Vec<u8>, PartFault>
     ensures found { IfOk result (λ planes. SequenceComesTo bytes.now (Ok planes.items)) }
     ensures refused { IfErr result (λ fault. (room : ℕ) → IsPartCause (SequenceComesTo bytes.now) room fault) }
@@ -28,12 +28,11 @@ fn sequence_planes(alloc: Global, bytes: &[u8]) -> Result<Vec<u8>, PartFault>
     Ok(sink.into_bytes())
 }
 
-/// Writes the planes of all frames that the sequence shows that these bytes are to the front of the buffer, and says
-/// how many bytes they have.
+/// Writes the planes of all frames that a sequence shows to the front of the buffer. Returns their length in bytes.
 ///
 /// # Errors
 ///
-/// Those of `sequence_planes`, then `RoomTooSmall`, in whose place `Memory` may stand, too.
+/// The errors of `sequence_planes`, then `RoomTooSmall`. `Memory` may also replace `RoomTooSmall`.
 fn sequence_into(alloc: Global, bytes: &[u8], room: &mut [u8]) -> Result<usize, PartFault>
     ensures written { IfOk result (λ count. (planes : List ℕ) × SequenceComesTo bytes.now (Ok planes) × AreWritten planes room.old room.new count) }
     ensures fault { IfErr result (IsPartCause (SequenceComesTo bytes.now) (length room.old)) }
@@ -43,13 +42,13 @@ fn sequence_into(alloc: Global, bytes: &[u8], room: &mut [u8]) -> Result<usize, 
     put_front(&planes, room)
 }
 
-/// Reconstructs the frames of the sequence that these bytes are, one after the other, and writes the visible planes of
-/// each that is shown to the front of `room`, one frame behind the other.
+/// Reconstructs the frames of a sequence, one after the other. `bytes` is the sequence. The call writes the visible
+/// planes of each shown frame to `room`, in order.
 ///
-/// As [`av1_reconstruct_tiles`], but that a part is an entry: a frame, of which `TOO_LONG_PART` says that the plan with
-/// its references would have more than 2^26 bytes, or the frame of a slot shown again, of which `EMPTY_SLOT` says that
-/// the slot is empty. `refusal.part` is its number. Where an entry is refused, nothing is written of those before it,
-/// either.
+/// The statuses are those of [`av1_reconstruct_tiles`], and a part is an entry of the sequence: a frame, or a slot that
+/// is shown again. `TOO_LONG_PART`: the plan of a frame with its references would have more than 2^26 bytes.
+/// `EMPTY_SLOT`: an entry shows a slot that is empty. `refusal.part` is the number of the entry. If an entry is
+/// rejected, the call writes no planes of earlier entries either.
 #[unsafe(no_mangle)]
 pub extern "C" fn av1_reconstruct_sequence(
     alloc: Global,

@@ -1,5 +1,5 @@
-//! The numbers that only calls on plans answer with; `av1_calls` has those that calls on blocks have, too. C's header
-//! and the Rust crate have the same under the same names.
+//! The statuses that only calls on plans return. The other statuses are in `av1_calls`. C's header and the Rust crate
+//! use the same numbers and names.
 
 /// Memory ran out.
 pub const OUT_OF_MEMORY: u32 = 1;
@@ -7,47 +7,47 @@ pub const OUT_OF_MEMORY: u32 = 1;
 /// There are more bytes than the longest plan has.
 pub const TOO_LONG: u32 = 3;
 
-/// The bytes are no plan.
+/// The bytes are not a valid plan.
 pub const MALFORMED: u32 = 4;
 
-/// A leaf of the plan is refused.
+/// A leaf of the plan is rejected.
 pub const INVALID: u32 = 5;
 
-/// A part of several comes to a plan that is longer than the longest.
+/// The plan of a part would be longer than the longest plan.
 pub const TOO_LONG_PART: u32 = 30;
 
-/// A part is no plan, or no leaves of one.
+/// A part is not a valid plan, or not the leaves of one.
 pub const MALFORMED_PART: u32 = 31;
 
-/// A leaf of a part is refused.
+/// A leaf of a part is rejected.
 pub const INVALID_PART: u32 = 32;
 
-/// A part shows the frame of a slot again that is empty.
+/// A part shows a slot again that is empty.
 pub const EMPTY_SLOT: u32 = 33;
 
-/// A plan in the making asks for another kind of field next.
+/// The unfinished plan needs another kind of field next.
 pub const NOT_NOW: u32 = 40;
 
-/// An argument has a value that is not admitted here.
+/// An argument has a value that is not valid here.
 pub const NOT_ADMITTED: u32 = 41;
 
-/// The numbers of a builder are those of none.
+/// The numbers are not a valid builder.
 pub const BAD_STATE: u32 = 42;
 
-/// Why a leaf is refused: chroma of its size has no size of its own.
+/// A leaf is rejected because chroma has no block size for it.
 pub const INVALID_BLOCK_SIZE: u32 = 1;
 
-/// A transform is longer than its leaf, or of a type that its size does not have.
+/// A transform is larger than its leaf, or its size does not have its type.
 pub const INVALID_TRANSFORM: u32 = 2;
 
-/// A mode, an angle step or an alpha that its leaf cannot have.
+/// The leaf can't have this mode, angle step or alpha.
 pub const INVALID_MODE: u32 = 3;
 
-/// A motion vector out of range.
+/// A motion vector is out of range.
 pub const INVALID_VECTOR: u32 = 4;
 
-/// A reference to a slot without planes.
+/// A reference names a slot without planes.
 pub const MISSING_REFERENCE: u32 = 5;
 
-/// A coefficient out of order, out of its block or out of range.
+/// A coefficient is out of order, out of its block or out of range.
 pub const INVALID_COEFFICIENT: u32 = 6;

@@ -1,4 +1,4 @@
-//! The planes of a grid of tiles, written to memory of the caller.
+//! Reconstructs a grid of tiles and writes the planes of its frame to the caller's memory.
 ghost use Rattle.std.specs.Prelude.{ℕ, List, Ok, IfOk, IfErr, OnErr, ◌≡◌, length};
 ghost use Rattle.av1_c.specs.Parts.{IsPartCause, PutsPlanes};
 ghost use Rattle.av1_c.specs.Plans.{AreWritten};
@@ -12,11 +12,11 @@ use av1_streams::SliceSource;
 use av1_tiles::reconstruct_tiles;
 use std::alloc::Global;
 
-/// The planes of the grid of tiles that these bytes are.
+/// The planes of a grid of tiles.
 ///
 /// # Errors
 ///
-/// `TooLong`, then `Malformed`, then `MalformedPart` or `InvalidPart`. `Memory` may stand in place of any of them.
+/// `TooLong`, then `Malformed`, then `MalformedPart` or `InvalidPart`. `Memory` may replace any of them.
 fn tiles_planes(alloc: Global, bytes: &[u8]) -> Result<Vec<u8>, PartFault>
     ensures found { IfOk result (λ planes. TilesComeTo bytes.now (Ok planes.items)) }
     ensures refused { IfErr result (λ fault. (room : ℕ) → IsPartCause (TilesComeTo bytes.now) room fault) }
@@ -27,12 +27,11 @@ fn tiles_planes(alloc: Global, bytes: &[u8]) -> Result<Vec<u8>, PartFault>
     Ok(sink.into_bytes())
 }
 
-/// Writes the planes of the grid of tiles that these bytes are to the front of the buffer, and says how many bytes they
-/// have.
+/// Writes the planes of a grid of tiles to the front of the buffer. Returns their length in bytes.
 ///
 /// # Errors
 ///
-/// Those of `tiles_planes`, then `RoomTooSmall`, in whose place `Memory` may stand, too.
+/// The errors of `tiles_planes`, then `RoomTooSmall`. `Memory` may also replace `RoomTooSmall`.
 fn tiles_into(alloc: Global, bytes: &[u8], room: &mut [u8]) -> Result<usize, PartFault>
     ensures written { IfOk result (λ count. (planes : List ℕ) × TilesComeTo bytes.now (Ok planes) × AreWritten planes room.old room.new count) }
     ensures fault { IfErr result (IsPartCause (TilesComeTo bytes.now) (length room.old)) }
@@ -42,14 +41,14 @@ fn tiles_into(alloc: Global, bytes: &[u8], room: &mut [u8]) -> Result<usize, Par
     put_front(&planes, room)
 }
 
-/// Reconstructs the grid of tiles that these bytes are, and writes the visible planes of its frame to the front of
-/// `room`: Y, U and V, each row by row, one byte a sample at depth 8, else two, the low one first. `written` then has
-/// the number of bytes.
+/// Reconstructs a grid of tiles and writes the visible planes of its frame to the front of `room`. `bytes` is the grid.
+/// The planes are Y, U and V, each row by row. A sample has one byte at depth 8, else two, the low byte first.
+/// `written` becomes the length of the planes in bytes.
 ///
-/// `DONE`: that was done. `TOO_LONG`: the bytes are more than 2^26. `MALFORMED`: they are no grid of tiles, for the
-/// field that begins at `refusal.at`. `MALFORMED_PART`, `INVALID_PART`: tile `refusal.part` is refused, for the field
-/// that begins at byte `refusal.at` of its part, or for leaf `refusal.leaf` and by the reason `refusal.kind`.
-/// `ROOM_TOO_SMALL`: the planes are longer than `room`. `OUT_OF_MEMORY`: memory ran out.
+/// `DONE`: success. `TOO_LONG`: there are more than 2^26 bytes. `MALFORMED`: the bytes are not a valid grid of tiles;
+/// the bad field begins at `refusal.at`. `MALFORMED_PART`: tile `refusal.part` is not valid; the bad field begins at
+/// byte `refusal.at` of its part. `INVALID_PART`: leaf `refusal.leaf` of tile `refusal.part` is rejected for reason
+/// `refusal.kind`. `ROOM_TOO_SMALL`: the planes are longer than `room`. `OUT_OF_MEMORY`: memory ran out.
 #[unsafe(no_mangle)]
 pub extern "C" fn av1_reconstruct_tiles(
     alloc: Global,

@@ -1,14 +1,14 @@
-//! Residues of blocks, for C. Each call is that of `av1_calls` of the same name, which says what it does.
+//! Residuals of blocks for C. Each call is the call of `av1_calls` with the same name. Its documentation is there.
 ghost use Rattle.std.specs.Prelude.{false, true};
 ghost use Rattle.av1_calls.specs.Transforms.{AddsClamped, AddsResidue};
 
 use av1_calls::TxRoom;
 use std::mem::size_of;
 
-// C and Rust own it as an array of 6,144 numbers.
+// In C and Rust, `TxRoom` is an array of 6,144 numbers of 32 bits.
 const _: () = prove!(size_of::<TxRoom>() == 24_576);
 
-/// Adds the residue of coefficients to the samples of a rectangle, at a depth of 8.
+/// Adds the residual of coefficients to the samples of a rectangle, at a depth of 8.
 #[unsafe(no_mangle)]
 pub extern "C" fn av1_inverse_transform_add_8(
     scratch: &mut TxRoom,
@@ -34,7 +34,7 @@ pub extern "C" fn av1_inverse_transform_add_8(
     )
 }
 
-/// The same for samples of 16 bits.
+/// Adds the residual of coefficients to samples of 16 bits, by AV1's rule.
 #[unsafe(no_mangle)]
 pub extern "C" fn av1_inverse_transform_add_16(
     scratch: &mut TxRoom,
@@ -62,7 +62,7 @@ pub extern "C" fn av1_inverse_transform_add_16(
     )
 }
 
-/// The same by rav1e's rule.
+/// Adds the residual of coefficients to samples of 16 bits, by rav1e's rule.
 #[unsafe(no_mangle)]
 pub extern "C" fn av1_inverse_transform_add_rav1e_16(
     scratch: &mut TxRoom,
@@ -90,7 +90,7 @@ pub extern "C" fn av1_inverse_transform_add_rav1e_16(
     )
 }
 
-/// The same as `av1_inverse_transform_add_16` where coefficients that are too large for the depth are cut to it.
+/// Adds the residual of coefficients to samples of 16 bits, after it clamps the coefficients to the depth.
 #[unsafe(no_mangle)]
 pub extern "C" fn av1_inverse_transform_add_clamped_16(
     scratch: &mut TxRoom,

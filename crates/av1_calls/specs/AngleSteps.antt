@@ -1,5 +1,5 @@
--- What the call that finds the steps of an angle says of its arguments: of a mode in numbers, and of an angle in
--- degrees.
+-- The contract of the call that finds how many steps a mode turns to an angle. The mode is a number, and the angle is
+-- in degrees.
 use Rattle.std.specs.Prelude.{◌≡◌, ◌≢◌, ◌⊎◌, ℕ, ℤ, pos}
 use Rattle.av1_blocks.specs.declared.predict.PredictionMode.{PredictionMode}
 use Rattle.av1_edges.specs.Parts.{angle as turned_angle}
@@ -8,38 +8,39 @@ use Rattle.av1_calls.specs.declared.argument.BadArgument.{BadArgument}
 use Rattle.av1_calls.specs.declared.argument.BadArgument.TheVariants as bad
 use Rattle.av1_calls.specs.declared.status.TheConstants.{BAD_ANGLE, BAD_MODE, DONE}
 
--- the mode turns so many steps, and has this angle then
+-- the mode may turn this many steps, and then has this angle
 pub record HasAngle (mode : PredictionMode) (step : ℤ) (degrees : ℕ) : Type 0 where
   pub turn : IsTurn mode step
   pub value : pos degrees ≡ turned_angle mode step
 
--- the mode of the number turns so many steps to this angle
+-- the mode of the number turns this many steps to this angle
 pub record IsStepFor (number degrees : ℕ) (step : ℤ) : Type 0 where
   pub mode : PredictionMode
   pub moded : IsIntraMode number mode
   pub angled : HasAngle mode step degrees
 
--- however many it turns, it has another angle
+-- the mode of the number has another angle at every step
 abbrev pub HasNoSuchAngle : (number degrees : ℕ) → Type 0
 HasNoSuchAngle number degrees =
     (mode : PredictionMode) × (IsIntraMode number mode × ((step : ℤ) → ¬ HasAngle mode step degrees))
 
--- ---- what the call says
+-- ---- the contracts
 
--- Of an angle whose steps are found: the number was `before` and is `after`, and `answer` is the status.
+-- The call finds the steps to an angle: `before` is the number before the call, `after` after it, and `answer` is the
+-- status.
 pub record FindsStep (number degrees : ℕ) (before after : ℤ) (answer : ℕ) : Type 0 where
-  -- These are the steps of the mode.
+  -- The number is how many steps the mode turns to the angle.
   pub done : answer ≡ DONE → IsStepFor number degrees after
-  -- Nothing else is asked of the arguments.
+  -- The call requires nothing else of its arguments.
   pub asked : (step : ℤ) → IsStepFor number degrees step → answer ≡ DONE
-  -- An argument is refused, the first one that has to be, and this is why.
+  -- The status names the first bad argument, and these clauses say what is wrong with it.
   pub mode : answer ≡ BAD_MODE → HasNoMode number
   pub angle : answer ≡ BAD_ANGLE → HasNoSuchAngle number degrees
-  -- What is refused leaves the number as it was.
+  -- If the call rejects an argument, the number is unchanged.
   pub kept : answer ≢ DONE → after ≡ before
   pub known : (answer ≡ DONE) ⊎ ((answer ≡ BAD_MODE) ⊎ (answer ≡ BAD_ANGLE))
 
--- ---- why nothing is written: words of private contracts
+-- ---- definitions for private contracts: why nothing is written
 
 abbrev pub IsStepFault : (number degrees : ℕ) → BadArgument → Type 0
 IsStepFault number degrees bad.Mode = HasNoMode number

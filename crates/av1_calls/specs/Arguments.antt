@@ -1,4 +1,4 @@
--- What calls on blocks say of the arguments that they share, and the status of one that refused an argument.
+-- Definitions that the contracts of several calls share, and the status for each bad argument.
 use Rattle.std.specs.Prelude.{◌≡◌, ℕ, Bool, true, false, ⊤, Option, Some, None, slice_get}
 use Rattle.av1_blocks.specs.declared.mc.FilterMode.{FilterMode}
 use Rattle.av1_blocks.specs.declared.mc.FilterMode.TheVariants.{SWITCHABLE}
@@ -27,12 +27,12 @@ argument_status bad.Fraction = BAD_FRACTION
 argument_status bad.Sampling = BAD_SAMPLING
 argument_status bad.Pad = BAD_PAD
 
--- the value of a number, where it has one
+-- the value of an option if it has one, else another value
 abbrev pub or_else : {A : Type 0} → Option A → A → A
 or_else (Some x) other = x
 or_else None other = other
 
--- the filter of a number: past the last one that no block may have
+-- the filter of a number; each number past the last one gives a filter that no block may have
 abbrev pub filter_mode : ℕ → FilterMode
 filter_mode number = or_else (slice_get filters.ALL number) SWITCHABLE
 
@@ -40,23 +40,23 @@ filter_mode number = or_else (slice_get filters.ALL number) SWITCHABLE
 abbrev pub IsSize : ℕ → TxSize → Type 0
 IsSize number size = slice_get tx_sizes.ALL number ≡ Some size
 
--- the rectangle of a transform whose first sample stands at column x of row y
+-- the rectangle of a transform whose first sample is at column x of row y
 abbrev pub rectangle : ℕ → ℕ → TxSize → StoredArea
 rectangle x y size = record { x = x; y = y; width = tx_width size; height = tx_height size }
 
--- ---- what only calls for samples of 16 bits have, which are told from those for samples of 8 bits by `wide`
+-- ---- what only the calls for samples of 16 bits have: `wide` is true for these, and false for samples of 8 bits
 
--- they ask this of their arguments
+-- only calls for samples of 16 bits require this
 abbrev pub IfWide : (wide : Bool) → Type 0 → Type 0
 IfWide true asked = asked
 IfWide false asked = ⊤
 
--- they may answer so
+-- only calls for samples of 16 bits may return so
 abbrev pub OnlyWide : (wide : Bool) → Type 0 → Type 0
 OnlyWide true told = told
 OnlyWide false told = ⊥
 
--- ---- what is refused
+-- ---- what is rejected
 
 abbrev pub HasNoSize : ℕ → Type 0
 HasNoSize size_number = slice_get tx_sizes.ALL size_number ≡ None

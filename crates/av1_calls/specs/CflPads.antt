@@ -1,5 +1,5 @@
--- What the call that finds a block of chroma over luma says of its arguments: of a block in numbers, of its luma
--- transforms, and of how much of its luma is visible. AV1 specification: predict chroma from luma process.
+-- The contract of the call that finds the block of chroma over a block of luma. AV1 specification: predict chroma from
+-- luma process.
 use Rattle.std.specs.Prelude.{◌≡◌, ◌≢◌, ◌⊎◌, ℕ, ◌-◌, ◌*◌, ◌/◌, ◌^◌, ◌<◌, ◌≤◌, Ok}
 use Rattle.av1_blocks.specs.Blocks.{block_height, block_width}
 use Rattle.av1_blocks.specs.Chroma.{subsampled_size}
@@ -16,9 +16,9 @@ use Rattle.av1_calls.specs.declared.cfl_block.LumaLeafBlock.{LumaLeafBlock}
 use Rattle.av1_calls.specs.declared.luma.CflBlock.{CflBlock}
 use Rattle.av1_calls.specs.declared.status.TheConstants.{BAD_PAD, BAD_SAMPLING, BAD_SIZE, DONE}
 
--- ---- what is asked for
+-- ---- what is required
 
--- this is the size of a block's chroma, and no side of it is longer than 32
+-- this is the size of a block's chroma, at most 32 by 32
 pub record IsChromaSizeOf (luma : BlockSize) (xdec ydec : ℕ) (chroma : BlockSize) : Type 0 where
   pub halved : subsampled_size luma xdec ydec ≡ Ok chroma
   pub narrow : block_width chroma ≤ 32
@@ -33,7 +33,7 @@ pub record AreSizes (l : LumaLeafBlock) (luma : BlockSize) (transform : TxSize) 
   pub sized : IsSize l.tx_size transform
   pub chroma_sized : IsChromaSizeOf luma l.xdec l.ydec chroma
 
--- some columns and some rows of its luma are visible
+-- some columns and some rows of the block's luma are visible
 pub record IsVisible (l : LumaLeafBlock) : Type 0 where
   pub columns : 0 < l.visible_columns
   pub rows : 0 < l.visible_rows
@@ -51,7 +51,8 @@ leaf_of l luma transform = record {
   ydec = l.ydec;
 }
 
--- This is its block of chroma: some of it has luma of its own, and it takes the same luma as that of the leaf.
+-- This is the leaf's block of chroma. Some of it has luma of its own, and it reads the same luma as the leaf's chroma
+-- does.
 pub record IsChromaOf (l : LumaLeafBlock) (block : CflBlock) : Type 0 where
   pub luma : BlockSize
   pub transform : TxSize
@@ -61,36 +62,37 @@ pub record IsChromaOf (l : LumaLeafBlock) (block : CflBlock) : Type 0 where
   pub same : padded_block chroma block.w_pad block.h_pad block.xdec block.ydec
       ≡ chroma_block (leaf_of l luma transform)
 
--- ---- what is refused: each reason with what is asked before it, so that the first one that holds is told
+-- ---- what is rejected: each reason includes that the tests before it passed
 
--- a number names no size, or the block's chroma has none
+-- no size has a number, or the block has no chroma of at most 32 by 32
 abbrev pub HasNoSizes : LumaLeafBlock → Type 0
 HasNoSizes l = (luma : BlockSize) → (transform : TxSize) → (chroma : BlockSize) → ¬ AreSizes l luma transform chroma
 
--- no column or no row of its luma is visible
+-- no column or no row of the block's luma is visible
 abbrev pub IsHidden : LumaLeafBlock → Type 0
 IsHidden l =
     (luma : BlockSize) × ((transform : TxSize) × ((chroma : BlockSize) × (AreSizes l luma transform chroma
     × (¬ IsVisible l))))
 
--- ---- what the call says
+-- ---- the contracts
 
--- Of a block whose chroma is found: the block of chroma was `before` and is `after`, and `answer` is the status.
+-- The call finds a block of chroma: `before` is the block before the call, `after` after it, and `answer` is the
+-- status.
 pub record FindsChroma (l : LumaLeafBlock) (before after : CflBlock) (answer : ℕ) : Type 0 where
   -- The numbers name a block with luma, and this is its block of chroma.
   pub done : answer ≡ DONE → IsChromaOf l after
-  -- Nothing else is asked of the arguments.
+  -- The call requires nothing else of its arguments.
   pub asked : (luma : BlockSize) → (transform : TxSize) → (chroma : BlockSize) → IsSampling l.xdec l.ydec
       → AreSizes l luma transform chroma → IsVisible l → answer ≡ DONE
-  -- An argument is refused, the first one that has to be, and this is why.
+  -- The status names the first bad argument, and these clauses say what is wrong with it.
   pub sampling : answer ≡ BAD_SAMPLING → ¬ IsSampling l.xdec l.ydec
   pub size : answer ≡ BAD_SIZE → IsSampling l.xdec l.ydec × HasNoSizes l
   pub pad : answer ≡ BAD_PAD → IsSampling l.xdec l.ydec × IsHidden l
-  -- What is refused leaves the block as it was.
+  -- If the call rejects an argument, the block is unchanged.
   pub kept : answer ≢ DONE → after ≡ before
   pub known : (answer ≡ DONE) ⊎ ((answer ≡ BAD_SAMPLING) ⊎ ((answer ≡ BAD_SIZE) ⊎ (answer ≡ BAD_PAD)))
 
--- ---- why nothing is written: words of private contracts
+-- ---- definitions for private contracts: why nothing is written
 
 abbrev pub IsLumaFault : LumaLeafBlock → BadArgument → Type 0
 IsLumaFault l bad.Sampling = ¬ IsSampling l.xdec l.ydec
@@ -98,9 +100,9 @@ IsLumaFault l bad.Size = IsSampling l.xdec l.ydec × HasNoSizes l
 IsLumaFault l bad.Pad = IsSampling l.xdec l.ydec × IsHidden l
 IsLumaFault l fault = ⊥
 
--- ---- words of private contracts
+-- ---- definitions for private contracts
 
--- how many units of 4 samples of chroma have no luma of their own, along a side
+-- how many units of 4 samples of chroma have no luma of their own, in one direction
 abbrev pub pad_along : (side tx_side visible decimation : ℕ) → ℕ
 pad_along side tx_side visible decimation =
     (side - coded_side 0 side tx_side visible) / (4 * 2 ^ decimation)

@@ -1,6 +1,5 @@
--- What the calls that predict a block by an intra mode say of their arguments: of the block in numbers, of where its
--- first sample stands (column x of row y), of rows that stand `stride` apart, and of how many samples there are, on
--- each side and in all. AV1 specification: intra prediction process.
+-- The contracts of the calls that predict a block by an intra mode. The block is in numbers, and its first sample is at
+-- column x of row y. Rows are `stride` samples apart. AV1 specification: intra prediction process.
 use Rattle.std.specs.Prelude.{◌≡◌, ◌≢◌, ◌⊎◌, ℕ, ◌*◌, ◌≤◌, ◌==◌, IsTrue, not, if◌then◌else◌, Bool, false, List, []}
 use Rattle.std.specs.Prelude.{length, Option, None, Some, slice_get, ℤ, pos, unsigned_abs}
 use Rattle.av1_blocks.specs.Depths.{IsDepth}
@@ -27,33 +26,33 @@ use Rattle.av1_calls.specs.declared.motion.Place.{Place}
 use Rattle.av1_calls.specs.declared.status.TheConstants.{BAD_ANGLE, BAD_AREA, BAD_DEPTH, BAD_MODE, BAD_SIZE, DONE}
 use Rattle.av1_calls.specs.declared.status.TheConstants.{TOO_SHORT}
 
--- ---- what is asked for
+-- ---- what is required
 
--- this is the intra mode of the number; chroma from luma has a call of its own
+-- this is the intra mode of the number; chroma from luma has its own call
 pub record IsIntraMode (number : ℕ) (mode : PredictionMode) : Type 0 where
   pub named : slice_get modes.ALL number ≡ Some mode
   pub intra : IsTrue (is_intra mode)
   pub own : is_cfl mode ≡ false
 
--- the mode turns so many steps: up to three either way from its angle, and none where it has no angle
+-- the mode may turn this many steps: up to three either way if it has an angle, else none
 pub record IsTurn (mode : PredictionMode) (step : ℤ) : Type 0 where
   pub few : unsigned_abs step ≤ 3
   pub straight : is_directional mode ≡ false → step ≡ pos 0
 
--- a depth of samples of so many bits
+-- samples of this many bits can have this depth
 pub record IsDepthWithin (bits depth : ℕ) : Type 0 where
   pub known : IsDepth depth
   pub fits : depth ≤ bits
 
--- the edge filter: none where it is off, else whether a neighbour is smooth
+-- the edge filter: none if it is off, else whether a neighbour is smooth
 abbrev pub filter_of : (on smooth : ℕ) → Option Bool
 filter_of on smooth = if on == 0 then None else Some (not (smooth == 0))
 
--- the mode by which a block is predicted: where a side lies outside Paeth prediction has fewer neighbours
+-- the mode that predicts the block: Paeth prediction becomes another mode if a side is outside the tile
 abbrev pub mode_in : IntraBlock → PredictionMode → PredictionMode
 mode_in b mode = effective mode b.has_left b.has_above
 
--- its sides that lie in its tile
+-- the block's sides that lie in its tile
 abbrev pub variant_in : IntraBlock → PredictionVariant
 variant_in b = variant_at b.has_left b.has_above
 
@@ -69,19 +68,19 @@ block_of b mode size = record {
   visible_rows = b.visible_rows;
 }
 
--- The sides, and luma's differences, are as long as a block reads them that is predicted by this mode.
+-- The sides and luma's differences are as long as this mode reads them for the block.
 pub record AreLong (b : DirectionalBlock) (variant : PredictionVariant) (mode : PredictionMode)
     (left above ac : ℕ) : Type 0 where
   pub left_long : places_left mode variant b.p_angle b.width b.height ≤ left
   pub above_long : places_above mode variant b.p_angle b.width b.height ≤ above
   pub ac_long : IsTrue (is_cfl mode) → b.width * b.height ≤ ac
 
--- the same of a block in numbers
+-- the sides and luma's differences are long enough for a block in numbers
 abbrev pub HasSides : IntraBlock → PredictionMode → TxSize → (left above ac : ℕ) → Type 0
 HasSides b mode size left above ac =
     AreLong (block_of b (mode_in b mode) size) (variant_in b) (mode_in b mode) left above ac
 
--- The block has this size, and all else that prediction by this mode asks for, where samples have so many bits.
+-- The block has this size, and is valid for prediction by this mode in samples of this many bits.
 pub record IsIntraBlock (bits : ℕ) (b : IntraBlock) (mode : PredictionMode) (stride x y left above ac samples : ℕ)
     (size : TxSize) : Type 0 where
   pub sized : IsSize b.tx_size size
@@ -90,7 +89,7 @@ pub record IsIntraBlock (bits : ℕ) (b : IntraBlock) (mode : PredictionMode) (s
   pub rows : AreRows stride (rectangle x y size) samples
   pub sides : HasSides b mode size left above ac
 
--- the samples with those of the rectangle predicted by this mode; all others stay
+-- the samples with those of the rectangle predicted by this mode; the others are unchanged
 abbrev pub with_prediction : {T : Type 0} → (T → ℕ) → (ℕ → T) → IntraBlock → PredictionMode → (stride x y : ℕ) →
     TxSize → (left : List T) → (corner : T) → (above : List T) → (ac : List ℤ) → (alpha : ℤ) → List T → List T
 with_prediction num pixel b mode stride x y size left corner above ac alpha samples =
@@ -100,17 +99,17 @@ with_prediction num pixel b mode stride x y size left corner above ac alpha samp
     pixel (predicted (block_of b m size) (variant_in b) m alpha (ac_at (tx_width size) ac)
     (edge_round num left (num corner) above) r c)) samples
 
--- ---- what is refused: each reason with what is asked before it, so that the first one that holds is told
+-- ---- what is rejected: each reason includes that the tests before it passed
 
 -- no intra mode has the number
 abbrev pub HasNoMode : ℕ → Type 0
 HasNoMode number = (mode : PredictionMode) → ¬ IsIntraMode number mode
 
--- the mode does not turn so many steps
+-- the mode may not turn this many steps
 abbrev pub HasNoAngle : IntraBlock → PredictionMode → Type 0
 HasNoAngle b mode = (size : TxSize) × (IsSize b.tx_size size × (¬ IsTurn mode b.angle_step))
 
--- samples of so many bits have no such depth
+-- samples of this many bits have no such depth
 abbrev pub HasNoDepth : (bits : ℕ) → IntraBlock → PredictionMode → Type 0
 HasNoDepth bits b mode =
     (size : TxSize) × (IsSize b.tx_size size × (IsTurn mode b.angle_step × (¬ IsDepthWithin bits b.bit_depth)))
@@ -123,7 +122,7 @@ LiesOutside bits b mode stride x y samples =
     (IsTurn mode b.angle_step ×
     (IsDepthWithin bits b.bit_depth × (¬ AreRows stride (rectangle x y size) samples))))
 
--- a side, or luma, is shorter than the block reads it
+-- a side, or luma's differences, are shorter than the mode reads them
 abbrev pub HasShortSides : (bits : ℕ) → IntraBlock → PredictionMode → (stride x y left above ac samples : ℕ) → Type 0
 HasShortSides bits b mode stride x y left above ac samples =
     (size : TxSize) ×
@@ -132,43 +131,43 @@ HasShortSides bits b mode stride x y left above ac samples =
     (IsDepthWithin bits b.bit_depth ×
     (AreRows stride (rectangle x y size) samples × (¬ HasSides b mode size left above ac)))))
 
--- ---- what the calls say: samples of at most so many bits were `before` and are `after`, and `answer` is the status
+-- ---- the contracts: `before` is the samples before the call, `after` after it, and `answer` is the status
 
--- Of a block that is predicted by this mode.
+-- The call predicts a block by this mode, in samples of at most this many bits.
 pub record PredictsBy {T : Type 0} (bits : ℕ) (num : T → ℕ) (pixel : ℕ → T) (block : IntraBlock) (by : PredictionMode)
     (stride x y : ℕ) (left : List T) (corner : T) (above : List T) (ac : List ℤ) (alpha : ℤ) (before after : List T)
     (answer : ℕ) : Type 0 where
-  -- The arguments name a block, and its samples are those of its mode.
+  -- The arguments name a block, and the mode predicts its samples.
   pub done : answer ≡ DONE → (size : TxSize)
       × (IsIntraBlock bits block by stride x y (length left) (length above) (length ac) (length before) size
       × (after ≡ with_prediction num pixel block by stride x y size left corner above ac alpha before))
-  -- Nothing else is asked of them.
+  -- The call requires nothing else of its arguments.
   pub asked : (size : TxSize)
       → IsIntraBlock bits block by stride x y (length left) (length above) (length ac) (length before) size
       → answer ≡ DONE
-  -- An argument is refused, the first one that has to be, and this is why.
+  -- The status names the first bad argument, and these clauses say what is wrong with it.
   pub size : answer ≡ BAD_SIZE → HasNoSize block.tx_size
   pub angle : answer ≡ BAD_ANGLE → HasNoAngle block by
   pub depth : answer ≡ BAD_DEPTH → HasNoDepth bits block by
   pub area : answer ≡ BAD_AREA → LiesOutside bits block by stride x y (length before)
   pub short : answer ≡ TOO_SHORT
       → HasShortSides bits block by stride x y (length left) (length above) (length ac) (length before)
-  -- What is refused leaves the samples as they were.
+  -- If the call rejects an argument, the samples are unchanged.
   pub kept : answer ≢ DONE → after ≡ before
   pub known : (answer ≡ DONE) ⊎ ((answer ≡ BAD_SIZE) ⊎ ((answer ≡ BAD_ANGLE) ⊎ ((answer ≡ BAD_DEPTH)
       ⊎ ((answer ≡ BAD_AREA) ⊎ (answer ≡ TOO_SHORT)))))
 
--- Of a block that is predicted by the mode of its number.
+-- The call predicts a block by the mode of its number, in samples of at most this many bits.
 pub record Predicts {T : Type 0} (bits : ℕ) (num : T → ℕ) (pixel : ℕ → T) (block : IntraBlock) (stride x y : ℕ)
     (left : List T) (corner : T) (above : List T) (before after : List T) (answer : ℕ) : Type 0 where
-  -- The arguments name a mode and a block, and its samples are those of its mode.
+  -- The arguments name a mode and a block, and the mode predicts its samples.
   pub done : answer ≡ DONE → (by : PredictionMode) × ((size : TxSize) × (IsIntraMode block.mode by
       × (IsIntraBlock bits block by stride x y (length left) (length above) 0 (length before) size
       × (after ≡ with_prediction num pixel block by stride x y size left corner above [] (pos 0) before))))
-  -- Nothing else is asked of them.
+  -- The call requires nothing else of its arguments.
   pub asked : (by : PredictionMode) → (size : TxSize) → IsIntraMode block.mode by
       → IsIntraBlock bits block by stride x y (length left) (length above) 0 (length before) size → answer ≡ DONE
-  -- An argument is refused, the first one that has to be, and this is why.
+  -- The status names the first bad argument, and these clauses say what is wrong with it.
   pub mode : answer ≡ BAD_MODE → HasNoMode block.mode
   pub size : answer ≡ BAD_SIZE → (by : PredictionMode) × (IsIntraMode block.mode by × HasNoSize block.tx_size)
   pub angle : answer ≡ BAD_ANGLE → (by : PredictionMode) × (IsIntraMode block.mode by × HasNoAngle block by)
@@ -177,12 +176,12 @@ pub record Predicts {T : Type 0} (bits : ℕ) (num : T → ℕ) (pixel : ℕ →
       × (IsIntraMode block.mode by × LiesOutside bits block by stride x y (length before))
   pub short : answer ≡ TOO_SHORT → (by : PredictionMode) × (IsIntraMode block.mode by
       × HasShortSides bits block by stride x y (length left) (length above) 0 (length before))
-  -- What is refused leaves the samples as they were.
+  -- If the call rejects an argument, the samples are unchanged.
   pub kept : answer ≢ DONE → after ≡ before
   pub known : (answer ≡ DONE) ⊎ ((answer ≡ BAD_MODE) ⊎ ((answer ≡ BAD_SIZE) ⊎ ((answer ≡ BAD_ANGLE)
       ⊎ ((answer ≡ BAD_DEPTH) ⊎ ((answer ≡ BAD_AREA) ⊎ (answer ≡ TOO_SHORT))))))
 
--- ---- why nothing is written: words of private contracts
+-- ---- definitions for private contracts: why nothing is written
 
 abbrev pub IsIntraFault : (bits : ℕ) → IntraBlock → PredictionMode → Place → Counts → BadArgument → Type 0
 IsIntraFault bits b mode at has bad.Size = HasNoSize b.tx_size
@@ -193,15 +192,15 @@ IsIntraFault bits b mode at has bad.Short =
     HasShortSides bits b mode at.stride at.x at.y has.left has.above has.ac has.samples
 IsIntraFault bits b mode at has fault = ⊥
 
--- ---- words of private contracts
+-- ---- definitions for private contracts
 
--- The sides by themselves are as long as a block reads them that is predicted by this mode.
+-- The sides are as long as this mode reads them for the block.
 pub record AreSidesLong (b : DirectionalBlock) (variant : PredictionVariant) (mode : PredictionMode)
     (left above : ℕ) : Type 0 where
   pub left_long : places_left mode variant b.p_angle b.width b.height ≤ left
   pub above_long : places_above mode variant b.p_angle b.width b.height ≤ above
 
--- This is what the numbers ask for, at a place and with so many samples.
+-- This is the prediction that the numbers name, at a place and with these lengths.
 pub record IsPredictionOf (bits : ℕ) (b : IntraBlock) (mode : PredictionMode) (at : Place) (has : Counts)
     (p : PredictedBlock) : Type 0 where
   pub asked : IsIntraBlock bits b mode at.stride at.x at.y has.left has.above has.ac has.samples p.size

@@ -1,5 +1,5 @@
--- What the calls say that predict a transform in its plane, from the edge that is prepared there: they are the call
--- that prepares the edge and one that predicts from it, in turn. AV1 specification: intra prediction process.
+-- The contracts of the calls that predict a transform in its plane. Such a call first prepares the edge and then
+-- predicts from it, as the calls for these steps do. AV1 specification: intra prediction process.
 use Rattle.std.specs.Prelude.{◌≡◌, ◌≢◌, ◌⊎◌, ℕ, ◌+◌, ◌-◌, ◌==◌, if◌then◌else◌, List, length, take, drop, slice_index, ℤ}
 use Rattle.av1_blocks.specs.declared.predict.PredictionMode.TheVariants as modes
 use Rattle.av1_calls.specs.IntraBlocks.{Predicts, PredictsBy}
@@ -13,11 +13,11 @@ use Rattle.av1_calls.specs.declared.status.TheConstants.{DONE}
 
 -- ---- the transform as a block that is predicted
 
--- whether a column or row has one before it, as a number
+-- 1 if a column or row has one before it, else 0
 abbrev pub has_before : ℕ → ℕ
 has_before place = if place == 0 then 0 else 1
 
--- A side lies in the tile unless the transform begins at the tile's; the plane tells how much of it is visible.
+-- A side lies in the tile unless the transform begins at the tile's own side. The plane says how much of it is visible.
 abbrev pub block_in : EdgePlane → EdgeBlock → (smooth : ℕ) → IntraBlock
 block_in p b smooth = record {
   mode = b.mode;
@@ -41,13 +41,13 @@ row_in p b = p.y + p.tile_y + b.y
 
 -- ---- the two calls
 
--- this is what a room of 257 samples holds after its edge is prepared, or refused, with this status
+-- after the call that prepares an edge, with this status, a buffer of 257 samples holds `edge`
 abbrev pub IsEdgeFor : (bits : ℕ) → EdgePlane → EdgeBlock → (samples edge : List ℕ) → (status : ℕ) → Type 0
 IsEdgeFor bits p b samples edge status =
     (room : List ℕ) × ((length edge ≡ EDGE_SAMPLES) × PreparesEdge bits (λ n. n) p b samples room edge status)
 
--- it is predicted from sides and a corner: chroma from luma by the differences `ac` and the weight `alpha`, and else by
--- the mode of its number
+-- The transform is predicted from sides and a corner. Chroma from luma uses the differences `ac` and the weight
+-- `alpha`. The other modes are given by their number.
 abbrev pub PredictsFrom : {T : Type 0} → (bits : ℕ) → (T → ℕ) → (ℕ → T) → EdgePlane → EdgeBlock → (smooth : ℕ) →
     (left : List T) → (corner : T) → (above : List T) → (ac : List ℤ) → (alpha : ℤ) → (before after : List T) →
     (answer : ℕ) → Type 0
@@ -57,7 +57,7 @@ PredictsFrom bits num pixel p b smooth left corner above ac alpha before after a
     ⊎ ((b.mode ≢ FROM_LUMA) × Predicts bits num pixel (block_in p b smooth) p.stride (column_in p b) (row_in p b) left
     corner above before after answer)
 
--- it is predicted from such a room
+-- the transform is predicted from the edge that such a buffer holds
 abbrev pub PredictsFromRoom : (bits : ℕ) → EdgePlane → EdgeBlock → (smooth : ℕ) → (edge : List ℕ) → (ac : List ℤ) →
     (alpha : ℤ) → (before after : List ℕ) → (answer : ℕ) → Type 0
 PredictsFromRoom bits p b smooth edge ac alpha before after answer =
@@ -65,18 +65,19 @@ PredictsFromRoom bits p b smooth edge ac alpha before after answer =
     (drop 129 edge) ac alpha before
     after answer
 
--- ---- what the calls say
+-- ---- the contracts
 
--- Of a transform that is predicted in its plane, whose samples of at most so many bits were `before` and are `after`;
--- `answer` is the status.
+-- The call predicts a transform in its plane, in samples of at most this many bits. `before` is the samples before the
+-- call, `after` after it, and `answer` is the status.
 pub record PredictsInPlane (bits : ℕ) (plane : EdgePlane) (at : EdgeBlock) (smooth : ℕ) (ac : List ℤ) (alpha : ℤ)
     (before after : List ℕ) (answer : ℕ) : Type 0 where
-  -- Its edge is prepared from the samples as they were, and it is predicted from this.
+  -- The edge is prepared from the samples before the call, and the transform is predicted from this edge.
   pub done : answer ≡ DONE → (edge : List ℕ) × (IsEdgeFor bits plane at before edge DONE
       × PredictsFromRoom bits plane at smooth edge ac alpha before after DONE)
-  -- The edge is refused, or what is predicted from it, and with the same status.
+  -- The call that prepares the edge rejects its arguments, or the call that predicts from the edge does, with this
+  -- status.
   pub refused : answer ≢ DONE → (edge : List ℕ) × (IsEdgeFor bits plane at before edge answer
       ⊎ (IsEdgeFor bits plane at before edge DONE
       × PredictsFromRoom bits plane at smooth edge ac alpha before after answer))
-  -- What is refused leaves the samples as they were.
+  -- If the call rejects an argument, the samples are unchanged.
   pub kept : answer ≢ DONE → after ≡ before

@@ -1,6 +1,6 @@
--- What the calls that give chroma from luma its luma say of their arguments: of a block of chroma in numbers, of where
--- its luma begins (column x of row y), of rows that stand `stride` apart, and of how many samples there are, and how
--- many differences. AV1 specification: predict chroma from luma process.
+-- The contracts of the calls that give the differences of luma from its mean, for a block of chroma in numbers. The
+-- block's luma begins at column x of row y, and rows are `stride` samples apart. AV1 specification: predict chroma from
+-- luma process.
 use Rattle.std.specs.Prelude.{◌≡◌, ◌≢◌, ◌⊎◌, Bool, ℕ, ◌*◌, ◌^◌, ◌<◌, ◌≤◌, List, length, Some, slice_get, ℤ}
 use Rattle.av1_blocks.specs.Blocks.{block_height, block_width}
 use Rattle.av1_blocks.specs.Depths.{IsDepth}
@@ -17,15 +17,15 @@ use Rattle.av1_calls.specs.declared.luma.CflBlock.{CflBlock}
 use Rattle.av1_calls.specs.declared.status.TheConstants.{BAD_AREA, BAD_DEPTH, BAD_PAD, BAD_SAMPLE, BAD_SAMPLING}
 use Rattle.av1_calls.specs.declared.status.TheConstants.{BAD_SIZE, DONE, TOO_SHORT}
 
--- ---- what is asked for
+-- ---- what is required
 
--- this is the size of the number, and no side of it is longer than 32
+-- this is the size of the number, at most 32 by 32
 pub record IsChromaSize (number : ℕ) (size : BlockSize) : Type 0 where
   pub named : slice_get block_sizes.ALL number ≡ Some size
   pub narrow : block_width size ≤ 32
   pub low : block_height size ≤ 32
 
--- the decimations of chroma in 4:4:4, 4:2:2 or 4:2:0
+-- the subsampling of chroma in 4:4:4, 4:2:2 or 4:2:0
 pub record IsSampling (xdec ydec : ℕ) : Type 0 where
   pub columns : xdec ≤ 1
   pub rows : ydec ≤ xdec
@@ -41,14 +41,14 @@ pub record IsChroma (b : CflBlock) (size : BlockSize) : Type 0 where
   pub sampled : IsSampling b.xdec b.ydec
   pub padded : HasLuma b size
 
--- the luma that is read for it
+-- the rectangle of luma that is read for the block
 abbrev pub luma_area : CflBlock → BlockSize → (x y : ℕ) → StoredArea
 luma_area b size x y =
     let block = padded_block size b.w_pad b.h_pad b.xdec b.ydec in
     record { x = x; y = y; width = columns_read block; height = rows_read block }
 
--- The block has this size, its luma lies in so many samples, and there are as many differences as it has samples, or
--- more.
+-- The block has this size, and its luma lies in this many samples. There are at least as many differences as the block
+-- has samples.
 pub record IsCflBlock (b : CflBlock) (stride x y ac samples : ℕ) (size : BlockSize) : Type 0 where
   pub sized : IsChromaSize b.block_size size
   pub sampled : IsSampling b.xdec b.ydec
@@ -56,7 +56,7 @@ pub record IsCflBlock (b : CflBlock) (stride x y ac samples : ℕ) (size : Block
   pub rows : AreRows stride (luma_area b size x y) samples
   pub long : block_width size * block_height size ≤ ac
 
--- the samples have this depth, and none that is read is past it
+-- the depth is valid, and no sample that is read is past it
 pub record IsLumaOfDepth (depth : ℕ) (b : CflBlock) (stride x y : ℕ) (samples : List ℕ)
     (size : BlockSize) : Type 0 where
   pub known : IsDepth depth
@@ -68,27 +68,27 @@ pub record IsLumaOfDepth (depth : ℕ) (b : CflBlock) (stride x y : ℕ) (sample
 abbrev pub luma_in : (stride : ℕ) → StoredArea → List ℕ → (p q : ℕ) → ℕ
 luma_in stride area samples p q = area_sample stride area samples q p
 
--- the list with the differences of the block's luma from their mean, row by row, in its first entries; all others stay
+-- the list whose first entries are the differences of the block's luma, row by row; the others are unchanged
 abbrev pub with_differences : CflBlock → BlockSize → (stride x y : ℕ) → List ℕ → List ℤ → List ℤ
 with_differences b size stride x y samples ac =
     with_rows (block_width size) (block_height size)
     (luma_difference (luma_in stride (luma_area b size x y) samples)
     (padded_block size b.w_pad b.h_pad b.xdec b.ydec)) ac
 
--- ---- what is refused: each reason with what is asked before it, so that the first one that holds is told
+-- ---- what is rejected: each reason includes that the tests before it passed
 
--- no size with sides up to 32 has the number
+-- no size of at most 32 by 32 has the number
 abbrev pub HasNoChromaSize : ℕ → Type 0
 HasNoChromaSize number = (size : BlockSize) → ¬ IsChromaSize number size
 
 abbrev pub HasNoSampling : CflBlock → Type 0
 HasNoSampling b = (size : BlockSize) × (IsChromaSize b.block_size size × (¬ IsSampling b.xdec b.ydec))
 
--- so many columns or rows without luma of their own leave none with it
+-- no columns or no rows have luma of their own
 abbrev pub HasNoLuma : CflBlock → Type 0
 HasNoLuma b = (size : BlockSize) × (IsChromaSize b.block_size size × (IsSampling b.xdec b.ydec × (¬ HasLuma b size)))
 
--- the luma that is read does not lie in so many samples
+-- the luma that is read does not lie in this many samples
 abbrev pub LumaLiesOutside : CflBlock → (stride x y samples : ℕ) → Type 0
 LumaLiesOutside b stride x y samples =
     (size : BlockSize) × (IsChroma b size × (¬ AreRows stride (luma_area b size x y) samples))
@@ -112,19 +112,20 @@ HasDeepLuma depth b stride x y ac samples =
     (IsCflBlock b stride x y ac (length samples) size ×
     (IsDepth depth × (¬ AreBelow (2 ^ depth) stride (luma_area b size x y) samples)))
 
--- ---- what the calls say
+-- ---- the contracts
 
--- Of luma's differences, which were `before` and are `after`, at this depth. `answer` is the status.
+-- The call gives the differences of luma, at this depth. `before` is the list before the call, `after` after it, and
+-- `answer` is the status.
 pub record GivesDifferences (wide : Bool) (bit_depth : ℕ) (block : CflBlock) (stride x y : ℕ) (luma : List ℕ)
     (before after : List ℤ) (answer : ℕ) : Type 0 where
-  -- The arguments name a block, and the differences are those of its luma.
+  -- The arguments name a block, and the differences are those of the block's luma.
   pub done : answer ≡ DONE → (size : BlockSize) × (IsCflBlock block stride x y (length before) (length luma) size
       × (IfWide wide (IsLumaOfDepth bit_depth block stride x y luma size)
       × (after ≡ with_differences block size stride x y luma before)))
-  -- Nothing else is asked of them.
+  -- The call requires nothing else of its arguments.
   pub asked : (size : BlockSize) → IsCflBlock block stride x y (length before) (length luma) size
       → IfWide wide (IsLumaOfDepth bit_depth block stride x y luma size) → answer ≡ DONE
-  -- An argument is refused, the first one that has to be, and this is why.
+  -- The status names the first bad argument, and these clauses say what is wrong with it.
   pub size : answer ≡ BAD_SIZE → HasNoChromaSize block.block_size
   pub sampling : answer ≡ BAD_SAMPLING → HasNoSampling block
   pub pad : answer ≡ BAD_PAD → HasNoLuma block
@@ -133,13 +134,13 @@ pub record GivesDifferences (wide : Bool) (bit_depth : ℕ) (block : CflBlock) (
   pub depth : answer ≡ BAD_DEPTH
       → OnlyWide wide (HasNoLumaDepth bit_depth block stride x y (length before) (length luma))
   pub sample : answer ≡ BAD_SAMPLE → OnlyWide wide (HasDeepLuma bit_depth block stride x y (length before) luma)
-  -- What is refused leaves the differences as they were.
+  -- If the call rejects an argument, the differences are unchanged.
   pub kept : answer ≢ DONE → after ≡ before
   pub known : (answer ≡ DONE) ⊎ ((answer ≡ BAD_SIZE) ⊎ ((answer ≡ BAD_SAMPLING) ⊎ ((answer ≡ BAD_PAD)
       ⊎ ((answer ≡ BAD_AREA) ⊎ ((answer ≡ TOO_SHORT)
       ⊎ OnlyWide wide ((answer ≡ BAD_DEPTH) ⊎ (answer ≡ BAD_SAMPLE)))))))
 
--- ---- why nothing is written: words of private contracts
+-- ---- definitions for private contracts: why nothing is written
 
 abbrev pub IsCflFault : CflBlock → (stride x y ac samples : ℕ) → BadArgument → Type 0
 IsCflFault b stride x y ac samples bad.Size = HasNoChromaSize b.block_size

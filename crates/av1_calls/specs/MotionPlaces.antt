@@ -1,5 +1,5 @@
--- What the call that follows a vector says of its arguments, and of the place that it finds.
--- AV1 specification: motion vector scaling process at a scale of one, block inter prediction process.
+-- The contract of the call that finds where a vector leads. AV1 specification: motion vector scaling process at a scale
+-- of one, block inter prediction process.
 use Rattle.std.specs.Prelude.{◌≡◌, ◌≢◌, ◌⊎◌, ℕ, ◌+◌, ◌<◌, ◌≤◌, ℤ, pos, ◌+ℤ◌, ◌-ℤ◌, ◌≤ℤ◌}
 use Rattle.av1_frame.specs.Slices.{nearest_visible}
 use Rattle.av1_inter.specs.Reference.{sixteenths, whole_part}
@@ -12,9 +12,9 @@ use Rattle.av1_calls.specs.declared.motion_place.MotionPlane.{MotionPlane}
 use Rattle.av1_calls.specs.declared.motion_place.MovedBlock.{MovedBlock}
 use Rattle.av1_calls.specs.declared.status.TheConstants.{BAD_AREA, BAD_SIZE, DONE}
 
--- ---- what is asked for
+-- ---- what is required
 
--- the plane has samples, and it and the block's place are within what frames have
+-- the plane has samples, and the plane and the block's position are within the greatest frame
 pub record LiesNear (plane : MotionPlane) (block : MovedBlock) : Type 0 where
   pub some_columns : 0 < plane.width
   pub few_columns : plane.width ≤ 65536
@@ -29,19 +29,20 @@ pub record IsMoved (plane : MotionPlane) (block : MovedBlock) : Type 0 where
 
 -- ---- what is found
 
--- the first column that is read for a block, which the whole samples of a vector's component move, and so the first row
+-- The first column that is read for a block, moved by the whole samples of a vector's component. Or the first row.
 abbrev pub first_read : (at : ℕ) → (component : ℤ) → (decimation : ℕ) → ℤ
 first_read at component decimation = pos at +ℤ (whole_part component decimation -ℤ pos 3)
 
--- Along columns, or rows, of which so many are visible a block of so many can be read at a place for one that begins
--- there: none that is read is further out than its pads are, and at each the nearest visible one is the same.
+-- A block of `side` columns may be read at `place`, if `visible` columns are visible and `first` is the first column
+-- that its vector reads. No column that is read is farther outside than the padding. Each column has the same nearest
+-- visible column. The same holds for rows.
 pub record IsPlaceFor (first : ℤ) (side visible : ℕ) (place : ℤ) : Type 0 where
   pub least : (pos 0 -ℤ pos (side + 4)) ≤ℤ place
   pub greatest : place ≤ℤ pos (visible + 3)
   pub same : (c : ℕ) → c < side + 7 →
       nearest_visible visible (place -ℤ pos 3 +ℤ pos c) ≡ nearest_visible visible (first +ℤ pos c)
 
--- The block can be read at the place, by these fractions.
+-- The block may be read at the place, with these fractions.
 pub record IsPlaceOf (plane : MotionPlane) (block : MovedBlock) (place : MovedPlace) : Type 0 where
   pub column : IsPlaceFor (first_read block.x block.col (halvings plane.halved_columns)) block.width plane.width place.x
   pub row : IsPlaceFor (first_read block.y block.row (halvings plane.halved_rows)) block.height plane.height place.y
@@ -50,22 +51,22 @@ pub record IsPlaceOf (plane : MotionPlane) (block : MovedBlock) (place : MovedPl
   pub few_columns : place.col_frac < 16
   pub few_rows : place.row_frac < 16
 
--- ---- what the call says
+-- ---- the contracts
 
--- Of a block that a vector moves: the place was `before` and is `after`, and `answer` is the status.
+-- The call finds a place: `before` is the place before the call, `after` after it, and `answer` is the status.
 pub record FindsPlace (plane : MotionPlane) (block : MovedBlock) (before after : MovedPlace) (answer : ℕ) : Type 0 where
-  -- The block is one, and this is where it is read.
+  -- The block may be moved, and the place is where it is read.
   pub done : answer ≡ DONE → IsMoved plane block × IsPlaceOf plane block after
-  -- Nothing else is asked of the arguments.
+  -- The call requires nothing else of its arguments.
   pub asked : IsMoved plane block → answer ≡ DONE
-  -- An argument is refused, the first one that has to be, and this is why.
+  -- The status names the first bad argument, and these clauses say what is wrong with it.
   pub size : answer ≡ BAD_SIZE → ¬ AreSides block.width block.height
   pub area : answer ≡ BAD_AREA → AreSides block.width block.height × (¬ LiesNear plane block)
-  -- What is refused leaves the place as it was.
+  -- If the call rejects an argument, the place is unchanged.
   pub kept : answer ≢ DONE → after ≡ before
   pub known : (answer ≡ DONE) ⊎ ((answer ≡ BAD_SIZE) ⊎ (answer ≡ BAD_AREA))
 
--- ---- why nothing is written: words of private contracts
+-- ---- definitions for private contracts: why nothing is written
 
 abbrev pub IsMovedFault : MotionPlane → MovedBlock → BadArgument → Type 0
 IsMovedFault plane block bad.Size = ¬ AreSides block.width block.height

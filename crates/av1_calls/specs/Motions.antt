@@ -1,4 +1,4 @@
--- What the calls on blocks of references ask of their arguments, and what they leave.
+-- The contracts of the calls on blocks of references: which arguments are valid, and what is written.
 use Rattle.std.specs.Prelude.{◌≡◌, ◌≢◌, ◌⊎◌, ◌==◌, if◌then◌else◌, Bool, ℕ, ◌+◌, ◌-◌, ◌*◌, ◌<◌, ◌≤◌, true, List}
 use Rattle.std.specs.Prelude.{length, slice_index, ℤ}
 use Rattle.av1_blocks.specs.Depths.{IsDepth}
@@ -26,11 +26,11 @@ use Rattle.av1_calls.specs.declared.status.TheConstants.{BAD_SIZE, DONE, TOO_SHO
 abbrev pub place : (stride x y : ℕ) → Place
 place stride x y = record { stride = stride; x = x; y = y }
 
--- the rectangle of so many columns and rows from a place on
+-- the rectangle of these dimensions from a place on
 abbrev pub rectangle_at : Place → (width height : ℕ) → StoredArea
 rectangle_at at width height = record { x = at.x; y = at.y; width = width; height = height }
 
--- what is read for a block from there on: 3 columns and rows before it, and 4 after it
+-- what is read for a block at a place: 3 columns and rows before the block, and 4 after it
 abbrev pub read_for : Place → MotionBlock → StoredArea
 read_for from block = record { x = from.x - 3; y = from.y - 3; width = block.width + 7; height = block.height + 7 }
 
@@ -38,73 +38,75 @@ read_for from block = record { x = from.x - 3; y = from.y - 3; width = block.wid
 abbrev pub source_at : Place → List ℕ → (c r : ℕ) → ℕ
 source_at from samples c r = slice_index samples ((from.y - 3 + r) * from.stride + (from.x - 3) + c)
 
--- ---- what is asked for
+-- ---- what is required
 
--- sides from 1 to 128
+-- the width and the height are from 1 to 128
 pub record AreSides (width height : ℕ) : Type 0 where
   pub some_columns : 0 < width
   pub wide : width ≤ 128
   pub some_rows : 0 < height
   pub high : height ≤ 128
 
--- a number of a filter in plans, or that of rav1e's sharp one
+-- the number of a filter in plans, or of rav1e's sharp filter
 abbrev pub IsFilterNumber : ℕ → Type 0
 IsFilterNumber number = (number < 4) ⊎ (number ≡ RAV1E_SHARP)
 
--- both have such a number
+-- both of the block's filters have such a number
 pub record AreFilters (block : MotionBlock) : Type 0 where
   pub across : IsFilterNumber block.filter_x
   pub down : IsFilterNumber block.filter_y
 
--- both are less than a sample
+-- both fractions are less than a sample
 pub record AreFractions (block : MotionBlock) : Type 0 where
   pub columns : block.col_frac < 16
   pub rows : block.row_frac < 16
 
--- its own numbers are those of a block
+-- the block's own numbers are valid
 pub record IsMotionBlock (block : MotionBlock) : Type 0 where
   pub sides : AreSides block.width block.height
   pub filters : AreFilters block
   pub fractions : AreFractions block
 
--- all that is read for a block lies in so many samples
+-- all that is read for a block lies in this many samples
 pub record IsSource (from : Place) (block : MotionBlock) (samples : ℕ) : Type 0 where
   pub left : 3 ≤ from.x
   pub top : 3 ≤ from.y
   pub rows : AreRows from.stride (read_for from block) samples
 
--- A block that can be read from a place in so many samples.
+-- The block can be read from a place in this many samples.
 pub record IsMotion (from : Place) (block : MotionBlock) (samples : ℕ) : Type 0 where
   pub sides : AreSides block.width block.height
   pub filters : AreFilters block
   pub fractions : AreFractions block
   pub source : IsSource from block samples
 
--- A block that can be written to a place in `room` samples, too.
+-- The block can be read, and can be written to a place in `room` samples.
 pub record IsPut (to : Place) (room : ℕ) (from : Place) (samples : ℕ) (block : MotionBlock) : Type 0 where
   pub motion : IsMotion from block samples
   pub rows : AreRows to.stride (rectangle_at to block.width block.height) room
 
--- A block that can be prepared in `room` values.
+-- The block can be read, and can be prepared in `room` values.
 pub record IsPrep (room : ℕ) (from : Place) (samples : ℕ) (block : MotionBlock) : Type 0 where
   pub motion : IsMotion from block samples
   pub long : block.height * block.width ≤ room
 
--- Two prepared blocks of these sides, of so many values, whose average can be written to a place in `room` samples.
+-- Two prepared blocks have these dimensions, and `first` and `second` values. Their average can be written to a place
+-- in `room` samples.
 pub record IsAverage (to : Place) (room width height first second : ℕ) : Type 0 where
   pub sides : AreSides width height
   pub rows : AreRows to.stride (rectangle_at to width height) room
   pub first_long : height * width ≤ first
   pub second_long : height * width ≤ second
 
--- Samples have this depth, and none that is read for the block is past it.
+-- The depth is valid, and no sample that is read for the block is past it.
 pub record AreOfDepth (depth : ℕ) (from : Place) (samples : List ℕ) (block : MotionBlock) : Type 0 where
   pub is_depth : IsDepth depth
   pub within : AreWithinDepth depth (source_at from samples) (block.width + 7) (block.height + 7)
 
 -- ---- what is written
 
--- the filter of a number along a side: AV1's; rav1e's sharp one is `SHARP` of `av1_inter` along all sides
+-- AV1's filter of a number along a side; the number of rav1e's sharp filter gives `SHARP` of `av1_inter` along all
+-- sides
 abbrev pub filter_along : (number side : ℕ) → FilterMode
 filter_along number side = if number == RAV1E_SHARP then SHARP else mode_along true (filter_mode number) side
 
@@ -120,25 +122,25 @@ abbrev pub moved_sample : (depth : ℕ) → MotionBlock → (ℕ → ℕ → ℕ
 moved_sample depth block source r c =
     single depth block.col_frac block.row_frac (across_of block) (down_of block) source r c
 
--- the samples with the block in its rectangle; all others stay
+-- the samples with the block in its rectangle; the others are unchanged
 abbrev pub with_block : (depth : ℕ) → (to : Place) → MotionBlock → (ℕ → ℕ → ℕ) → List ℕ → List ℕ
 with_block depth to block source samples =
     paint to.stride (rectangle_at to block.width block.height) (λ r c _. moved_sample depth block source r c) samples
 
--- Values become those that are prepared of the block, row by row, and what is behind them stays.
+-- The first values are the prepared values of the block, row by row. The values after them are unchanged.
 pub record HoldBlock (depth : ℕ) (block : MotionBlock) (source : ℕ → ℕ → ℕ) (before after : List ℤ) : Type 0 where
   pub values : (r c : ℕ) → r < block.height → c < block.width →
       entry after (r * block.width + c) ≡ prepared depth block.col_frac block.row_frac (across_of block)
       (down_of block) source r c
   pub others : (i : ℕ) → block.height * block.width ≤ i → entry after i ≡ entry before i
 
--- the samples with the averages of prepared values in the rectangle; all others stay
+-- the samples with the averages of prepared values in the rectangle; the others are unchanged
 abbrev pub with_average : (depth : ℕ) → (to : Place) → (width height : ℕ) → (first second : List ℤ) → List ℕ → List ℕ
 with_average depth to width height first second samples =
     paint to.stride (rectangle_at to width height)
     (λ r c _. averaged depth (entry first (r * width + c)) (entry second (r * width + c))) samples
 
--- ---- what is refused: each reason with what is asked before it, so that the first one that holds is told
+-- ---- what is rejected: each reason includes that the tests before it passed
 
 abbrev pub HasNoFilters : MotionBlock → Type 0
 HasNoFilters block = AreSides block.width block.height × (¬ AreFilters block)
@@ -150,7 +152,7 @@ HasNoFractions block = AreSides block.width block.height × (AreFilters block ×
 abbrev pub HasNoSource : (from : Place) → MotionBlock → (samples : ℕ) → Type 0
 HasNoSource from block samples = IsMotionBlock block × (¬ IsSource from block samples)
 
--- what is read for the block, or the rectangle that it is to become, does not lie in its samples
+-- what is read for the block does not lie in its samples, or the block's rectangle does not lie in its own
 abbrev pub HasNoPlace : (to : Place) (room : ℕ) (from : Place) (samples : ℕ) → MotionBlock → Type 0
 HasNoPlace to room from samples block =
     IsMotionBlock block ×
@@ -189,19 +191,19 @@ IsAverageStatus wide status =
     (status ≡ DONE) ⊎
     ((status ≡ BAD_SIZE) ⊎ ((status ≡ BAD_AREA) ⊎ ((status ≡ TOO_SHORT) ⊎ OnlyWide wide (status ≡ BAD_DEPTH))))
 
--- ---- what the calls say: what was `before` them is `after` them as it is told here, and `answer` is their status
+-- ---- the contracts: `before` is what there was before the call, `after` after it, and `answer` is the status
 
--- Of a block that is predicted from a reference, at this depth.
+-- The call predicts a block from a reference, at this depth.
 pub record Puts (wide : Bool) (bit_depth : ℕ) (to from : Place) (block : MotionBlock) (src before after : List ℕ)
     (answer : ℕ) : Type 0 where
-  -- The block can be read, its rectangle can be written, and it holds the block.
+  -- The block can be read and written, and its rectangle holds the block.
   pub done : answer ≡ DONE → IsPut to (length before) from (length src) block
       × (IfWide wide (AreOfDepth bit_depth from src block)
       × (after ≡ with_block bit_depth to block (source_at from src) before))
-  -- Nothing else is asked of the arguments.
+  -- The call requires nothing else of its arguments.
   pub asked : IsPut to (length before) from (length src) block → IfWide wide (AreOfDepth bit_depth from src block)
       → answer ≡ DONE
-  -- An argument is refused, the first one that has to be, and this is why.
+  -- The status names the first bad argument, and these clauses say what is wrong with it.
   pub size : answer ≡ BAD_SIZE → ¬ AreSides block.width block.height
   pub mode : answer ≡ BAD_MODE → HasNoFilters block
   pub fraction : answer ≡ BAD_FRACTION → HasNoFractions block
@@ -210,21 +212,21 @@ pub record Puts (wide : Bool) (bit_depth : ℕ) (to from : Place) (block : Motio
       → OnlyWide wide (IsPut to (length before) from (length src) block × (¬ IsDepth bit_depth))
   pub sample : answer ≡ BAD_SAMPLE
       → OnlyWide wide (IsPut to (length before) from (length src) block × HasDeepSample bit_depth from src block)
-  -- What is refused leaves the samples as they were.
+  -- If the call rejects an argument, the samples are unchanged.
   pub kept : answer ≢ DONE → after ≡ before
   pub known : IsPutStatus wide answer
 
--- Of a block that is prepared from a reference, at this depth.
+-- The call prepares a block from a reference, at this depth.
 pub record Prepares (wide : Bool) (bit_depth : ℕ) (from : Place) (block : MotionBlock) (src : List ℕ)
     (before after : List ℤ) (answer : ℕ) : Type 0 where
-  -- The block can be read, and its values stand at the front.
+  -- The block can be read, and the first values are its prepared values.
   pub done : answer ≡ DONE → IsPrep (length before) from (length src) block
       × (IfWide wide (AreOfDepth bit_depth from src block)
       × HoldBlock bit_depth block (source_at from src) before after)
-  -- Nothing else is asked of the arguments.
+  -- The call requires nothing else of its arguments.
   pub asked : IsPrep (length before) from (length src) block → IfWide wide (AreOfDepth bit_depth from src block)
       → answer ≡ DONE
-  -- An argument is refused, the first one that has to be, and this is why.
+  -- The status names the first bad argument, and these clauses say what is wrong with it.
   pub size : answer ≡ BAD_SIZE → ¬ AreSides block.width block.height
   pub mode : answer ≡ BAD_MODE → HasNoFilters block
   pub fraction : answer ≡ BAD_FRACTION → HasNoFractions block
@@ -234,41 +236,41 @@ pub record Prepares (wide : Bool) (bit_depth : ℕ) (from : Place) (block : Moti
       → OnlyWide wide (IsPrep (length before) from (length src) block × (¬ IsDepth bit_depth))
   pub sample : answer ≡ BAD_SAMPLE
       → OnlyWide wide (IsPrep (length before) from (length src) block × HasDeepSample bit_depth from src block)
-  -- What is refused leaves the values as they were.
+  -- If the call rejects an argument, the values are unchanged.
   pub kept : answer ≢ DONE → after ≡ before
   pub known : IsPrepStatus wide answer
 
--- Of two prepared blocks that are averaged, at this depth.
+-- The call averages two prepared blocks, at this depth.
 pub record Averages (wide : Bool) (bit_depth : ℕ) (to : Place) (width height : ℕ) (first second : List ℤ)
     (before after : List ℕ) (answer : ℕ) : Type 0 where
   -- The rectangle can be written, and holds the averages.
   pub done : answer ≡ DONE → IsAverage to (length before) width height (length first) (length second)
       × (IfWide wide (IsDepth bit_depth)
       × (after ≡ with_average bit_depth to width height first second before))
-  -- Nothing else is asked of the arguments.
+  -- The call requires nothing else of its arguments.
   pub asked : IsAverage to (length before) width height (length first) (length second) → IfWide wide (IsDepth bit_depth)
       → answer ≡ DONE
-  -- An argument is refused, the first one that has to be, and this is why.
+  -- The status names the first bad argument, and these clauses say what is wrong with it.
   pub size : answer ≡ BAD_SIZE → ¬ AreSides width height
   pub area : answer ≡ BAD_AREA → LiesNowhere to (length before) width height
   pub short : answer ≡ TOO_SHORT → HasFewOfTwo to (length before) width height (length first) (length second)
   pub depth : answer ≡ BAD_DEPTH
       → OnlyWide wide (IsAverage to (length before) width height (length first) (length second) × (¬ IsDepth bit_depth))
-  -- What is refused leaves the samples as they were.
+  -- If the call rejects an argument, the samples are unchanged.
   pub kept : answer ≢ DONE → after ≡ before
   pub known : IsAverageStatus wide answer
 
--- ---- words of private contracts: how a block is read
+-- ---- definitions for private contracts: how a block is read
 
--- the rows that are read for it, and all before them
+-- the number of rows up to the last one that is read for a block
 abbrev pub rows_for : Place → MotionBlock → ℕ
 rows_for from block = from.y + block.height + 4
 
--- their settings, of which the block is visible
+-- the settings of these rows as a plane, whose visible part is the block
 abbrev pub config_of : Place → MotionBlock → PlaneConfig
 config_of from block = bare_config from.stride (rows_for from block) (rectangle_at from block.width block.height)
 
--- ---- words of private contracts: why nothing is written
+-- ---- definitions for private contracts: why nothing is written
 
 abbrev pub IsMotionFault : (from : Place) (samples : ℕ) → MotionBlock → BadArgument → Type 0
 IsMotionFault from samples block bad.Size = ¬ AreSides block.width block.height

@@ -1,6 +1,5 @@
--- What the calls that follow a vector into a plane without margins say of their arguments, and what they leave: past a
--- side of the plane each sample is the nearest visible one.
--- AV1 specification: block inter prediction process.
+-- The contracts of the calls that follow a vector into a plane without margins. Outside the plane each sample is the
+-- nearest visible one. AV1 specification: block inter prediction process.
 use Rattle.std.specs.Prelude.{◌≡◌, ◌≢◌, ◌⊎◌, Bool, ℕ, ◌+◌, ◌*◌, ◌≤◌, List, length, slice_index, ℤ, pos, ◌+ℤ◌}
 use Rattle.std.specs.Prelude.{◌≤ℤ◌, unsigned_abs}
 use Rattle.av1_blocks.specs.Depths.{IsDepth}
@@ -25,7 +24,7 @@ use Rattle.av1_calls.specs.declared.status.TheConstants.{BAD_AREA, BAD_DEPTH, BA
 
 -- ---- a block and its reference
 
--- the visible samples of the plane
+-- the rectangle of the visible samples of the plane
 abbrev pub visible_of : MotionPlane → StoredArea
 visible_of p = record { x = p.x; y = p.y; width = p.width; height = p.height }
 
@@ -54,36 +53,36 @@ motion_at b col_frac row_frac = record {
   filter_y = b.filter_y;
 }
 
--- and by those of its vector
+-- the block, moved by the fractions of its vector
 abbrev pub motion_of : MotionPlane → MovedBlock → MotionBlock
 motion_of p b = motion_at b (sixteenths b.col (halvings p.halved_columns)) (sixteenths b.row (halvings p.halved_rows))
 
--- the samples round it, counted from 3 columns left of and 3 rows above its first one
+-- the samples round the block, counted from 3 columns left of its first sample and 3 rows above
 abbrev pub moved_source : MotionPlane → MovedBlock → List ℕ → (c r : ℕ) → ℕ
 moved_source p b samples = moved_in (reference_of p samples) (pos b.x) (pos b.y) (vector_of b)
 
--- ---- what is asked for
+-- ---- what is required
 
--- both are numbers of filters
+-- both of the block's filters have valid numbers
 pub record AreMovedFilters (b : MovedBlock) : Type 0 where
   pub across : IsFilterNumber b.filter_x
   pub down : IsFilterNumber b.filter_y
 
--- The plane lies in so many samples, and the block near it.
+-- The plane lies in this many samples, and the block near the plane.
 pub record IsSourced (p : MotionPlane) (samples : ℕ) (b : MovedBlock) : Type 0 where
   pub near : LiesNear p b
   pub source : AreRows p.stride (visible_of p) samples
 
--- The same, and the block's rectangle lies in `room` samples.
+-- The plane lies in this many samples, and the block near the plane. The block's rectangle lies in `room` samples.
 pub record IsPlaced (to : Place) (room : ℕ) (p : MotionPlane) (samples : ℕ) (b : MovedBlock) : Type 0 where
   pub source : IsSourced p samples b
   pub rows : AreRows to.stride (rectangle_at to b.width b.height) room
 
--- all that is read for the block, row by row
+-- the rectangle of all that is read for the block, row by row
 abbrev pub window_of : MovedBlock → StoredArea
 window_of b = record { x = 0; y = 0; width = b.width + 7; height = b.height + 7 }
 
--- The block can be moved, and a window of so many samples has room for all that is read.
+-- The block can be moved and written, and a window of this many samples holds all that is read.
 pub record IsPutMoved (to : Place) (room : ℕ) (p : MotionPlane) (samples : ℕ) (b : MovedBlock) (window : ℕ) : Type 0
   where
     pub sides : AreSides b.width b.height
@@ -91,43 +90,43 @@ pub record IsPutMoved (to : Place) (room : ℕ) (p : MotionPlane) (samples : ℕ
     pub placed : IsPlaced to room p samples b
     pub long : AreRows (b.width + 7) (window_of b) window
 
--- So many values have room for the block, and a window of so many samples for all that is read.
+-- The block fits `room` values, and all that is read fits a window of this many samples.
 pub record HasRoom (room : ℕ) (b : MovedBlock) (window : ℕ) : Type 0 where
   pub values : b.height * b.width ≤ room
   pub long : AreRows (b.width + 7) (window_of b) window
 
--- The block can be moved and prepared in `room` values.
+-- The block can be moved, and can be prepared in `room` values.
 pub record IsPrepMoved (room : ℕ) (p : MotionPlane) (samples : ℕ) (b : MovedBlock) (window : ℕ) : Type 0 where
   pub sides : AreSides b.width b.height
   pub filters : AreMovedFilters b
   pub source : IsSourced p samples b
   pub roomy : HasRoom room b window
 
--- none of the samples that are read is past the depth
+-- no sample that is read is past the depth
 abbrev pub AreMovedWithin : (depth : ℕ) → MotionPlane → MovedBlock → List ℕ → Type 0
 AreMovedWithin depth p b samples = AreWithinDepth depth (moved_source p b samples) (b.width + 7) (b.height + 7)
 
--- ---- what is refused: each reason with what is asked before it, so that the first one that holds is told
+-- ---- what is rejected: each reason includes that the tests before it passed
 
 abbrev pub HasNoFilters : MovedBlock → Type 0
 HasNoFilters b = AreSides b.width b.height × (¬ AreMovedFilters b)
 
--- the plane, the block's place or the rectangle that it is to become does not lie where it should
+-- the plane, the block's position or the block's rectangle does not lie where it has to
 abbrev pub HasNoPlace : (to : Place) (room : ℕ) → MotionPlane → (samples : ℕ) → MovedBlock → Type 0
 HasNoPlace to room p samples b =
     AreSides b.width b.height × (AreMovedFilters b × (¬ IsPlaced to room p samples b))
 
--- the window has no room for what is read
+-- the window is too short for what is read
 abbrev pub HasNoWindow : (to : Place) (room : ℕ) → MotionPlane → (samples : ℕ) → MovedBlock → (window : ℕ) → Type 0
 HasNoWindow to room p samples b window =
     AreSides b.width b.height ×
     (AreMovedFilters b × (IsPlaced to room p samples b × (¬ AreRows (b.width + 7) (window_of b) window)))
 
--- the plane or the block's place does not lie where it should
+-- the plane or the block's position does not lie where it has to
 abbrev pub HasNoSource : MotionPlane → (samples : ℕ) → MovedBlock → Type 0
 HasNoSource p samples b = AreSides b.width b.height × (AreMovedFilters b × (¬ IsSourced p samples b))
 
--- there are fewer values than the block has samples, or the window has no room for what is read
+-- there are fewer values than the block has samples, or the window is too short for what is read
 abbrev pub HasNoRoom : (room : ℕ) → MotionPlane → (samples : ℕ) → MovedBlock → (window : ℕ) → Type 0
 HasNoRoom room p samples b window =
     AreSides b.width b.height × (AreMovedFilters b × (IsSourced p samples b × (¬ HasRoom room b window)))
@@ -137,51 +136,52 @@ IsPutMovedStatus wide status =
     (status ≡ DONE) ⊎ ((status ≡ BAD_SIZE) ⊎ ((status ≡ BAD_MODE) ⊎ ((status ≡ BAD_AREA) ⊎ ((status ≡ TOO_SHORT)
     ⊎ OnlyWide wide (status ≡ BAD_DEPTH)))))
 
--- ---- what the calls say
+-- ---- the contracts
 
--- Of a block that a vector moves, at this depth: the samples were `before` and are `after`, and `answer` is the status.
+-- The call predicts a block that a vector moves, at this depth. `before` is the samples before the call, `after` after
+-- it, and `answer` is the status.
 pub record PutsMoved (wide : Bool) (bit_depth : ℕ) (to : Place) (plane : MotionPlane) (block : MovedBlock)
     (window : ℕ) (src before after : List ℕ) (answer : ℕ) : Type 0 where
-  -- The block can be moved, its rectangle can be written, and it holds the block.
+  -- The block can be moved and written, and its rectangle holds the block.
   pub done : answer ≡ DONE → IsPutMoved to (length before) plane (length src) block window
       × (IfWide wide (IsDepth bit_depth)
       × (after ≡ with_block bit_depth to (motion_of plane block) (moved_source plane block src) before))
-  -- Nothing else is asked of the arguments.
+  -- The call requires nothing else of its arguments.
   pub asked : IsPutMoved to (length before) plane (length src) block window → IfWide wide (IsDepth bit_depth)
       → answer ≡ DONE
-  -- An argument is refused, the first one that has to be, and this is why.
+  -- The status names the first bad argument, and these clauses say what is wrong with it.
   pub size : answer ≡ BAD_SIZE → ¬ AreSides block.width block.height
   pub mode : answer ≡ BAD_MODE → HasNoFilters block
   pub area : answer ≡ BAD_AREA → HasNoPlace to (length before) plane (length src) block
   pub short : answer ≡ TOO_SHORT → HasNoWindow to (length before) plane (length src) block window
   pub depth : answer ≡ BAD_DEPTH
       → OnlyWide wide (IsPutMoved to (length before) plane (length src) block window × (¬ IsDepth bit_depth))
-  -- What is refused leaves the samples as they were.
+  -- If the call rejects an argument, the samples are unchanged.
   pub kept : answer ≢ DONE → after ≡ before
   pub known : IsPutMovedStatus wide answer
 
--- Of a block that a vector moves and that is prepared for the average with another.
+-- The call prepares a block that a vector moves for the average with another block.
 pub record PreparesMoved (wide : Bool) (bit_depth : ℕ) (plane : MotionPlane) (block : MovedBlock) (window : ℕ)
     (src : List ℕ) (before after : List ℤ) (answer : ℕ) : Type 0 where
-  -- The block can be moved, and its values stand at the front.
+  -- The block can be moved, and the first values are its prepared values.
   pub done : answer ≡ DONE → IsPrepMoved (length before) plane (length src) block window
       × (IfWide wide (IsDepth bit_depth)
       × HoldBlock bit_depth (motion_of plane block) (moved_source plane block src) before after)
-  -- Nothing else is asked of the arguments.
+  -- The call requires nothing else of its arguments.
   pub asked : IsPrepMoved (length before) plane (length src) block window → IfWide wide (IsDepth bit_depth)
       → answer ≡ DONE
-  -- An argument is refused, the first one that has to be, and this is why.
+  -- The status names the first bad argument, and these clauses say what is wrong with it.
   pub size : answer ≡ BAD_SIZE → ¬ AreSides block.width block.height
   pub mode : answer ≡ BAD_MODE → HasNoFilters block
   pub area : answer ≡ BAD_AREA → HasNoSource plane (length src) block
   pub short : answer ≡ TOO_SHORT → HasNoRoom (length before) plane (length src) block window
   pub depth : answer ≡ BAD_DEPTH
       → OnlyWide wide (IsPrepMoved (length before) plane (length src) block window × (¬ IsDepth bit_depth))
-  -- What is refused leaves the values as they were.
+  -- If the call rejects an argument, the values are unchanged.
   pub kept : answer ≢ DONE → after ≡ before
   pub known : IsPutMovedStatus wide answer
 
--- ---- words of private contracts: why nothing is written
+-- ---- definitions for private contracts: why nothing is written
 
 abbrev pub IsPutMovedFault : (to : Place) (room : ℕ) → MotionPlane → (samples : ℕ) → MovedBlock → (window : ℕ) →
     BadArgument → Type 0
@@ -210,20 +210,20 @@ IsDeepPrepMovedFault depth room p samples b window bad.Depth =
     IsPrepMoved room p samples b window × (¬ IsDepth depth)
 IsDeepPrepMovedFault depth room p samples b window fault = IsPrepMovedFault room p samples b window fault
 
--- ---- words of private contracts: what is read
+-- ---- definitions for private contracts: what is read
 
--- all that is read for the block from a place is visible
+-- all that is read for the block at a position is visible
 pub record LiesWithin (p : MotionPlane) (b : MovedBlock) (place : MovedPlace) : Type 0 where
   pub left : pos 3 ≤ℤ place.x
   pub right : (place.x +ℤ pos (b.width + 4)) ≤ℤ pos p.width
   pub top : pos 3 ≤ℤ place.y
   pub bottom : (place.y +ℤ pos (b.height + 4)) ≤ℤ pos p.height
 
--- the place in the samples of the plane
+-- the position in the samples of the plane's buffer
 abbrev pub stored_at : MotionPlane → MovedPlace → Place
 stored_at p at = record { stride = p.stride; x = p.x + unsigned_abs at.x; y = p.y + unsigned_abs at.y }
 
--- the place of the visible sample that is nearest to column x of row y
+-- the offset of the visible sample that is nearest to column x of row y
 abbrev pub nearest_place : MotionPlane → (x y : ℤ) → ℕ
 nearest_place p x y =
     (p.y + nearest_visible p.height y) * p.stride + p.x + nearest_visible p.width x

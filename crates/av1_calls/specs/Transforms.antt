@@ -1,6 +1,5 @@
--- What the calls that add a residue say of their arguments: of numbers of a size and a type, of where the first sample
--- stands (column x of row y), of rows that stand `stride` apart, of how many samples there are, and of the
--- coefficients, of which those past the end of their list are 0 (`at`).
+-- The contracts of the calls that add a residual. Size and type are numbers, the first sample is at column x of row y,
+-- and rows are `stride` samples apart. Coefficients past the end of their list are 0 (`at`).
 use Rattle.std.specs.Prelude.{◌≡◌, ◌≢◌, ◌⊎◌, Bool, true, ℕ, ◌+◌, ◌<◌, IsTrue, Some, ℤ, pos, ◌+ℤ◌, List, length}
 use Rattle.std.specs.Prelude.{map, slice_get}
 use Rattle.av1_blocks.specs.Depths.{IsDepth}
@@ -20,24 +19,24 @@ use Rattle.av1_calls.specs.declared.argument.BadArgument.{BadArgument}
 use Rattle.av1_calls.specs.declared.argument.BadArgument.TheVariants as bad
 use Rattle.av1_calls.specs.declared.status.TheConstants.{BAD_AREA, BAD_COEFFICIENT, BAD_DEPTH, BAD_SIZE, BAD_TYPE, DONE}
 
--- ---- what is asked for
+-- ---- what is required
 
 -- this is the type of the number
 abbrev pub IsType : ℕ → TxType → Type 0
 IsType number type = slice_get tx_types.ALL number ≡ Some type
 
--- The size has an inverse transform of this type; the lossless one is of 4x4 alone.
+-- The size has an inverse transform of this type. The lossless type only has the size 4x4.
 pub record IsRunnable (size : TxSize) (type : TxType) : Type 0 where
   pub valid : IsTrue (valid_av1_transform size type)
   pub lossless : type ≡ WHT_WHT → size ≡ TX_4X4
 
--- the numbers name a size, and a type that it has
+-- the numbers name a size, and a type that the size has
 pub record IsTransform (size_number type_number : ℕ) (size : TxSize) (type : TxType) : Type 0 where
   pub sized : IsSize size_number size
   pub typed : IsType type_number type
   pub runs : IsRunnable size type
 
--- The numbers name a transform, and its rectangle lies in so many samples.
+-- The numbers name a transform, and its rectangle lies in this many samples.
 pub record IsBlock (size_number type_number stride x y samples : ℕ) (size : TxSize) (type : TxType) : Type 0 where
   pub sized : IsSize size_number size
   pub typed : IsType type_number type
@@ -48,25 +47,25 @@ pub record IsBlock (size_number type_number stride x y samples : ℕ) (size : Tx
 abbrev pub AllFitDepth : ℕ → TxSize → List ℤ → Type 0
 AllFitDepth depth size coefficients = (i : ℕ) → i < coded_area size → FitsBits (depth + 8) (at coefficients i)
 
--- samples have this depth, and coefficients fit it
+-- the depth is valid, and the coefficients fit it
 abbrev pub AreOfDepth : ℕ → TxSize → List ℤ → Type 0
 AreOfDepth depth size coefficients = IsDepth depth × AllFitDepth depth size coefficients
 
--- the samples with the residue added to the rectangle, by AV1's rule or by rav1e's, clipped to the depth; all others
--- stay
+-- the samples with the residual added to the rectangle and clipped to the depth, by AV1's rule or by rav1e's; the
+-- others are unchanged
 abbrev pub with_residue : (by_av1 : Bool) → (depth stride x y : ℕ) → TxSize → TxType → List ℤ → List ℕ → List ℕ
 with_residue by_av1 depth stride x y size type coefficients samples =
     paint stride (rectangle x y size)
     (λ r c v. clip depth (pos v +ℤ residue_by by_av1 size type depth coefficients r c))
     samples
 
--- each coefficient as the nearest number of so many bits, its sign among them
+-- each coefficient as the nearest number of this many bits, including its sign
 abbrev pub cut_to : ℕ → List ℤ → List ℤ
 cut_to bits coefficients = map (λ z. clamp_value z bits) coefficients
 
--- ---- what is refused: each reason with what is asked before it, so that the first one that holds is told
+-- ---- what is rejected: each reason includes that the tests before it passed
 
--- the size has no transform of the type of this number, if there is one
+-- the size is valid, but it has no transform of this type, or no type has the number
 abbrev pub HasNoType : ℕ → ℕ → Type 0
 HasNoType size_number type_number = (size : TxSize) × IsSize size_number size ×
     ((type : TxType) → IsType type_number type → ¬ IsRunnable size type)
@@ -93,23 +92,23 @@ HasTooLarge depth size_number type_number stride x y coefficients samples =
     (IsBlock size_number type_number stride x y samples size type ×
     (IsDepth depth × (¬ AllFitDepth depth size coefficients))))
 
--- ---- what the calls say
+-- ---- the contracts
 
--- Of a residue that is added to samples at this depth, by AV1's rule or by rav1e's: they were `before` and are `after`,
--- and `answer` is the status.
+-- The call adds a residual to samples at this depth, by AV1's rule or by rav1e's. `before` is the samples before the
+-- call, `after` after it, and `answer` is the status.
 pub record AddsResidue (by_av1 wide : Bool) (bit_depth size_number type_number stride x y : ℕ) (coefficients : List ℤ)
     (before after : List ℕ) (answer : ℕ) : Type 0 where
-  -- The arguments name a transform, and the residue of the coefficients is added; of those that the list is too short
-  -- for each is 0.
+  -- The arguments name a transform, and the residual of the coefficients is added. Coefficients past the end of the
+  -- list are 0.
   pub done : answer ≡ DONE → (size : TxSize) × ((type : TxType)
       × (IsBlock size_number type_number stride x y (length before) size type
       × (IfWide wide (AreOfDepth bit_depth size coefficients)
       × (after ≡ with_residue by_av1 bit_depth stride x y size type coefficients before))))
-  -- Nothing else is asked of them.
+  -- The call requires nothing else of its arguments.
   pub asked : (size : TxSize) → (type : TxType)
       → IsBlock size_number type_number stride x y (length before) size type
       → IfWide wide (AreOfDepth bit_depth size coefficients) → answer ≡ DONE
-  -- An argument is refused, the first one that has to be, and this is why.
+  -- The status names the first bad argument, and these clauses say what is wrong with it.
   pub size : answer ≡ BAD_SIZE → HasNoSize size_number
   pub kind : answer ≡ BAD_TYPE → HasNoType size_number type_number
   pub area : answer ≡ BAD_AREA → HasNoRectangle size_number type_number stride x y (length before)
@@ -117,34 +116,34 @@ pub record AddsResidue (by_av1 wide : Bool) (bit_depth size_number type_number s
       → OnlyWide wide (HasNoDepth bit_depth size_number type_number stride x y (length before))
   pub coefficient : answer ≡ BAD_COEFFICIENT
       → OnlyWide wide (HasTooLarge bit_depth size_number type_number stride x y coefficients (length before))
-  -- What is refused leaves the samples as they were.
+  -- If the call rejects an argument, the samples are unchanged.
   pub kept : answer ≢ DONE → after ≡ before
   pub known : (answer ≡ DONE) ⊎ ((answer ≡ BAD_SIZE) ⊎ ((answer ≡ BAD_TYPE) ⊎ ((answer ≡ BAD_AREA)
       ⊎ OnlyWide wide ((answer ≡ BAD_DEPTH) ⊎ (answer ≡ BAD_COEFFICIENT)))))
 
--- Of the same by AV1's rule, where coefficients that are too large for the depth are cut to it.
+-- The call adds a residual by AV1's rule, after it clamps coefficients that are too large for the depth.
 pub record AddsClamped (bit_depth size_number type_number stride x y : ℕ) (coefficients : List ℤ)
     (before after : List ℕ) (answer : ℕ) : Type 0 where
-  -- The arguments name a transform, and the residue of what the coefficients are cut to is added.
+  -- The arguments name a transform, and the residual of the clamped coefficients is added.
   pub done : answer ≡ DONE → (size : TxSize) × ((type : TxType)
       × (IsBlock size_number type_number stride x y (length before) size type
       × (IsDepth bit_depth
       × (after ≡ with_residue true bit_depth stride x y size type (cut_to (bit_depth + 8) coefficients) before))))
-  -- Nothing else is asked of them.
+  -- The call requires nothing else of its arguments.
   pub asked : (size : TxSize) → (type : TxType)
       → IsBlock size_number type_number stride x y (length before) size type
       → IsDepth bit_depth → answer ≡ DONE
-  -- An argument is refused, the first one that has to be, and this is why.
+  -- The status names the first bad argument, and these clauses say what is wrong with it.
   pub size : answer ≡ BAD_SIZE → HasNoSize size_number
   pub kind : answer ≡ BAD_TYPE → HasNoType size_number type_number
   pub area : answer ≡ BAD_AREA → HasNoRectangle size_number type_number stride x y (length before)
   pub depth : answer ≡ BAD_DEPTH → HasNoDepth bit_depth size_number type_number stride x y (length before)
-  -- What is refused leaves the samples as they were.
+  -- If the call rejects an argument, the samples are unchanged.
   pub kept : answer ≢ DONE → after ≡ before
   pub known : (answer ≡ DONE) ⊎ ((answer ≡ BAD_SIZE) ⊎ ((answer ≡ BAD_TYPE) ⊎ ((answer ≡ BAD_AREA)
       ⊎ (answer ≡ BAD_DEPTH))))
 
--- ---- why nothing is written: words of private contracts
+-- ---- definitions for private contracts: why nothing is written
 
 abbrev pub IsBlockFault : (size_number type_number stride x y samples : ℕ) → BadArgument → Type 0
 IsBlockFault size_number type_number stride x y samples bad.Size = HasNoSize size_number

@@ -1,4 +1,4 @@
-//! The steps that a directional mode turns, from an angle in degrees.
+//! Finds how many steps of 3 degrees a directional mode turns to an angle.
 //!
 //! AV1 specification: intra angle info syntax.
 ghost use Rattle.std.specs.Prelude.{◌≡◌, ◌≢◌, ◌≤◌, ◌+ℤ◌, ◌*ℤ◌, ℤ, None, IfOk, IfErr, IfSome, pos, unsigned_abs};
@@ -10,7 +10,7 @@ use crate::intra::{is_turn, mode_of};
 use crate::status::DONE;
 use av1_blocks::{PredictionMode, intra_mode_to_angle};
 
-// How many steps of 3 degrees lead from one angle to another, where these are three at most.
+// How many steps of 3 degrees lead from one angle to another, if at most three do.
 fn steps_between(from: usize, to: usize) -> Option<i8>
     requires { from ≤ 203 }
     ensures few { IfSome result (λ step. unsigned_abs step ≤ 3) }
@@ -28,7 +28,7 @@ fn steps_between(from: usize, to: usize) -> Option<i8>
     }
 }
 
-// The angle of a mode that turns no steps, in degrees.
+// The angle of a mode at step 0, in degrees.
 fn straight_angle(mode: PredictionMode) -> usize
     ensures value { pos result ≡ mode_angle mode }
     ensures small { result ≤ 203 }
@@ -36,7 +36,7 @@ fn straight_angle(mode: PredictionMode) -> usize
     intra_mode_to_angle(mode).unsigned_abs()
 }
 
-// The steps that a mode turns to an angle.
+// How many steps a mode turns to an angle.
 fn step_to(mode: PredictionMode, angle: usize) -> Option<i8>
     ensures found { IfSome result (λ step. HasAngle mode step angle) }
     ensures none { result ≡ None → (step : ℤ) → ¬ HasAngle mode step angle }
@@ -49,7 +49,7 @@ fn step_to(mode: PredictionMode, angle: usize) -> Option<i8>
     }
 }
 
-/// The steps that the mode of a number turns to an angle.
+/// How many steps the mode with this number turns to an angle.
 ///
 /// # Errors
 ///
@@ -67,12 +67,12 @@ fn step_of(mode: u8, angle: usize) -> Result<i8, BadArgument>
     }
 }
 
-/// Finds how many steps of 3 degrees a mode turns to an angle in degrees, counter-clockwise from the samples above on
-/// the right: 90 is from above, 180 from the left. `step` becomes `angle_step` of a block. A mode without a direction
-/// has the angle 0 alone, and turns no steps.
+/// Finds how many steps of 3 degrees a mode turns to an angle. The angle is in degrees, counter-clockwise from the
+/// samples above on the right. For example, 90 is from above and 180 is from the left. `step` becomes the `angle_step`
+/// of a block. A mode without a direction only has the angle 0, and turns no steps.
 ///
-/// `DONE`: that was done. `BAD_MODE`: no intra mode has the number, or it is chroma from luma. `BAD_ANGLE`: the mode
-/// does not turn to this angle.
+/// `DONE`: success. `BAD_MODE`: no intra mode has the number, or it is chroma from luma. `BAD_ANGLE`: the mode does not
+/// turn to this angle.
 pub fn av1_angle_step(step: &mut i8, mode: u8, angle: usize) -> u32
     ensures { FindsStep mode angle step.old step.new result }
 {

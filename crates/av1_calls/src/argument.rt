@@ -1,4 +1,4 @@
-//! What calls on a block ask of their arguments, and why they refused one.
+//! The arguments that calls on a block share, and why a call rejects one.
 ghost use Rattle.std.specs.Prelude.{◌≡◌, true, ◌*◌, ◌≤◌};
 ghost use Rattle.av1_blocks.specs.Depths.{IsDepth};
 ghost use Rattle.av1_frame.specs.Areas.{AreRows};
@@ -11,10 +11,10 @@ use crate::status::{
 use av1_blocks::{FilterMode, TxSize};
 use av1_frame::StoredArea;
 
-/// What a call on a block refused.
+/// Why a call on a block rejects its arguments.
 #[derive(Clone, Copy, Debug, PartialEq, Eq)]
 pub enum BadArgument {
-    /// No size has this number, or no block has such a side.
+    /// No size has this number, or no block has such a width or height.
     Size,
     /// No type has this number, or the size has no such type.
     Kind,
@@ -24,7 +24,7 @@ pub enum BadArgument {
     Area,
     /// A list has too few elements.
     Short,
-    /// A coefficient has more bits than the depth admits.
+    /// A coefficient has more bits than the depth allows.
     Coefficient,
     /// A sample has more bits than the depth.
     Sample,
@@ -34,14 +34,14 @@ pub enum BadArgument {
     Angle,
     /// No filter has this fraction of a sample.
     Fraction,
-    /// No planes have such decimations.
+    /// Chroma has no such subsampling.
     Sampling,
     /// No column or no row has luma of its own.
     Pad,
 }
 
 impl BadArgument {
-    /// The status of a call that ended so.
+    /// The status of a call that rejects its arguments for this reason.
     pub fn status(self) -> u32
         ensures { result ≡ argument_status self }
     {
@@ -62,8 +62,7 @@ impl BadArgument {
     }
 }
 
-// Whether so many rows lie in so many samples. Their product has twice the bits of a number, so that no overflow is
-// asked for.
+// Whether `rows` rows lie in `samples` samples. Their product has twice the bits of a `usize`, so it can't overflow.
 #[inline(always)]
 fn are_lines(rows: usize, stride: usize, samples: usize) -> bool
     ensures true_is { result ≡ true → rows * stride ≤ samples }
@@ -72,7 +71,7 @@ fn are_lines(rows: usize, stride: usize, samples: usize) -> bool
     rows as u128 * stride as u128 <= samples as u128
 }
 
-/// Whether the rectangle lies in so many samples, in rows of this stride.
+/// Whether the rectangle lies in `samples` samples, in rows of this stride.
 #[inline(always)]
 pub(crate) fn are_rows(stride: usize, area: StoredArea, samples: usize) -> bool
     ensures true_is { result ≡ true → AreRows stride area samples }
@@ -87,7 +86,7 @@ pub(crate) fn are_rows(stride: usize, area: StoredArea, samples: usize) -> bool
     0 < stride && right <= stride && samples < 1 << 63 && are_lines(bottom, stride, samples)
 }
 
-/// The rectangle of a transform whose first sample stands at column `x` of row `y`.
+/// The rectangle of a transform whose first sample is at column `x` of row `y`.
 #[inline(always)]
 pub(crate) fn area_of(x: usize, y: usize, size: TxSize) -> StoredArea
     ensures { result ≡ rectangle x y size }
@@ -100,7 +99,7 @@ pub(crate) fn area_of(x: usize, y: usize, size: TxSize) -> StoredArea
     }
 }
 
-/// The filter of a number. One that no block may have stands for all numbers behind the last.
+/// The filter of a number. Each number past the last one gives a filter that no block may have (`SWITCHABLE`).
 #[inline(always)]
 pub fn filter_mode(number: u8) -> FilterMode
     ensures { result ≡ filter_mode number }

@@ -1,4 +1,4 @@
-//! The block of chroma that is predicted from a block's luma, and how much of it has no luma of its own.
+//! Finds the block of chroma that is predicted from a block's luma, and how much of it has no luma of its own.
 //!
 //! AV1 specification: predict chroma from luma process.
 ghost use Rattle.std.specs.Prelude.{◌≡◌, true, ◌*◌, ◌<◌, ◌≤◌, None, IfOk, IfErr, IfSome};
@@ -12,7 +12,7 @@ use crate::luma::{CflBlock, is_sampling};
 use crate::status::DONE;
 use av1_blocks::{BlockSize, TxSize};
 
-/// A block whose chroma is predicted from its luma, in numbers.
+/// A block whose chroma is predicted from its luma.
 #[repr(C)]
 #[derive(Clone, Copy, Debug, PartialEq, Eq)]
 pub struct LumaLeafBlock {
@@ -20,13 +20,13 @@ pub struct LumaLeafBlock {
     pub block_size: u8,
     /// The number of the size of its luma transforms, from 0 (`TX_4X4`) to 18 (`TX_64X16`).
     pub tx_size: u8,
-    /// 1 where chroma has half of luma's columns, else 0.
+    /// 1 if chroma has half of luma's columns, else 0.
     pub xdec: u8,
-    /// 1 where chroma has half of luma's rows, too, else 0.
+    /// 1 if chroma has half of luma's rows, else 0. It is 1 only if `xdec` is 1.
     pub ydec: u8,
-    /// How many visible columns of luma there are from its first on.
+    /// How many columns of luma are visible from the block's first column on.
     pub visible_columns: usize,
-    /// How many visible rows of luma there are from its first on.
+    /// How many rows of luma are visible from the block's first row on.
     pub visible_rows: usize,
 }
 
@@ -38,7 +38,7 @@ struct Sizes {
     chroma: BlockSize,
 }
 
-// The size of a block's chroma, where it has one and no side of it is longer than 32.
+// The size of a block's chroma, if it has one of at most 32 by 32 samples.
 fn chroma_of(luma: BlockSize, xdec: u8, ydec: u8) -> Option<BlockSize>
     ensures found { IfSome result (IsChromaSizeOf luma xdec ydec) }
     ensures sides { IfSome result (IsSubsampled luma xdec ydec) }
@@ -74,7 +74,8 @@ fn is_visible(luma: LumaLeafBlock) -> bool
     0 < luma.visible_columns && 0 < luma.visible_rows
 }
 
-// How many units of 4 samples of chroma have no luma of their own, along a side of so many samples of luma.
+// How many units of 4 samples of chroma have no luma of their own, in one direction. `side` and `visible` are in
+// samples of luma.
 fn pad_along(side: usize, tx_side: usize, visible: usize, decimation: usize) -> usize
     requires short { side ≤ 128 }
     requires some { 0 < tx_side }
@@ -90,7 +91,7 @@ fn pad_along(side: usize, tx_side: usize, visible: usize, decimation: usize) -> 
     side.saturating_sub(coded) / (4 << decimation)
 }
 
-// The block of chroma of these sizes.
+// The block of chroma with these sizes.
 fn padded(luma: LumaLeafBlock, sizes: Sizes) -> CflBlock
     requires sampled { IsSampling luma.xdec luma.ydec }
     requires sized { AreSizes luma sizes.luma sizes.transform sizes.chroma }
@@ -118,7 +119,7 @@ fn padded(luma: LumaLeafBlock, sizes: Sizes) -> CflBlock
     }
 }
 
-/// The block of chroma that the numbers ask for.
+/// The block of chroma of a block in numbers.
 ///
 /// # Errors
 ///
@@ -139,15 +140,15 @@ fn block_of(luma: LumaLeafBlock) -> Result<CflBlock, BadArgument>
     Ok(padded(luma, sizes))
 }
 
-/// Finds the block of chroma that is predicted from a block's luma, as `av1_cfl_ac_8` takes it: its size, and how many
-/// units of 4 columns and rows have no luma of their own, since no transform that begins in the visible plane codes it
-/// (`MaxLumaW` and `MaxLumaH` of the AV1 specification).
+/// Finds the block of chroma that is predicted from a block's luma, as `av1_cfl_ac_8` takes it. The result has the size
+/// of the chroma, and how many units of 4 columns and of 4 rows have no luma of their own. These are the units that no
+/// transform codes that begins in the visible plane. In the AV1 specification, `MaxLumaW` and `MaxLumaH` say so.
 ///
-/// A block with a side of 4 that is halved shares its chroma with the one before it, and all 8 samples of luma of both
-/// are read.
+/// If a dimension of 4 is halved, the block shares its chroma with the block before it. `av1_cfl_ac_8` then reads all 8
+/// samples of luma of both blocks.
 ///
-/// `DONE`: that was done. `BAD_SAMPLING`: chroma has no such decimations. `BAD_SIZE`: a number names no size, the
-/// block's chroma has none, or a side of it is longer than 32. `BAD_PAD`: no column, or no row, of its luma is visible.
+/// `DONE`: success. `BAD_SAMPLING`: chroma has no such subsampling. `BAD_SIZE`: no size has the number, or the block
+/// has no chroma, or its chroma is wider or higher than 32. `BAD_PAD`: no column or no row of its luma is visible.
 pub fn av1_cfl_block_of(block: &mut CflBlock, luma: &LumaLeafBlock) -> u32
     ensures { FindsChroma luma.now block.old block.new result }
 {

@@ -1,4 +1,4 @@
-//! Intra prediction of a block in samples of the caller, from the sides that it hands in.
+//! Intra prediction of a block in the caller's samples, from the edge that the caller passes.
 //!
 //! AV1 specification: intra prediction process.
 ghost use Rattle.std.specs.Prelude.{◌≡◌, ◌+◌, ◌*◌, ◌≤◌, IfOk, IfErr, IfSome, IsTrue, None, true, unsigned_abs};
@@ -20,30 +20,30 @@ use av1_intra::{
     places_left,
 };
 
-/// A block that an intra mode predicts, in numbers.
+/// A block that an intra mode predicts.
 #[repr(C)]
 #[derive(Clone, Copy, Debug, PartialEq, Eq)]
 pub struct IntraBlock {
-    /// The number of its mode, from 0 (`DC_PRED`) to 12 (`PAETH_PRED`). Chroma from luma doesn't read it.
+    /// The number of its mode, from 0 (`DC_PRED`) to 12 (`PAETH_PRED`). Calls on chroma from luma don't read it.
     pub mode: u8,
-    /// The number of its size among those of transforms, from 0 (`TX_4X4`) to 18 (`TX_64X16`).
+    /// The number of its transform size, from 0 (`TX_4X4`) to 18 (`TX_64X16`).
     pub tx_size: u8,
     /// How many steps of 3 degrees a directional mode turns, from -3 to 3; 0 in other modes.
     pub angle_step: i8,
     /// The depth of its samples, in bits: 8, 10 or 12.
     pub bit_depth: u8,
-    /// Whether its left side lies in its tile: 0 where it doesn't.
+    /// 0 if the left side lies outside its tile.
     pub has_left: u8,
-    /// Whether the side above lies in its tile: 0 where it doesn't.
+    /// 0 if the side above lies outside its tile.
     pub has_above: u8,
-    /// Whether the edge filter is on: 0 where it is off.
+    /// 0 if the edge filter is off.
     pub edge_filter: u8,
-    /// Whether a neighbour has a smooth mode: 0 where none has. It is not read where the filter is off.
+    /// 0 if no neighbour has a smooth mode. It is not read if the filter is off.
     pub smooth_neighbour: u8,
-    /// How many visible columns of the plane there are from its first on. The filter smooths no place beside it past
-    /// those.
+    /// How many columns of the plane are visible from the block's first column on. The filter does not smooth samples
+    /// above or below columns past these.
     pub visible_columns: usize,
-    /// How many visible rows of the plane there are from its first on.
+    /// How many rows of the plane are visible from the block's first row on.
     pub visible_rows: usize,
 }
 
@@ -64,7 +64,7 @@ struct Counts {
     samples: usize,
 }
 
-/// A block as it is predicted, and the rectangle that it is.
+/// A block as it is predicted, and its rectangle.
 #[derive(Clone, Copy)]
 struct PredictedBlock {
     size: TxSize,
@@ -74,7 +74,7 @@ struct PredictedBlock {
     area: StoredArea,
 }
 
-// The intra mode of this number, but for chroma from luma.
+// The intra mode of this number, except chroma from luma.
 #[inline(always)]
 pub(crate) fn mode_of(number: u8) -> Option<PredictionMode>
     ensures found { IfSome result (IsIntraMode number) }
@@ -88,7 +88,7 @@ pub(crate) fn mode_of(number: u8) -> Option<PredictionMode>
     }
 }
 
-// Whether a mode turns so many steps.
+// Whether a mode turns `step` steps of 3 degrees.
 #[inline(always)]
 pub(crate) fn is_turn(mode: PredictionMode, step: i8) -> bool
     ensures true_is { result ≡ true → IsTurn mode step }
@@ -97,7 +97,7 @@ pub(crate) fn is_turn(mode: PredictionMode, step: i8) -> bool
     -3 <= step && step <= 3 && (mode.is_directional() || step == 0)
 }
 
-// Whether samples of so many bits have this depth.
+// Whether samples of `bits` bits can have this depth.
 #[inline(always)]
 pub(crate) fn is_depth_within(bits: usize, depth: u8) -> bool
     ensures true_is { result ≡ true → IsDepthWithin bits depth }
@@ -106,7 +106,7 @@ pub(crate) fn is_depth_within(bits: usize, depth: u8) -> bool
     (depth == 8 && 8 <= bits) || (depth == 10 && 10 <= bits) || (depth == 12 && 12 <= bits)
 }
 
-// The choice of the edge filter.
+// The edge filter: `None` if it is off, else whether a neighbour has a smooth mode.
 #[inline(always)]
 fn filter_of(on: u8, smooth: u8) -> Option<bool>
     ensures { result ≡ filter_of on smooth }
@@ -114,7 +114,7 @@ fn filter_of(on: u8, smooth: u8) -> Option<bool>
     if on == 0 { None } else { Some(smooth != 0) }
 }
 
-// The angle of a mode that turns so many steps, in degrees.
+// The angle of a mode that turns `step` steps, in degrees.
 #[inline(always)]
 fn angle_of(mode: PredictionMode, step: i8) -> usize
     ensures { result ≡ unsigned_abs (angle_or_alpha mode (IntraParam.AngleDelta step)) }
@@ -138,7 +138,7 @@ fn block_of(block: IntraBlock, mode: PredictionMode, size: TxSize) -> Directiona
     }
 }
 
-// What is predicted in the rectangle at column `x` of row `y`.
+// The prediction in the rectangle at column `x` of row `y`.
 #[inline(always)]
 fn prediction_in(
     block: IntraBlock,
@@ -171,7 +171,7 @@ fn prediction_in(
     }
 }
 
-// Whether the sides are as long as a block reads them.
+// Whether the sides are as long as the mode reads them.
 #[inline(always)]
 fn are_sides_long(
     block: DirectionalBlock,
@@ -190,8 +190,8 @@ fn are_sides_long(
         && places_above(mode, variant, angle, width, height) <= above
 }
 
-// Whether the sides and luma's differences are as long as a block reads them. No mode reads more of a side than both
-// sides of the block.
+// Whether the sides and luma's differences are as long as the mode reads them. No mode reads more of a side than the
+// block's width and height together.
 #[inline(always)]
 fn are_long(prediction: PredictedBlock, counts: Counts) -> bool
     requires width { prediction.block.width ≤ 64 }
@@ -206,7 +206,7 @@ fn are_long(prediction: PredictedBlock, counts: Counts) -> bool
         && (!mode.is_cfl() || block.width * block.height <= counts.ac)
 }
 
-/// What the numbers ask for, where samples have so many bits.
+/// Reads the prediction from its numbers, for samples of `bits` bits.
 ///
 /// # Errors
 ///
@@ -241,7 +241,7 @@ fn prediction_of(
     Ok(prediction)
 }
 
-/// Predicts a block by an intra mode, where all that the call asks for can be had.
+/// Predicts a block by an intra mode if the arguments are valid.
 #[inline(always)]
 pub(crate) fn predict_by<T: Pixel>(
     block: IntraBlock,
@@ -283,7 +283,7 @@ pub(crate) fn predict_by<T: Pixel>(
     }
 }
 
-/// Predicts a block by the intra mode of its number, where all that the call asks for can be had.
+/// Predicts a block by the intra mode with its number if the arguments are valid.
 #[inline(always)]
 pub(crate) fn predict_by_number<T: Pixel>(
     samples: &mut [T],
@@ -300,18 +300,18 @@ pub(crate) fn predict_by_number<T: Pixel>(
     predict_by(block, mode, samples, at, sides, &[], 0)
 }
 
-/// Predicts the samples of a block by its intra mode, from the sides round it, at a depth of 8: the specification's
-/// "intra prediction process" for one block of a transform's size. The block begins at column `x` of row `y` of
-/// `samples`, whose rows stand `stride` apart. All other samples stay.
+/// Predicts the samples of a block by its intra mode, from the samples round it, at a depth of 8. This is the
+/// specification's "intra prediction process" for one block of a transform's size. The block begins at column `x` of
+/// row `y` of `samples`, and rows are `stride` samples apart. All other samples are unchanged.
 ///
-/// `left` runs from the bottom up, and its last sample stands beside the first row; `above` runs from the left;
-/// `corner` stands between them. Of each side those places are read that are nearest to the corner: as many as the
-/// block is long there, in a direction past the corner of the block as many more as it is long on its other side, and
-/// none where the mode doesn't read the side.
+/// `left` runs from the bottom up, and its last sample is beside the first row. `above` runs from the left, and
+/// `corner` is between the two. The call reads the samples of a side that are nearest to the corner. It reads as many
+/// of `left` as the block has rows, and as many of `above` as it has columns. A direction past the block's corner also
+/// reads as many more as the other dimension has. If the mode doesn't use a side, the call reads none of it.
 ///
-/// `DONE`: that was done. `BAD_MODE`, `BAD_SIZE`: no intra mode, or no size, has the number. `BAD_ANGLE`: the mode does
-/// not turn so many steps. `BAD_DEPTH`: the samples have no such depth. `BAD_AREA`: the block does not lie in the
-/// samples. `TOO_SHORT`: a side is shorter than it is read.
+/// `DONE`: success. `BAD_MODE`, `BAD_SIZE`: no intra mode or no size has the number. `BAD_ANGLE`: the mode does not
+/// turn this many steps. `BAD_DEPTH`: the samples have no such depth. `BAD_AREA`: the block does not lie in the
+/// samples. `TOO_SHORT`: a side has fewer samples than the call reads.
 pub fn av1_predict_intra_8(
     samples: &mut [u8],
     stride: usize,
@@ -332,8 +332,8 @@ pub fn av1_predict_intra_8(
     predict_by_number(samples, Place { stride, x, y }, *block, sides)
 }
 
-/// The same for samples of 16 bits at a depth of 8, 10 or 12. Samples of the sides that are past the depth are taken as
-/// they are.
+/// Predicts as [`av1_predict_intra_8`] does, in samples of 16 bits at a depth of 8, 10 or 12. The call does not test
+/// that samples of the sides fit the depth.
 pub fn av1_predict_intra_16(
     samples: &mut [u16],
     stride: usize,
@@ -354,13 +354,13 @@ pub fn av1_predict_intra_16(
     predict_by_number(samples, Place { stride, x, y }, *block, sides)
 }
 
-/// Predicts the samples of a block of chroma from luma, at a depth of 8: each becomes the DC prediction by the sides
-/// that lie in the tile, and what its difference in `ac` adds to it at the weight `alpha`, clipped to the depth.
-/// Without a weight it is that prediction.
+/// Predicts the samples of a block of chroma from luma, at a depth of 8. Each sample becomes the DC prediction by the
+/// sides in the tile, plus its difference in `ac` times the weight `alpha`, clipped to the depth. At a weight of 0 it
+/// is the DC prediction.
 ///
-/// `ac` holds the differences of luma from its mean, row by row, as many as the block has samples; they and `alpha` are
-/// in eighths. All else is as in [`av1_predict_intra_8`], but that the mode of the block is not read, and that it turns
-/// no steps.
+/// `ac` has the differences of luma from its mean, row by row, one for each sample of the block. The differences and
+/// `alpha` are in eighths. The call does not read the mode of the block, and `angle_step` has to be 0. The rest is as
+/// in [`av1_predict_intra_8`].
 ///
 /// AV1 specification: predict chroma from luma process.
 pub fn av1_predict_cfl_8(
@@ -393,8 +393,8 @@ pub fn av1_predict_cfl_8(
     )
 }
 
-/// The same for samples of 16 bits at a depth of 8, 10 or 12. Samples of the sides that are past the depth are taken as
-/// they are.
+/// Predicts as [`av1_predict_cfl_8`] does, in samples of 16 bits at a depth of 8, 10 or 12. The call does not test that
+/// samples of the sides fit the depth.
 pub fn av1_predict_cfl_16(
     samples: &mut [u16],
     stride: usize,

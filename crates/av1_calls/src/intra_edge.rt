@@ -1,5 +1,4 @@
-//! The edge of a transform, from which an intra mode predicts it, prepared in samples of the caller from those of its
-//! plane.
+//! Prepares the edge of a transform, from which an intra mode predicts the transform, from the samples of its plane.
 //!
 //! AV1 specification: intra prediction process: general.
 ghost use Rattle.std.specs.Prelude.{◌≡◌, ◌+◌, ◌*◌, ◌^◌, ◌<◌, ◌≤◌, Option, IfOk, IfErr, true, length, pos};
@@ -22,17 +21,17 @@ use av1_frame::{
     visible_area,
 };
 
-/// How many samples the room of an edge has: 128 to the left, the corner, and 128 above.
+/// The least length of an edge's buffer in samples: 128 to the left, the corner, and 128 above.
 pub const EDGE_SAMPLES: usize = 257;
 
-/// The number that names no mode: all parts of an edge are then prepared.
+/// The number that stands for no mode. The calls then prepare all parts of an edge.
 pub const ANY_MODE: u8 = 255;
 
-/// A plane in memory of the caller, and a tile of it.
+/// A plane in the caller's memory, and a tile of the plane. All lengths are in samples of the plane.
 #[repr(C)]
 #[derive(Clone, Copy, Debug, PartialEq, Eq)]
 pub struct EdgePlane {
-    /// How far the rows of its samples stand apart.
+    /// The distance between the starts of two rows, in samples.
     pub stride: usize,
     /// The column of its first visible sample.
     pub x: usize,
@@ -50,23 +49,23 @@ pub struct EdgePlane {
     pub tile_width: usize,
     /// How many rows of the plane the tile has.
     pub tile_height: usize,
-    /// Whether it has half of luma's columns: 0 where it has as many.
+    /// 0 if the plane has as many columns as luma, else it has half of them.
     pub halved_columns: u8,
-    /// Whether it has half of luma's rows: 0 where it has as many.
+    /// 0 if the plane has as many rows as luma, else it has half of them.
     pub halved_rows: u8,
 }
 
-/// A transform whose edge is prepared, in numbers.
+/// A transform whose edge is prepared.
 #[repr(C)]
 #[derive(Clone, Copy, Debug, PartialEq, Eq)]
 pub struct EdgeBlock {
-    /// The column of its first sample in the tile.
+    /// The column of its first sample, in samples from the tile's first column.
     pub x: usize,
-    /// The row of its first sample in the tile.
+    /// The row of its first sample, in samples from the tile's first row.
     pub y: usize,
-    /// The column of its block in the tile, counted in cells of 4 by 4 luma samples.
+    /// The column of its block in the tile, in cells of 4 by 4 luma samples.
     pub cell_x: usize,
-    /// The row of its block in the tile, counted in cells.
+    /// The row of its block in the tile, in cells of 4 by 4 luma samples.
     pub cell_y: usize,
     /// Its column in its block, counted in transforms.
     pub unit_x: usize,
@@ -74,20 +73,20 @@ pub struct EdgeBlock {
     pub unit_y: usize,
     /// The number of the block's size in luma, from 0 (`BLOCK_4X4`) to 21 (`BLOCK_64X16`).
     pub block_size: u8,
-    /// The number of its own size among those of transforms, from 0 (`TX_4X4`) to 18 (`TX_64X16`).
+    /// The number of the transform's size, from 0 (`TX_4X4`) to 18 (`TX_64X16`).
     pub tx_size: u8,
-    /// The number of the mode that is to predict it, from 0 (`DC_PRED`) to 13 (`UV_CFL_PRED`), or [`ANY_MODE`].
+    /// The number of the mode that will predict it, from 0 (`DC_PRED`) to 13 (`UV_CFL_PRED`), or [`ANY_MODE`].
     pub mode: u8,
     /// How many steps of 3 degrees a directional mode turns, from -3 to 3; 0 in other modes. It is not read with
     /// [`ANY_MODE`].
     pub angle_step: i8,
     /// The depth of its samples, in bits: 8, 10 or 12.
     pub bit_depth: u8,
-    /// Whether the edge filter is on: 0 where it is off.
+    /// 0 if the edge filter is off.
     pub edge_filter: u8,
 }
 
-/// What the numbers of a transform name.
+/// The mode and the sizes that a transform's numbers name.
 #[derive(Clone, Copy)]
 struct Names {
     mode: Option<PredictionMode>,
@@ -95,7 +94,7 @@ struct Names {
     block: BlockSize,
 }
 
-// The intra mode of this number, chroma from luma among them, or none.
+// The intra mode of this number, including chroma from luma, or `None` for `ANY_MODE`.
 #[inline(always)]
 fn edge_mode(number: u8) -> Result<Option<PredictionMode>, BadArgument>
     ensures found { IfOk result (IsEdgeMode number) }
@@ -114,7 +113,7 @@ fn edge_mode(number: u8) -> Result<Option<PredictionMode>, BadArgument>
     }
 }
 
-// Whether a mode, where one is named, turns so many steps.
+// Whether a mode turns `step` steps. Without a mode any number of steps is valid.
 #[inline(always)]
 fn is_edge_turn(mode: Option<PredictionMode>, step: i8) -> bool
     ensures true_is { result ≡ true → IsEdgeTurn mode step }
@@ -126,7 +125,7 @@ fn is_edge_turn(mode: Option<PredictionMode>, step: i8) -> bool
     }
 }
 
-/// What the numbers of a transform name, where samples have so many bits.
+/// Reads the mode and the sizes from a transform's numbers, for samples of `bits` bits.
 ///
 /// # Errors
 ///
@@ -160,7 +159,7 @@ fn names_of(bits: usize, block: EdgeBlock) -> Result<Names, BadArgument>
     })
 }
 
-// Whether so many places from the first on end within a limit.
+// Whether `count` places from `first` on end within a limit.
 #[inline(always)]
 fn ends_within(first: usize, count: usize, limit: usize) -> bool
     ensures true_is { result ≡ true → first + count ≤ limit }
@@ -169,7 +168,7 @@ fn ends_within(first: usize, count: usize, limit: usize) -> bool
     count <= limit && first <= limit - count
 }
 
-// Whether fewer than 65536 units of 4 samples stand before a transform, whose side has so many.
+// Whether fewer than 65536 units of 4 samples precede a transform in its block. A transform has `side` of these units.
 #[inline(always)]
 fn are_few(unit: usize, side: usize) -> bool
     requires some { 0 < side }
@@ -180,7 +179,7 @@ fn are_few(unit: usize, side: usize) -> bool
     unit < 65536 && unit * side < 65536
 }
 
-// All of a plane.
+// The rectangle of all visible samples of a plane.
 #[inline(always)]
 fn plane_of(plane: EdgePlane) -> StoredArea
     ensures { result ≡ plane_of plane }
@@ -193,7 +192,7 @@ fn plane_of(plane: EdgePlane) -> StoredArea
     }
 }
 
-// Whether the plane lies in so many samples and the tile in the plane.
+// Whether the plane lies in `samples` samples and the tile in the plane.
 #[inline(always)]
 fn is_tile(plane: EdgePlane, samples: usize) -> bool
     ensures true_is { result ≡ true → LiesIn plane samples }
@@ -204,7 +203,7 @@ fn is_tile(plane: EdgePlane, samples: usize) -> bool
         && ends_within(plane.tile_y, plane.tile_height, plane.height)
 }
 
-// Whether the transform begins in the tile, and not too far on in its block.
+// Whether the transform begins in the tile, and not too far from the start of its block.
 #[inline(always)]
 fn begins_in(plane: EdgePlane, block: EdgeBlock, size: TxSize) -> bool
     ensures true_is { result ≡ true → BeginsIn plane block size }
@@ -216,7 +215,7 @@ fn begins_in(plane: EdgePlane, block: EdgeBlock, size: TxSize) -> bool
         && are_few(block.unit_y, size.height_mi())
 }
 
-/// How often the columns, or the rows, of a plane are halved.
+/// How often the columns, or the rows, of a plane are halved: 0 or 1.
 #[inline(always)]
 pub(crate) fn halvings(halved: u8) -> usize
     ensures value { result ≡ halvings halved }
@@ -225,7 +224,7 @@ pub(crate) fn halvings(halved: u8) -> usize
     if halved == 0 { 0 } else { 1 }
 }
 
-/// How many rows lie in the samples up to the end of the plane.
+/// The number of rows up to the end of the plane. `samples` samples hold all of them.
 #[inline(always)]
 pub(crate) fn rows_of(plane: EdgePlane, samples: usize) -> usize
     requires { LiesIn plane samples }
@@ -236,7 +235,7 @@ pub(crate) fn rows_of(plane: EdgePlane, samples: usize) -> usize
     plane.y + plane.height
 }
 
-// The settings of a plane that ends with so many rows.
+// The settings of a plane that ends after `rows` rows.
 #[inline(always)]
 fn config_of(plane: EdgePlane, rows: usize) -> PlaneConfig
     requires { rows ≡ plane.y + plane.height }
@@ -259,7 +258,7 @@ pub(crate) fn signed(place: usize) -> isize
     place as isize
 }
 
-// The tile of a plane in these samples.
+// The tile of a plane in these samples, as a region.
 #[inline(always)]
 fn tile_in<T: Pixel>(plane: EdgePlane, samples: &[T]) -> PlaneRegion<'_, T>
     requires inside { LiesIn plane (length samples.now) }
@@ -281,7 +280,7 @@ fn tile_in<T: Pixel>(plane: EdgePlane, samples: &[T]) -> PlaneRegion<'_, T>
     )
 }
 
-/// Prepares the edge of a transform in the room.
+/// Prepares the edge of a transform in a buffer of 257 samples.
 #[inline(always)]
 fn prepare_in<T: Pixel>(
     room: &mut [T],
@@ -319,7 +318,7 @@ fn prepare_in<T: Pixel>(
     );
 }
 
-/// Prepares the edge of a transform, where all that the call asks for can be had.
+/// Prepares the edge of a transform if the arguments are valid.
 #[inline(always)]
 fn prepare_by<T: Pixel>(edge: &mut [T], samples: &[T], plane: &EdgePlane, block: &EdgeBlock) -> u32
     ensures { PreparesEdge T.BITS T.num plane.now block.now samples.now edge.old edge.new result }
@@ -340,19 +339,19 @@ fn prepare_by<T: Pixel>(edge: &mut [T], samples: &[T], plane: &EdgePlane, block:
     }
 }
 
-/// Prepares the edge of a transform for the mode that is to predict it, at a depth of 8: the specification's "intra
-/// prediction process: general", the samples of the arrays AboveRow and LeftCol. `samples` are those of the plane, of
-/// which those before the transform in coding order have to be there.
+/// Prepares the edge of a transform for the mode that will predict it, at a depth of 8. This is the specification's
+/// "intra prediction process: general", for the samples of the arrays AboveRow and LeftCol. `samples` are the samples
+/// of the plane. The samples that precede the transform in coding order have to be final.
 ///
-/// The left side stands in the first 128 samples of `edge`, from the bottom up, and ends there; sample 128 is the
-/// corner, and the side above begins behind it. So `av1_predict_intra_8` takes them as `edge[..128]`, `edge[128]` and
-/// `edge[129..]`. What a mode doesn't read of the first 257 samples is not told.
+/// In `edge` the left side ends before sample 128 and runs from the bottom up. Sample 128 is the corner, and the side
+/// above begins at sample 129. So pass `edge[..128]`, `edge[128]` and `edge[129..]` to `av1_predict_intra_8`. The other
+/// samples among the first 257 are unspecified.
 ///
-/// `DONE`: that was done. `ROOM_TOO_SMALL`: the edge has fewer than 257 samples. `BAD_MODE`, `BAD_SIZE`: no intra mode,
-/// or no size, has the number. `BAD_ANGLE`: the mode does not turn so many steps. `BAD_DEPTH`: the samples have no such
-/// depth. `BAD_AREA`: the plane does not lie in the samples, or the tile in the plane, or the transform does not begin
-/// in the tile, or not within 65536 units of 4 samples from its block's first. That `x` and `y` are the place of the
-/// cell and the unit is not tested.
+/// `DONE`: success. `ROOM_TOO_SMALL`: `edge` has fewer than 257 samples. `BAD_MODE`, `BAD_SIZE`: no intra mode or no
+/// size has the number. `BAD_ANGLE`: the mode does not turn this many steps. `BAD_DEPTH`: the samples have no such
+/// depth. `BAD_AREA`: the plane does not lie in the samples, or the tile not in the plane, or the transform does not
+/// begin in the tile. It is also the status if the transform begins 65536 units of 4 samples or more from the start of
+/// its block. The call does not test that `x` and `y` are the position of the cell and the unit.
 pub fn av1_intra_edge_8(
     edge: &mut [u8],
     samples: &[u8],
@@ -364,7 +363,8 @@ pub fn av1_intra_edge_8(
     prepare_by(edge, samples, plane, block)
 }
 
-/// The same for samples of 16 bits at a depth of 8, 10 or 12. Samples that are past the depth are taken as they are.
+/// Prepares an edge as [`av1_intra_edge_8`] does, from samples of 16 bits at a depth of 8, 10 or 12. The call does not
+/// test that samples fit the depth.
 pub fn av1_intra_edge_16(
     edge: &mut [u16],
     samples: &[u16],

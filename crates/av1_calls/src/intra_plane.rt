@@ -1,4 +1,4 @@
-//! A transform that is predicted in samples of its plane, from the edge that is prepared there.
+//! Predicts a transform in the samples of its plane, from the edge that is prepared there.
 //!
 //! AV1 specification: intra prediction process.
 ghost use Rattle.std.specs.Prelude.{◌≡◌, ◌<◌, length, take, drop};
@@ -17,10 +17,10 @@ use av1_frame::Pixel;
 /// The number of chroma from luma among the modes.
 pub const FROM_LUMA: u8 = 13;
 
-/// How many samples of the room of an edge are those to the left.
+/// How many samples of an edge's buffer are for the left side.
 const LEFT_SAMPLES: usize = 128;
 
-/// A transform, and where it is.
+/// A transform, its plane, and whether a neighbour has a smooth mode.
 #[derive(Clone, Copy)]
 struct EdgeTransform {
     plane: EdgePlane,
@@ -28,7 +28,7 @@ struct EdgeTransform {
     smooth_neighbour: u8,
 }
 
-// Whether a column or row has one before it, as a number.
+// 1 if a column or row has one before it in the tile, else 0.
 #[inline(always)]
 fn has_before(place: usize) -> u8
     ensures { result ≡ has_before place }
@@ -36,7 +36,7 @@ fn has_before(place: usize) -> u8
     if place == 0 { 0 } else { 1 }
 }
 
-// The transform as a block that is predicted.
+// The transform as a block to predict.
 #[inline(always)]
 fn block_in(at: EdgeTransform) -> IntraBlock
     ensures { result ≡ block_in at.plane at.block at.smooth_neighbour }
@@ -62,7 +62,7 @@ fn block_in(at: EdgeTransform) -> IntraBlock
     }
 }
 
-// The column of its first sample in so many samples of its plane.
+// The column of the transform's first sample in the samples of its plane.
 #[inline(always)]
 fn column_in(plane: EdgePlane, block: EdgeBlock, samples: usize) -> usize
     requires lies { LiesIn plane samples }
@@ -72,19 +72,19 @@ fn column_in(plane: EdgePlane, block: EdgeBlock, samples: usize) -> usize
     plane.x + plane.tile_x + block.x
 }
 
-// The row of its first sample.
+// The row of the transform's first sample in the samples of its plane.
 #[inline(always)]
 fn row_in(plane: EdgePlane, block: EdgeBlock, samples: usize) -> usize
     requires lies { LiesIn plane samples }
     requires begins { block.y < plane.tile_height }
     ensures { result ≡ row_in plane block }
 {
-    // So many rows lie in the samples, so that the sum is a number.
+    // All these rows lie in the samples, so the sum does not overflow.
     let _rows = rows_of(plane, samples);
     plane.y + plane.tile_y + block.y
 }
 
-/// Predicts a transform from the edge that was prepared for it, of which `corner` is sample 128.
+/// Predicts a transform from its prepared edge. `corner` is sample 128 of the edge.
 #[inline(always)]
 fn predict_prepared<T: Pixel>(
     samples: &mut [T],
@@ -123,17 +123,20 @@ fn predict_prepared<T: Pixel>(
     }
 }
 
-/// Predicts a transform by its mode in the samples of its plane, at a depth of 8: prepares its edge as
-/// [`av1_intra_edge_8`] does, and predicts it from this as `av1_predict_intra_8` does, or chroma from luma, mode 13, as
-/// `av1_predict_cfl_8` by `ac` and `alpha`, which other modes don't read. All other samples stay.
+/// Predicts a transform by its mode in the samples of its plane, at a depth of 8. The call prepares the edge as
+/// [`av1_intra_edge_8`] does and predicts from it as `av1_predict_intra_8` does. Mode 13, chroma from luma, predicts as
+/// `av1_predict_cfl_8` does, by `ac` and `alpha`. Other modes don't read `ac` and `alpha`. All other samples are
+/// unchanged.
 ///
-/// That a side lies in the tile, and how much of the plane is visible beside the transform, follows from `plane` and
-/// from its place. `smooth_neighbour` is not 0 where a neighbour has a smooth mode.
+/// The position in `plane` says whether a side lies in the tile, and how much of the plane is visible from the
+/// transform on. `smooth_neighbour` is 0 if no neighbour has a smooth mode.
 ///
-/// `DONE`: that was done. `BAD_MODE`, `BAD_SIZE`: no intra mode, or no size, has the number. `BAD_ANGLE`: the mode does
-/// not turn so many steps. `BAD_DEPTH`: the samples have no such depth. `BAD_AREA`: the plane does not lie in the
-/// samples, the tile in the plane or the transform in the samples, or it does not begin in the tile, or not within
-/// 65536 units of 4 samples from its block's first. `TOO_SHORT`: `ac` has fewer entries than the transform samples.
+/// `DONE`: success. `BAD_MODE`, `BAD_SIZE`: no intra mode or no size has the number. `BAD_ANGLE`: the mode does not
+/// turn this many steps. `BAD_DEPTH`: the samples have no such depth. `TOO_SHORT`: `ac` has fewer entries than the
+/// transform has samples. `BAD_AREA`: one of these:
+///
+/// - The plane or the transform does not lie in the samples, or the tile not in the plane.
+/// - The transform does not begin in the tile, or begins 65536 units of 4 samples or more from the start of its block.
 pub fn av1_predict_in_plane_8(
     samples: &mut [u8],
     plane: &EdgePlane,
@@ -158,7 +161,8 @@ pub fn av1_predict_in_plane_8(
     predict_prepared(samples, at, &edge, corner, ac, alpha)
 }
 
-/// The same for samples of 16 bits at a depth of 8, 10 or 12. Samples that are past the depth are taken as they are.
+/// Predicts as [`av1_predict_in_plane_8`] does, in samples of 16 bits at a depth of 8, 10 or 12. The call does not test
+/// that samples fit the depth.
 pub fn av1_predict_in_plane_16(
     samples: &mut [u16],
     plane: &EdgePlane,

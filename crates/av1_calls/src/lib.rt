@@ -1,36 +1,41 @@
-//! Calls on one block of samples, which test all of their arguments.
+//! Calls on one block of samples. Each call tests all of its arguments.
 //!
-//! [`av1_inverse_transform_add_8`] and [`av1_inverse_transform_add_16`] add the residue of a block to samples, and
-//! [`av1_inverse_transform_add_clamped_16`] that of coefficients that it cuts to the depth, all as AV1;
-//! [`av1_inverse_transform_add_rav1e_16`] adds it as rav1e. [`av1_put_8tap_8`] and
-//! [`av1_put_8tap_16`] predict one from a reference; [`av1_prep_8tap_8`] and [`av1_prep_8tap_16`] prepare one of two
-//! references, and [`av1_mc_avg_8`] and [`av1_mc_avg_16`] average what they prepare; [`av1_motion_place`] tells where a
-//! vector leads, and [`av1_put_moved_8`], [`av1_prep_moved_8`] and their like for samples of 16 bits follow it in a
-//! plane without margins. [`av1_predict_intra_8`], [`av1_predict_cfl_8`] and their like for samples of 16 bits predict
-//! a block from the sides that they are handed, [`av1_intra_edge_8`] and [`av1_intra_edge_16`] prepare these sides from
-//! a plane, [`av1_predict_in_plane_8`] and [`av1_predict_in_plane_16`] do both, and [`av1_cfl_ac_8`] and
-//! [`av1_cfl_ac_16`] give the differences of luma from its mean, by which chroma is predicted. [`av1_cfl_block_of`],
-//! [`av1_angle_step`] and [`av1_smooth_neighbour`] work out numbers that these ask for.
+//! - Residual: [`av1_inverse_transform_add_8`] and [`av1_inverse_transform_add_16`] add the residual of a block to
+//!   samples, by AV1's rule. [`av1_inverse_transform_add_clamped_16`] first clamps the coefficients to the depth.
+//!   [`av1_inverse_transform_add_rav1e_16`] adds the residual by rav1e's rule.
+//! - Motion: [`av1_put_8tap_8`] and [`av1_put_8tap_16`] predict a block from a reference. [`av1_prep_8tap_8`] and
+//!   [`av1_prep_8tap_16`] prepare a block from one of two references. [`av1_mc_avg_8`] and [`av1_mc_avg_16`] average
+//!   two prepared blocks.
+//! - Motion without margins: [`av1_motion_place`] finds where a vector leads. [`av1_put_moved_8`],
+//!   [`av1_put_moved_16`], [`av1_prep_moved_8`] and [`av1_prep_moved_16`] follow a vector in a plane without margins.
+//! - Intra: [`av1_predict_intra_8`], [`av1_predict_intra_16`], [`av1_predict_cfl_8`] and [`av1_predict_cfl_16`] predict
+//!   a block from the edge that the caller passes. [`av1_intra_edge_8`] and [`av1_intra_edge_16`] prepare this edge
+//!   from a plane. [`av1_predict_in_plane_8`] and [`av1_predict_in_plane_16`] do both.
+//! - Chroma from luma: [`av1_cfl_ac_8`] and [`av1_cfl_ac_16`] give the differences of luma from its mean, which predict
+//!   chroma.
+//! - Arguments: [`av1_cfl_block_of`], [`av1_angle_step`] and [`av1_smooth_neighbour`] compute numbers that other calls
+//!   require.
 //!
-//! Above a depth of 8 [`av1_put_tested_16`] and [`av1_prep_tested_16`] do the same as the calls on one reference,
-//! without a look at its samples before they read them, and so do [`av1_put_moved_16`] and [`av1_prep_moved_16`];
-//! [`av1_test_samples_16`] looks at them once.
+//! [`av1_put_8tap_16`] and [`av1_prep_8tap_16`] test the samples that they read.
+//! [`av1_put_tested_16`], [`av1_prep_tested_16`], [`av1_put_moved_16`] and [`av1_prep_moved_16`] don't. For these,
+//! [`av1_test_samples_16`] tests a reference once.
 //!
-//! [`load_rows`] and [`store_rows`] copy a block from rows of samples and into them. Each row is lent by itself, so
-//! that what lies between the rows of a rectangle may be lent to others, as to threads.
+//! [`load_rows`] and [`store_rows`] copy a block from rows of samples and into rows of samples. The caller lends each
+//! row separately. So other threads may use the samples between the rows.
 //!
-//! It stands on `av1_itx` for the transforms of blocks, on `av1_inter` for their motion, and on `av1_edges` and
-//! `av1_intra` for their prediction. `av1_c` exports the calls for C.
+//! This crate uses `av1_itx` for transforms and `av1_inter` for motion, and `av1_edges` and `av1_intra` for intra
+//! prediction. `av1_c` exports the calls for C.
 //!
-//! Promised: no call takes memory, and each returns. None asks anything of its arguments, but for those without a look:
-//! none of the samples that they read may be past the depth. The answer is one of the statuses of `src/status.rt`.
-//! [`DONE`] says that the arguments are good, and what each sample has become (`specs/Transforms.antt`,
-//! `specs/Motions.antt`, `specs/MovedBlocks.antt`, `specs/IntraBlocks.antt`, `specs/IntraEdges.antt`,
-//! `specs/IntraPlanes.antt`), or the place (`specs/MotionPlaces.antt`), or each difference of luma
-//! (`specs/LumaBlocks.antt`), or the numbers (`specs/CflPads.antt`, `specs/AngleSteps.antt`,
-//! `specs/SmoothNeighbours.antt`), or the rows (`specs/Rows.antt`). Good arguments give [`DONE`]. Each other status
-//! names the first argument that is at fault, and leaves what was to be written as it was; what it works in may have
-//! changed.
+//! What the calls promise:
+//!
+//! - No call allocates, and each call returns. The result is one of the statuses of `src/status.rt`.
+//! - Only the four calls that don't test samples have a requirement: no sample that they read is past the depth.
+//! - Valid arguments give [`DONE`], and [`DONE`] says that the arguments are valid.
+//! - After [`DONE`] the contract says what was written: samples (`specs/Transforms.antt`, `specs/Motions.antt`,
+//!   `specs/MovedBlocks.antt`, `specs/IntraBlocks.antt`, `specs/IntraEdges.antt`, `specs/IntraPlanes.antt`), a position
+//!   (`specs/MotionPlaces.antt`), differences of luma (`specs/LumaBlocks.antt`), numbers (`specs/CflPads.antt`,
+//!   `specs/AngleSteps.antt`, `specs/SmoothNeighbours.antt`) or rows (`specs/Rows.antt`).
+//! - Each other status names the first bad argument. The output is then unchanged. Scratch buffers may have changed.
 #![tactic(auto)]
 
 mod angle_step;

@@ -1,4 +1,4 @@
-//! How far luma is from its mean over each sample of a block of chroma, by samples of the caller.
+//! Computes how far luma is from its mean over each sample of a block of chroma.
 //!
 //! AV1 specification: predict chroma from luma process.
 ghost use Rattle.std.specs.Prelude.{true, false, ◌≡◌, ℕ, ◌+◌, ◌-◌, ◌*◌, ◌^◌, ◌<◌, ◌≤◌, min, map, IfOk, IfErr, IfSome, None, length};
@@ -18,20 +18,20 @@ use av1_blocks::BlockSize;
 use av1_frame::{Pixel, PlaneConfig, PlaneRegion, StoredArea, visible_area};
 use av1_intra::pred_cfl_ac;
 
-/// A block of chroma that is predicted from luma, in numbers.
+/// A block of chroma that is predicted from luma.
 #[repr(C)]
 #[derive(Clone, Copy, Debug, PartialEq, Eq)]
 pub struct CflBlock {
-    /// The number of its size in samples of chroma among those of blocks, from 0 (`BLOCK_4X4`) on: none with a side
-    /// past 32.
+    /// The number of its size in samples of chroma, among the sizes of blocks from 0 (`BLOCK_4X4`) on. Its width and
+    /// its height are at most 32.
     pub block_size: u8,
-    /// 1 where chroma has half of luma's columns, else 0.
+    /// 1 if chroma has half of luma's columns, else 0.
     pub xdec: u8,
-    /// 1 where chroma has half of luma's rows, too, else 0.
+    /// 1 if chroma has half of luma's rows, else 0. It is 1 only if `xdec` is 1.
     pub ydec: u8,
-    /// How many units of 4 columns, its last ones, have no luma of their own.
+    /// How many units of 4 columns, at its right end, have no luma of their own.
     pub w_pad: usize,
-    /// How many units of 4 rows, its last ones, have no luma of their own.
+    /// How many units of 4 rows, at its lower end, have no luma of their own.
     pub h_pad: usize,
 }
 
@@ -42,7 +42,7 @@ struct ChromaSource {
     area: StoredArea,
 }
 
-// The size of this number, if no side of it is longer than 32.
+// The size of this number, if its width and its height are at most 32.
 #[inline(always)]
 fn chroma_size(number: u8) -> Option<BlockSize>
     ensures found { IfSome result (IsChromaSize number) }
@@ -56,7 +56,7 @@ fn chroma_size(number: u8) -> Option<BlockSize>
     }
 }
 
-// Whether planes of chroma have these decimations.
+// Whether chroma is 4:4:4, 4:2:2 or 4:2:0.
 #[inline(always)]
 pub(crate) fn is_sampling(xdec: u8, ydec: u8) -> bool
     ensures true_is { result ≡ true → IsSampling xdec ydec }
@@ -65,7 +65,7 @@ pub(crate) fn is_sampling(xdec: u8, ydec: u8) -> bool
     xdec <= 1 && ydec <= xdec
 }
 
-// Whether so many units of 4 leave some of a side that is no longer than 32.
+// Whether `pad` units of 4 samples are less than a whole side of at most 32.
 #[inline(always)]
 fn leave_some(side: usize, pad: usize) -> bool
     requires { side ≤ 32 }
@@ -116,7 +116,7 @@ fn luma_area(block: CflBlock, size: BlockSize, x: usize, y: usize) -> StoredArea
     }
 }
 
-/// What the numbers ask for, where there are so many differences and so many samples.
+/// Reads a block of chroma from its numbers. There are `ac` differences and `samples` samples of luma.
 ///
 /// # Errors
 ///
@@ -155,7 +155,7 @@ fn luma_of(
     Ok(ChromaSource { size, area })
 }
 
-/// The same where samples have more than 8 bits.
+/// Reads a block of chroma from its numbers, and tests that the luma that is read fits the depth.
 ///
 /// # Errors
 ///
@@ -207,7 +207,7 @@ fn region_of<T: Pixel>(samples: &[T], stride: usize, area: StoredArea) -> PlaneR
     )
 }
 
-/// The first entries become the differences of a block with these decimations.
+/// Writes the differences of a block with this subsampling into the first entries of `ac`.
 #[inline(always)]
 fn put_differences<T: Pixel, const XDEC: usize, const YDEC: usize>(
     ac: &mut [i16],
@@ -235,7 +235,7 @@ fn put_differences<T: Pixel, const XDEC: usize, const YDEC: usize>(
     pred_cfl_ac::<T, XDEC, YDEC>(ac, &region, luma.size, w_pad, h_pad);
 }
 
-/// The same by its decimations.
+/// Writes the differences of a block into the first entries of `ac`, with the subsampling of the block.
 #[inline(always)]
 fn put_differences_of<T: Pixel>(
     ac: &mut [i16],
@@ -263,16 +263,16 @@ fn put_differences_of<T: Pixel>(
     }
 }
 
-/// Puts into `ac`, row by row, how far the luma over each sample of a block of chroma is from its mean, in eighths, at
-/// a depth of 8: the averages of the specification's "predict chroma from luma process", which `av1_predict_cfl_8`
-/// takes. The other entries of `ac` stay.
+/// Writes how far the luma over each sample of a block of chroma is from its mean, at a depth of 8. `ac` gets the
+/// differences row by row, in eighths of a sample. The other entries of `ac` are unchanged. `av1_predict_cfl_8` takes
+/// these differences. They are the averages of the specification's "predict chroma from luma process".
 ///
-/// The block's luma begins at column `x` of row `y` of `luma`, whose rows stand `stride` apart. Read are the columns
-/// and rows over those of chroma that have luma of their own, and at least 8, but none past the block; the others
-/// repeat the last of these.
+/// The block's luma begins at column `x` of row `y` of `luma`, and rows are `stride` samples apart. The call reads the
+/// columns and rows of luma over the chroma that has luma of its own. It reads at least 8 of each, but none past the
+/// block. The rest of the block repeats the last column and row that are read.
 ///
-/// `DONE`: that was done. `BAD_SIZE`: no size with sides up to 32 has the number. `BAD_SAMPLING`: chroma has no such
-/// decimations. `BAD_PAD`: no column, or no row, has luma of its own. `BAD_AREA`: the luma that is read does not lie in
+/// `DONE`: success. `BAD_SIZE`: no size of at most 32 by 32 has the number. `BAD_SAMPLING`: chroma has no such
+/// subsampling. `BAD_PAD`: no column or no row has luma of its own. `BAD_AREA`: the luma that is read does not lie in
 /// the samples. `TOO_SHORT`: `ac` has fewer entries than the block has samples.
 pub fn av1_cfl_ac_8(
     ac: &mut [i16],
@@ -295,9 +295,9 @@ pub fn av1_cfl_ac_8(
     }
 }
 
-/// The same for samples of 16 bits at a depth of 8, 10 or 12.
+/// Writes the differences as [`av1_cfl_ac_8`] does, from samples of 16 bits at a depth of 8, 10 or 12.
 ///
-/// `BAD_DEPTH`: samples have no such depth. `BAD_SAMPLE`: one of those that are read is past it.
+/// `BAD_DEPTH`: samples have no such depth. `BAD_SAMPLE`: a sample that is read is past the depth.
 pub fn av1_cfl_ac_16(
     ac: &mut [i16],
     luma: &[u16],

@@ -1,4 +1,4 @@
-//! The average of two prepared blocks.
+//! Averages two prepared blocks.
 //!
 //! AV1 specification: block inter prediction process, and the average of its two predictions.
 ghost use Rattle.std.specs.Prelude.{true, false, IfOk, IfErr};
@@ -10,7 +10,7 @@ use crate::motion::{Place, rectangle_at, test_average};
 use crate::status::DONE;
 use av1_inter::mc_avg_to;
 
-/// The tests of an average at a depth.
+/// Tests the arguments of an average at a depth.
 ///
 /// # Errors
 ///
@@ -36,12 +36,12 @@ fn test_deep_average(
     }
 }
 
-/// Each sample of a rectangle becomes the average of two prepared values, at a depth of 8. The rectangle begins at
-/// column `x` of row `y` of `samples`, whose rows stand `stride` apart; the values stand row by row at the front of
-/// `first` and of `second`, as `av1_prep_8tap_8` leaves them. All other samples stay.
+/// Writes the average of two prepared values to each sample of a rectangle, at a depth of 8. The rectangle begins at
+/// column `x` of row `y` of `samples`, and rows are `stride` samples apart. `first` and `second` begin with the values,
+/// row by row, as `av1_prep_8tap_8` writes them. All other samples are unchanged.
 ///
-/// `DONE`: that was done. `BAD_SIZE`: a side is 0, or above 128. `BAD_AREA`: the rectangle does not lie in the samples.
-/// `TOO_SHORT`: there are fewer values than the rectangle has samples.
+/// `DONE`: success. `BAD_SIZE`: the width or the height is 0 or above 128. `BAD_AREA`: the rectangle does not lie in
+/// the samples. `TOO_SHORT`: `first` or `second` has fewer values than the rectangle has samples.
 pub fn av1_mc_avg_8(
     samples: &mut [u8],
     stride: usize,
@@ -71,7 +71,7 @@ pub fn av1_mc_avg_8(
     }
 }
 
-/// The same for samples of 16 bits at a depth of 8, 10 or 12.
+/// Averages as [`av1_mc_avg_8`] does, in samples of 16 bits at a depth of 8, 10 or 12.
 ///
 /// `BAD_DEPTH`: samples have no such depth.
 pub fn av1_mc_avg_16(

@@ -1,4 +1,4 @@
-//! Blocks of references: what is asked of one, and the samples that it is made of.
+//! Blocks of references: which arguments are valid, and which samples a block reads.
 ghost use Rattle.std.specs.Prelude.{◌≡◌, true, ◌*◌, IfOk, IfErr, length, take};
 ghost use Rattle.av1_calls.specs.Motions.{AreFilters, AreFractions, AreOfDepth, AreSides, IsAverage, IsAverageFault, IsFilterNumber, IsMotion};
 ghost use Rattle.av1_calls.specs.Motions.{IsMotionFault, IsPrep, IsPrepFault, IsPut, IsPutFault, IsSampleFault, IsSource, config_of, filter_along};
@@ -13,11 +13,11 @@ use av1_inter::mode_along;
 /// The number of the sharp filter.
 pub const SHARP: u8 = 2;
 
-/// The number of the sharp filter as rav1e has it: along sides up to 4 the smooth one takes its place, where AV1 takes
-/// the regular one.
+/// The number of rav1e's sharp filter. If a side has at most 4 samples, rav1e uses the smooth filter, and AV1 uses the
+/// regular one.
 pub const RAV1E_SHARP: u8 = 5;
 
-/// A block that is moved between the samples of its reference.
+/// A block that is read between the samples of its reference.
 #[repr(C)]
 #[derive(Clone, Copy, Debug, PartialEq, Eq)]
 pub struct MotionBlock {
@@ -25,20 +25,20 @@ pub struct MotionBlock {
     pub width: usize,
     /// How many rows it has: from 1 to 128.
     pub height: usize,
-    /// How far it is moved right, in sixteenths of a sample: below 16.
+    /// How far the block is moved right, in sixteenths of a sample: below 16.
     pub col_frac: u8,
-    /// How far it is moved down, in sixteenths of a sample: below 16.
+    /// How far the block is moved down, in sixteenths of a sample: below 16.
     pub row_frac: u8,
     /// The number of the filter along its rows: 0 regular, 1 smooth, 2 sharp, 3 bilinear, or [`RAV1E_SHARP`].
     pub filter_x: u8,
-    /// The number of the filter down its columns.
+    /// The number of the filter down its columns, as in `filter_x`.
     pub filter_y: u8,
 }
 
-/// Column `x` of row `y` of samples, whose rows stand `stride` apart.
+/// Column `x` of row `y` of samples, in rows that are `stride` samples apart.
 #[derive(Clone, Copy)]
 pub struct Place {
-    /// How far apart rows stand.
+    /// The distance between the starts of two rows, in samples.
     pub stride: usize,
     /// The column.
     pub x: usize,
@@ -46,7 +46,7 @@ pub struct Place {
     pub y: usize,
 }
 
-/// The rectangle of so many columns and rows from a place on.
+/// The rectangle of `width` columns and `height` rows from a place on.
 #[inline(always)]
 pub(crate) fn rectangle_at(at: Place, width: usize, height: usize) -> StoredArea
     ensures { result ≡ rectangle_at at width height }
@@ -59,7 +59,7 @@ pub(crate) fn rectangle_at(at: Place, width: usize, height: usize) -> StoredArea
     }
 }
 
-// Whether both sides are from 1 to 128.
+// Whether the width and the height are from 1 to 128.
 #[inline(always)]
 pub(crate) fn are_sides(width: usize, height: usize) -> bool
     ensures true_is { result ≡ true → AreSides width height }
@@ -93,7 +93,8 @@ fn are_fractions(block: MotionBlock) -> bool
     block.col_frac < 16 && block.row_frac < 16
 }
 
-/// The filter of a number along a side of a block. Up to 4 samples AV1 takes the regular filter for the sharp one.
+/// The filter of a number along a side of a block. If the side has at most 4 samples, AV1 uses the regular filter for
+/// the sharp one.
 #[inline(always)]
 pub(crate) fn filter_along(number: u8, side: usize) -> FilterMode
     ensures { result ≡ filter_along number side }
@@ -105,7 +106,7 @@ pub(crate) fn filter_along(number: u8, side: usize) -> FilterMode
     }
 }
 
-// What the filters read for a block: 3 columns and rows before it, and 4 after it.
+// The rectangle that the filters read for a block: 3 columns and rows before the block, and 4 after it.
 #[inline(always)]
 fn read_for(from: Place, block: MotionBlock) -> StoredArea
     requires sides { AreSides block.width block.height }
@@ -119,7 +120,7 @@ fn read_for(from: Place, block: MotionBlock) -> StoredArea
     }
 }
 
-// Whether all of that lies in so many samples.
+// Whether all that the filters read lies in `samples` samples.
 #[inline(always)]
 fn is_source(from: Place, block: MotionBlock, samples: usize) -> bool
     requires sides { AreSides block.width block.height }
@@ -129,7 +130,7 @@ fn is_source(from: Place, block: MotionBlock, samples: usize) -> bool
     3 <= from.x && 3 <= from.y && are_rows(from.stride, read_for(from, block), samples)
 }
 
-/// Whether the block can be read from a place in so many samples.
+/// Tests that the block can be read from a place in `samples` samples.
 ///
 /// # Errors
 ///
@@ -154,7 +155,7 @@ fn test_motion(from: Place, block: MotionBlock, samples: usize) -> Result<(), Ba
     Ok(())
 }
 
-/// Whether it can be written to a place in `room` samples, too.
+/// Tests that the block can be read from `samples` samples, and written to a place in `room` samples.
 ///
 /// # Errors
 ///
@@ -178,7 +179,7 @@ pub(crate) fn test_put(
     }
 }
 
-/// Whether it can be prepared in `room` values, too.
+/// Tests that the block can be read from `samples` samples, and prepared in `room` values.
 ///
 /// # Errors
 ///
@@ -201,8 +202,8 @@ pub(crate) fn test_prep(
     }
 }
 
-/// Whether two prepared blocks of so many values have these sides, and their average can be written to a place in
-/// `room` samples.
+/// Tests that two prepared blocks have these dimensions, and that their average can be written to a place in `room`
+/// samples. The blocks have `first` and `second` values.
 ///
 /// # Errors
 ///
@@ -231,7 +232,7 @@ pub(crate) fn test_average(
     Ok(())
 }
 
-/// Whether samples have this depth, and none that is read for the block is past it.
+/// Tests the depth, and that no sample that is read for the block is past it.
 ///
 /// # Errors
 ///
@@ -256,7 +257,7 @@ pub(crate) fn test_samples(
     Ok(())
 }
 
-/// The rows that are read for a block, and all before them.
+/// The rows that are read for a block, and all rows before them.
 #[inline(always)]
 pub(crate) fn rows_of<T: Pixel>(samples: &[T], from: Place, block: MotionBlock) -> &[T]
     requires { IsMotion from block (length samples.now) }
@@ -266,7 +267,7 @@ pub(crate) fn rows_of<T: Pixel>(samples: &[T], from: Place, block: MotionBlock) 
     rows
 }
 
-/// The settings of these rows, of which the block is visible.
+/// The settings of these rows as a plane, whose visible part is the block.
 #[inline(always)]
 pub(crate) fn config_of(from: Place, block: MotionBlock, samples: usize) -> PlaneConfig
     requires { IsMotion from block samples }

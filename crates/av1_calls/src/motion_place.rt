@@ -1,4 +1,4 @@
-//! Where a block that a vector moves is read in its reference.
+//! Finds where a block that a vector moves is read in its reference.
 //!
 //! AV1 specification: motion vector scaling process at a scale of one, block inter prediction process.
 ghost use Rattle.std.specs.Prelude.{◌≡◌, true, ◌+◌, ◌<◌, ◌≤◌, ◌-ℤ◌, ◌≤ℤ◌, IfOk, IfErr, pos};
@@ -12,14 +12,14 @@ use crate::motion::are_sides;
 use crate::status::DONE;
 use av1_inter::sixteenths;
 
-/// The greatest number of columns, or rows, that a frame has.
+/// The greatest number of columns, or rows, of a frame.
 const MOST: usize = 65_536;
 
-/// A plane of a reference.
+/// A plane of a reference. All lengths are in samples of the plane.
 #[repr(C)]
 #[derive(Clone, Copy, Debug, PartialEq, Eq)]
 pub struct MotionPlane {
-    /// How far the rows of its samples stand apart.
+    /// The distance between the starts of two rows, in samples.
     pub stride: usize,
     /// The column of its first visible sample.
     pub x: usize,
@@ -29,9 +29,9 @@ pub struct MotionPlane {
     pub width: usize,
     /// How many visible rows it has: from 1 to 65,536.
     pub height: usize,
-    /// Whether it has half of luma's columns: 0 where it has as many.
+    /// 0 if the plane has as many columns as luma, else it has half of them.
     pub halved_columns: u8,
-    /// Whether it has half of luma's rows: 0 where it has as many.
+    /// 0 if the plane has as many rows as luma, else it has half of them.
     pub halved_rows: u8,
 }
 
@@ -39,9 +39,9 @@ pub struct MotionPlane {
 #[repr(C)]
 #[derive(Clone, Copy, Debug, PartialEq, Eq)]
 pub struct MovedBlock {
-    /// The column of its first sample, up to 65,536.
+    /// The column of its first sample, counted from the first visible column, up to 65,536.
     pub x: usize,
-    /// The row of its first sample, up to 65,536.
+    /// The row of its first sample, counted from the first visible row, up to 65,536.
     pub y: usize,
     /// How many columns it has: from 1 to 128.
     pub width: usize,
@@ -49,7 +49,7 @@ pub struct MovedBlock {
     pub height: usize,
     /// How far the vector leads down, in eighths of a luma sample.
     pub row: i16,
-    /// How far it leads to the right.
+    /// How far the vector leads to the right, in eighths of a luma sample.
     pub col: i16,
     /// The number of the filter along its rows, as in a `MotionBlock`.
     pub filter_x: u8,
@@ -57,7 +57,7 @@ pub struct MovedBlock {
     pub filter_y: u8,
 }
 
-/// Where it is read.
+/// The position at which a block is read in a reference.
 #[repr(C)]
 #[derive(Clone, Copy, Debug, PartialEq, Eq)]
 pub struct MovedPlace {
@@ -65,13 +65,13 @@ pub struct MovedPlace {
     pub x: isize,
     /// The row of its first sample, counted from the first visible one.
     pub y: isize,
-    /// How far it is moved right beyond that, in sixteenths of a sample.
+    /// How far the block is moved right from there, in sixteenths of a sample.
     pub col_frac: u8,
-    /// How far it is moved down beyond that.
+    /// How far the block is moved down from there, in sixteenths of a sample.
     pub row_frac: u8,
 }
 
-/// Whether the plane has samples, and it and the block's place are within what frames have.
+/// Whether the plane has samples, and the plane and the block's position are within the greatest frame.
 pub(crate) fn lies_near(plane: MotionPlane, block: MovedBlock) -> bool
     ensures true_is { result ≡ true → LiesNear plane block }
     ensures is_true { LiesNear plane block → result ≡ true }
@@ -84,7 +84,7 @@ pub(crate) fn lies_near(plane: MotionPlane, block: MovedBlock) -> bool
         && block.y <= MOST
 }
 
-/// Whether the block can be moved.
+/// Tests that a vector can move the block.
 ///
 /// # Errors
 ///
@@ -102,7 +102,7 @@ fn test_moved(plane: MotionPlane, block: MovedBlock) -> Result<(), BadArgument>
     Ok(())
 }
 
-// The part of a sample by which a component moves a block, in sixteenths.
+// The fraction of a sample by which a component moves a block, in sixteenths.
 fn fraction(component: i16, decimation: usize) -> u8
     requires { decimation ≤ 1 }
     ensures value { result ≡ sixteenths component decimation }
@@ -111,7 +111,7 @@ fn fraction(component: i16, decimation: usize) -> u8
     sixteenths(component, decimation) as u8
 }
 
-// The whole samples that a component moves a block, less the 3 that are read before it.
+// The whole samples by which a component moves a block, minus the 3 that are read before the block.
 fn steps(component: i16, decimation: usize) -> isize
     requires { decimation ≤ 1 }
     ensures value { result ≡ whole_part component decimation -ℤ pos 3 }
@@ -121,7 +121,7 @@ fn steps(component: i16, decimation: usize) -> isize
     isize::from(component >> (3 + decimation)) - 3
 }
 
-// The first column or row that is read, however far out it is.
+// The first column or row that is read, however far outside the plane it is.
 fn first_read(at: usize, component: i16, decimation: usize) -> isize
     requires near { at ≤ 65536 }
     requires decimation { decimation ≤ 1 }
@@ -130,7 +130,7 @@ fn first_read(at: usize, component: i16, decimation: usize) -> isize
     signed(at) + steps(component, decimation)
 }
 
-// The column or row at which the pads of a block begin.
+// The column or row at which the padding for a block begins.
 fn pads_begin(side: usize) -> isize
     requires { side ≤ 128 }
     ensures { result ≡ pos 0 -ℤ pos (side + 7) }
@@ -138,14 +138,14 @@ fn pads_begin(side: usize) -> isize
     -((side + 7) as isize)
 }
 
-// The number from the least to the greatest that is nearest to one.
+// Clamps a number to the range from `least` to `greatest`.
 fn kept_between(number: isize, least: isize, greatest: isize) -> isize
     ensures { result ≡ int_min (int_max number least) greatest }
 {
     number.max(least).min(greatest)
 }
 
-// Where a block of so many columns or rows is read, of which so many are visible.
+// Where a block of `side` columns or rows is read, if `visible` of them are visible in the plane.
 fn place_along(at: usize, side: usize, component: i16, decimation: usize, visible: usize) -> isize
     requires near { at ≤ 65536 }
     requires short { side ≤ 128 }
@@ -158,7 +158,7 @@ fn place_along(at: usize, side: usize, component: i16, decimation: usize, visibl
     kept_between(first, pads_begin(side), signed(visible)) + 3
 }
 
-/// Where the block is read.
+/// The position at which the block is read.
 pub(crate) fn place_of(plane: MotionPlane, block: MovedBlock) -> MovedPlace
     requires { IsMoved plane block }
     ensures { IsPlaceOf plane block result }
@@ -172,17 +172,17 @@ pub(crate) fn place_of(plane: MotionPlane, block: MovedBlock) -> MovedPlace
     }
 }
 
-/// Finds where a block that a vector moves is read in its reference: the specification's "motion vector scaling
-/// process" at a scale of one. `place` becomes the place of the block's first sample, counted from the first visible
-/// one of the plane, and the sixteenths of a sample beyond it. Where the plane stands in its samples, and the filters,
-/// are not read.
+/// Finds where a block that a vector moves is read in its reference. This is the specification's "motion vector scaling
+/// process" at a scale of one. `place` becomes the position of the block's first sample, counted from the first visible
+/// sample of the plane. It also gets the fractions of the vector, in sixteenths of a sample. The call does not read the
+/// filters, nor the plane's `stride`, `x` and `y`.
 ///
-/// Past a side of the plane each sample is that at the side. So a vector that leads far out gets a place nearer to the
-/// plane, where the same is read: pads of `width + 7` columns and `height + 7` rows on each side hold all that is read,
-/// however far a vector leads.
+/// Each sample outside the plane has the value of the nearest visible sample. So a vector that leads far outside gets a
+/// position nearer to the plane, with the same samples. Padding of `width + 7` columns and `height + 7` rows on each
+/// side of the plane is enough for every vector.
 ///
-/// `DONE`: that was done. `BAD_SIZE`: a side is 0, or above 128. `BAD_AREA`: the plane has no samples, or it or the
-/// block's place is past 65,536.
+/// `DONE`: success. `BAD_SIZE`: the width or the height is 0 or above 128. `BAD_AREA`: the plane has no samples, or the
+/// plane's dimensions or the block's position are above 65,536.
 pub fn av1_motion_place(place: &mut MovedPlace, plane: &MotionPlane, block: &MovedBlock) -> u32
     ensures { FindsPlace plane.now block.now place.old place.new result }
 {

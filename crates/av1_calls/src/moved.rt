@@ -1,4 +1,4 @@
-//! Blocks that vectors move in planes without margins: where one is read, and in what words it is handed on.
+//! Blocks that vectors move in planes without margins: where a block is read, and which samples are gathered for it.
 ghost use Rattle.std.specs.Prelude.{◌≡◌, true, ℕ, ◌+◌, ◌<◌, ◌≤◌, ◌+ℤ◌, ◌-ℤ◌, ◌≤ℤ◌, length, map, pos};
 ghost use Rattle.av1_calls.specs.MotionPlaces.{IsPlaceOf};
 ghost use Rattle.av1_calls.specs.Motions.{AreSides, IsSource, source_at};
@@ -20,7 +20,7 @@ pub(crate) struct MovedCall {
     pub(crate) place: MovedPlace,
 }
 
-/// The visible samples of a plane.
+/// The rectangle of the visible samples of a plane.
 #[inline(always)]
 pub(crate) fn visible_of(plane: MotionPlane) -> StoredArea
     ensures { result ≡ visible_of plane }
@@ -33,7 +33,7 @@ pub(crate) fn visible_of(plane: MotionPlane) -> StoredArea
     }
 }
 
-/// All that is read for a block, row by row.
+/// The rectangle of all samples that are read for a block, row by row.
 #[inline(always)]
 pub(crate) fn window_of(block: MovedBlock) -> StoredArea
     requires short { block.width ≤ 128 }
@@ -63,7 +63,7 @@ pub(crate) fn motion_at(block: MovedBlock, col_frac: u8, row_frac: u8) -> Motion
     }
 }
 
-/// Whether both are numbers of filters.
+/// Whether both of the block's filters have valid numbers.
 #[inline(always)]
 pub(crate) fn are_moved_filters(block: MovedBlock) -> bool
     ensures true_is { result ≡ true → AreMovedFilters block }
@@ -72,7 +72,7 @@ pub(crate) fn are_moved_filters(block: MovedBlock) -> bool
     is_filter_number(block.filter_x) && is_filter_number(block.filter_y)
 }
 
-/// Whether the plane lies in so many samples, and the block near it.
+/// Whether the plane lies in `samples` samples, and the block near the plane.
 #[inline(always)]
 pub(crate) fn is_sourced(plane: MotionPlane, samples: usize, block: MovedBlock) -> bool
     ensures true_is { result ≡ true → IsSourced plane samples block }
@@ -81,7 +81,7 @@ pub(crate) fn is_sourced(plane: MotionPlane, samples: usize, block: MovedBlock) 
     lies_near(plane, block) && are_rows(plane.stride, visible_of(plane), samples)
 }
 
-// Whether all that is read along columns or rows for a block of so many is visible.
+// If true, all that is read along the columns or the rows of a block is visible.
 #[inline(always)]
 fn is_within(place: isize, side: usize, visible: usize) -> bool
     requires least { (pos 0 -ℤ pos 65536) ≤ℤ place }
@@ -94,7 +94,7 @@ fn is_within(place: isize, side: usize, visible: usize) -> bool
     3 <= place && place + signed(side + 4) <= signed(visible)
 }
 
-/// Whether all that is read from the place is visible.
+/// If true, all samples that are read from the position are visible.
 #[inline(always)]
 pub(crate) fn lies_within(moved: MovedCall) -> bool
     requires found { IsPlaceOf moved.plane moved.block moved.place }
@@ -108,7 +108,7 @@ pub(crate) fn lies_within(moved: MovedCall) -> bool
     is_within(place.x, block.width, plane.width) && is_within(place.y, block.height, plane.height)
 }
 
-/// The place in the samples of its plane.
+/// The position in the samples of the plane's buffer.
 #[inline(always)]
 pub(crate) fn stored_at(moved: MovedCall, samples: usize) -> Place
     requires within { LiesWithin moved.plane moved.block moved.place }
@@ -123,7 +123,8 @@ pub(crate) fn stored_at(moved: MovedCall, samples: usize) -> Place
     }
 }
 
-/// All that is read for the block becomes the front of the window: the place at which the block stands there.
+/// Copies all samples that are read for the block to the front of the window. Returns the block's position in the
+/// window.
 #[inline(always)]
 pub(crate) fn gathered<T: Pixel>(window: &mut [T], src: &[T], moved: MovedCall) -> Place
     requires sides { AreSides moved.block.width moved.block.height }

@@ -1,4 +1,4 @@
-//! A block that is prepared for the average with another.
+//! Prepares a block for the average with another block.
 //!
 //! AV1 specification: block inter prediction process, with the rounding of compound prediction.
 ghost use Rattle.std.specs.Prelude.{true, false, ◌+◌, IfOk, IfErr, map, length};
@@ -15,7 +15,7 @@ use crate::status::DONE;
 use av1_frame::{Pixel, PlaneOffset, PlaneSlice};
 use av1_inter::prep_8tap;
 
-/// The first values become those of the block.
+/// Writes the prepared values of the block to the front of `values`.
 #[inline(always)]
 pub(crate) fn prep<T: Pixel>(
     values: &mut [i16],
@@ -44,7 +44,7 @@ pub(crate) fn prep<T: Pixel>(
     );
 }
 
-/// The tests of a block of samples of 16 bits.
+/// Tests the arguments of a call on samples of 16 bits.
 ///
 /// # Errors
 ///
@@ -65,7 +65,7 @@ fn test_deep_prep(
     test_samples(from, samples, block, bit_depth)
 }
 
-/// The tests of a block of samples of which none that is read is past the depth.
+/// Tests the arguments of a call on samples of 16 bits, except the samples.
 ///
 /// # Errors
 ///
@@ -90,16 +90,16 @@ fn test_tested_prep(
     }
 }
 
-/// Prepares a block of a reference for the average with another, at a depth of 8: the specification's "Block inter
-/// prediction process" with the rounding of compound prediction. The first `height * width` of `values` become those of
-/// the block, row by row, and the others stay. The block stands in `src` at column `src_x` of row `src_y`, moved by its
-/// fractions. Rows of samples stand `src_stride` apart.
+/// Prepares a block of a reference for the average with another block, at a depth of 8. This is the specification's
+/// "Block inter prediction process" with the rounding of compound prediction. The first `height * width` of `values`
+/// become the values of the block, row by row. The other values are unchanged. The block is at column `src_x` of row
+/// `src_y` of `src`, moved by its fractions. Rows of samples are `src_stride` apart.
 ///
-/// 3 columns and rows before the block and 4 after it are read, at every fraction. A value is 16 times a sample.
+/// The call reads 3 columns and rows before the block and 4 after it, at every fraction. A value is 16 times a sample.
 ///
-/// `DONE`: that was done. `BAD_SIZE`: a side is 0, or above 128. `BAD_MODE`: a filter has no such number.
-/// `BAD_FRACTION`: a fraction is 16 or more. `BAD_AREA`: what is read does not lie in the samples. `TOO_SHORT`: there
-/// are fewer values than the block has samples.
+/// `DONE`: success. `BAD_SIZE`: the width or the height is 0 or above 128. `BAD_MODE`: no filter has this number.
+/// `BAD_FRACTION`: a fraction is 16 or more. `BAD_AREA`: the samples that are read do not lie in `src`. `TOO_SHORT`:
+/// there are fewer values than the block has samples.
 pub fn av1_prep_8tap_8(
     values: &mut [i16],
     src: &[u8],
@@ -126,10 +126,10 @@ pub fn av1_prep_8tap_8(
     }
 }
 
-/// The same for samples of 16 bits at a depth of 8, 10 or 12. At depths above 8 values are less by 8192; at 12 they are
-/// 4 times a sample.
+/// Prepares a block as [`av1_prep_8tap_8`] does, from samples of 16 bits at a depth of 8, 10 or 12. At depths above 8,
+/// each value is less by 8192. At 12, a value is 4 times a sample before that.
 ///
-/// `BAD_DEPTH`: samples have no such depth. `BAD_SAMPLE`: one of those that are read is past it.
+/// `BAD_DEPTH`: samples have no such depth. `BAD_SAMPLE`: a sample that is read is past the depth.
 pub fn av1_prep_8tap_16(
     values: &mut [i16],
     src: &[u16],
@@ -156,8 +156,8 @@ pub fn av1_prep_8tap_16(
     }
 }
 
-/// The same as [`av1_prep_8tap_16`], but that it looks at no sample before it reads it: the caller has to see that none
-/// that is read is past the depth, as `av1_test_samples_16` tells of a whole reference.
+/// Prepares a block as [`av1_prep_8tap_16`] does, but does not test the samples. The caller has to ensure that no
+/// sample that is read is past the depth. `av1_test_samples_16` tests a whole reference.
 pub fn av1_prep_tested_16(
     values: &mut [i16],
     src: &[u16],

@@ -1,4 +1,4 @@
-//! A block that a vector moves, prepared from a plane without margins for the average with another.
+//! Prepares a block that a vector moves, from a plane without margins, for the average with another block.
 //!
 //! AV1 specification: block inter prediction process, with the rounding of compound prediction.
 ghost use Rattle.std.specs.Prelude.{true, false, ◌≡◌, ◌*◌, ◌≤◌, IfOk, IfErr, map, length};
@@ -20,7 +20,7 @@ use crate::samples::have_8_bits;
 use crate::status::DONE;
 use av1_frame::Pixel;
 
-// Whether so many values have room for the block, and a window of so many samples for all that is read.
+// Whether the block fits `room` values, and all samples that are read fit a window of `window` samples.
 #[inline(always)]
 fn has_room(room: usize, block: MovedBlock, window: usize) -> bool
     requires { AreSides block.width block.height }
@@ -30,7 +30,7 @@ fn has_room(room: usize, block: MovedBlock, window: usize) -> bool
     block.height * block.width <= room && are_rows(block.width + 7, window_of(block), window)
 }
 
-/// Whether the block can be moved, and prepared in `room` values.
+/// Tests that the block can be moved and fits `room` values, and that the window is long enough.
 ///
 /// # Errors
 ///
@@ -60,7 +60,7 @@ fn test_prep_moved(
     Ok(())
 }
 
-/// The same at a depth.
+/// Tests that the block can be moved and fits `room` values, that the window is long enough, and the depth.
 ///
 /// # Errors
 ///
@@ -85,7 +85,7 @@ fn test_deep_prep_moved(
     }
 }
 
-/// The first values become those of the block, which is read where it is.
+/// Prepares the block from the plane itself. All samples that are read are visible.
 #[inline(always)]
 fn prep_within<T: Pixel>(values: &mut [i16], src: &[T], moved: MovedCall, bit_depth: usize)
     requires sides { AreSides moved.block.width moved.block.height }
@@ -103,7 +103,7 @@ fn prep_within<T: Pixel>(values: &mut [i16], src: &[T], moved: MovedCall, bit_de
     prep(values, src, from, block, bit_depth);
 }
 
-/// The same, which is gathered first.
+/// Prepares the block from the window, after its samples are gathered there.
 #[inline(never)]
 fn prep_gathered<T: Pixel>(
     values: &mut [i16],
@@ -123,7 +123,7 @@ fn prep_gathered<T: Pixel>(
     prep(values, window, from, block, bit_depth);
 }
 
-/// The first values become those of the block that its vector moves.
+/// Writes the prepared values of the block that its vector moves to the front of `values`.
 #[inline(always)]
 fn prep_moved<T: Pixel>(
     values: &mut [i16],
@@ -150,15 +150,15 @@ fn prep_moved<T: Pixel>(
     }
 }
 
-/// Prepares a block that a vector moves for the average with another, from a reference without margins, at a depth of
-/// 8: the specification's "Block inter prediction process" with the rounding of compound prediction. The first `height
-/// * width` of `values` become those of the block, row by row, and the others stay. Only visible samples of the plane
-/// are read; past a side each is the nearest of these. `window` is room to gather them, and what it holds afterwards is
-/// not told: `width + 7` by `height + 7` samples.
+/// Prepares a block that a vector moves for the average with another block, at a depth of 8. The reference needs no
+/// margins. This is the specification's "Block inter prediction process" with the rounding of compound prediction. The
+/// first `height * width` of `values` become the values of the block, row by row. The other values are unchanged. The
+/// call only reads visible samples of the plane. Outside them it uses the nearest visible sample. `window` is scratch
+/// of `width + 7` by `height + 7` samples. Its contents after the call are unspecified.
 ///
-/// `DONE`: that was done. `BAD_SIZE`: a side is 0, or above 128. `BAD_MODE`: a filter has no such number. `BAD_AREA`:
-/// the plane has no samples or does not lie in them, or it or the block's place is past 65,536. `TOO_SHORT`: there are
-/// fewer values than the block has samples, or the window is too short.
+/// `DONE`: success. `BAD_SIZE`: the width or the height is 0 or above 128. `BAD_MODE`: no filter has this number.
+/// `BAD_AREA`: the plane has no samples or does not lie in `src`, or its dimensions or the block's position are above
+/// 65,536. `TOO_SHORT`: there are fewer values than the block has samples, or the window is too short.
 pub fn av1_prep_moved_8(
     values: &mut [i16],
     src: &[u8],
@@ -179,9 +179,9 @@ pub fn av1_prep_moved_8(
     }
 }
 
-/// The same for samples of 16 bits at a depth of 8, 10 or 12. It looks at no sample before it reads it: the caller has
-/// to see that none that is read is past the depth, as `av1_test_samples_16` tells of a whole reference. At depths
-/// above 8 values are less by 8192.
+/// Prepares a block as [`av1_prep_moved_8`] does, from samples of 16 bits at a depth of 8, 10 or 12. The call does not
+/// test the samples. The caller has to ensure that no sample that is read is past the depth. `av1_test_samples_16`
+/// tests a whole reference. At depths above 8, each value is less by 8192.
 ///
 /// `BAD_DEPTH`: samples have no such depth.
 pub fn av1_prep_moved_16(

@@ -1,4 +1,4 @@
-//! A block that is predicted from one reference.
+//! Predicts a block from one reference.
 //!
 //! AV1 specification: block inter prediction process.
 ghost use Rattle.std.specs.Prelude.{true, false, ◌≡◌, ◌+◌, ◌≤◌, IfOk, IfErr, map, length};
@@ -16,7 +16,7 @@ use crate::status::DONE;
 use av1_frame::{Pixel, PlaneOffset, PlaneSlice};
 use av1_inter::put_8tap_to;
 
-/// The rectangle becomes the block.
+/// Writes the block to its rectangle.
 #[inline(always)]
 pub(crate) fn put<T: Pixel>(
     dst: &mut [T],
@@ -48,7 +48,7 @@ pub(crate) fn put<T: Pixel>(
     );
 }
 
-/// The tests of a block of samples of 16 bits.
+/// Tests the arguments of a call on samples of 16 bits.
 ///
 /// # Errors
 ///
@@ -70,7 +70,7 @@ fn test_deep_put(
     test_samples(from, samples, block, bit_depth)
 }
 
-/// The tests of a block of samples of which none that is read is past the depth.
+/// Tests the arguments of a call on samples of 16 bits, except the samples.
 ///
 /// # Errors
 ///
@@ -96,16 +96,16 @@ fn test_tested_put(
     }
 }
 
-/// Predicts the samples of a rectangle of the block's sides from those of a reference, at a depth of 8: the
-/// specification's "Block inter prediction process" for one reference. The rectangle begins at column `dst_x` of row
-/// `dst_y` of `dst`. Each of its samples becomes the one at its place from column `src_x` of row `src_y` of `src` on,
-/// moved by the block's fractions; all others stay. Rows stand `dst_stride` and `src_stride` samples apart. A side up
-/// to 4 takes the filters for such sides.
+/// Predicts a block from one reference, at a depth of 8. This is the specification's "Block inter prediction process".
+/// The block's rectangle begins at column `dst_x` of row `dst_y` of `dst`. Its samples come from `src`, from column
+/// `src_x` of row `src_y` on, moved by the block's fractions. All other samples of `dst` are unchanged. Rows are
+/// `dst_stride` and `src_stride` samples apart. A side of at most 4 samples uses the filters for such sides.
 ///
-/// Of the reference 3 columns and rows before the block and 4 after it are read, at every fraction.
+/// The call reads 3 columns and rows before the block and 4 after it, at every fraction.
 ///
-/// `DONE`: that was done. `BAD_SIZE`: a side is 0, or above 128. `BAD_MODE`: a filter has no such number.
-/// `BAD_FRACTION`: a fraction is 16 or more. `BAD_AREA`: the rectangle, or what is read, does not lie in its samples.
+/// `DONE`: success. `BAD_SIZE`: the width or the height is 0 or above 128. `BAD_MODE`: no filter has this number.
+/// `BAD_FRACTION`: a fraction is 16 or more. `BAD_AREA`: the rectangle does not lie in `dst`, or the samples that are
+/// read do not lie in `src`.
 pub fn av1_put_8tap_8(
     dst: &mut [u8],
     dst_stride: usize,
@@ -140,9 +140,9 @@ pub fn av1_put_8tap_8(
     }
 }
 
-/// The same for samples of 16 bits at a depth of 8, 10 or 12.
+/// Predicts as [`av1_put_8tap_8`] does, in samples of 16 bits at a depth of 8, 10 or 12.
 ///
-/// `BAD_DEPTH`: samples have no such depth. `BAD_SAMPLE`: one of those that are read is past it.
+/// `BAD_DEPTH`: samples have no such depth. `BAD_SAMPLE`: a sample that is read is past the depth.
 pub fn av1_put_8tap_16(
     dst: &mut [u16],
     dst_stride: usize,
@@ -177,8 +177,8 @@ pub fn av1_put_8tap_16(
     }
 }
 
-/// The same as [`av1_put_8tap_16`], but that it looks at no sample before it reads it: the caller has to see that none
-/// that is read is past the depth, as `av1_test_samples_16` tells of a whole reference.
+/// Predicts as [`av1_put_8tap_16`] does, but does not test the samples. The caller has to ensure that no sample that is
+/// read is past the depth. `av1_test_samples_16` tests a whole reference.
 pub fn av1_put_tested_16(
     dst: &mut [u16],
     dst_stride: usize,

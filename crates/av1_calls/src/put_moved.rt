@@ -1,4 +1,4 @@
-//! A block that a vector moves, predicted from a plane without margins.
+//! Predicts a block that a vector moves, from a plane without margins.
 //!
 //! AV1 specification: block inter prediction process.
 ghost use Rattle.std.specs.Prelude.{true, false, ◌≡◌, ◌+◌, ◌≤◌, IfOk, IfErr, map, length};
@@ -21,7 +21,7 @@ use crate::samples::have_8_bits;
 use crate::status::DONE;
 use av1_frame::Pixel;
 
-// Whether the plane lies in so many samples, and the block's rectangle in `room` samples.
+// Whether the plane lies in `samples` samples, and the block's rectangle in `room` samples.
 #[inline(always)]
 fn is_placed(to: Place, room: usize, plane: MotionPlane, samples: usize, block: MovedBlock) -> bool
     ensures true_is { result ≡ true → IsPlaced to room plane samples block }
@@ -31,7 +31,7 @@ fn is_placed(to: Place, room: usize, plane: MotionPlane, samples: usize, block: 
         && are_rows(to.stride, rectangle_at(to, block.width, block.height), room)
 }
 
-/// Whether the block can be moved, and a window of so many samples has room for all that is read.
+/// Tests that the block can be moved and written, and that a window of `window` samples is long enough.
 ///
 /// # Errors
 ///
@@ -62,7 +62,7 @@ fn test_put_moved(
     Ok(())
 }
 
-/// The same at a depth.
+/// Tests that the block can be moved and written, that the window is long enough, and the depth.
 ///
 /// # Errors
 ///
@@ -88,7 +88,7 @@ fn test_deep_moved(
     }
 }
 
-/// The rectangle becomes the block, which is read where it is.
+/// Predicts the block from the plane itself. All samples that are read are visible.
 #[inline(always)]
 fn put_within<T: Pixel>(dst: &mut [T], to: Place, src: &[T], moved: MovedCall, bit_depth: usize)
     requires sides { AreSides moved.block.width moved.block.height }
@@ -107,7 +107,7 @@ fn put_within<T: Pixel>(dst: &mut [T], to: Place, src: &[T], moved: MovedCall, b
     put(dst, to, src, from, block, bit_depth);
 }
 
-/// The same, which is gathered first.
+/// Predicts the block from the window, after its samples are gathered there.
 #[inline(never)]
 fn put_gathered<T: Pixel>(
     dst: &mut [T],
@@ -130,7 +130,7 @@ fn put_gathered<T: Pixel>(
     put(dst, to, window, from, block, bit_depth);
 }
 
-/// The rectangle becomes the block that its vector moves.
+/// Writes the block that its vector moves to its rectangle.
 #[inline(always)]
 fn put_moved<T: Pixel>(
     dst: &mut [T],
@@ -160,16 +160,15 @@ fn put_moved<T: Pixel>(
     }
 }
 
-/// Predicts the samples of a rectangle of the block's sides from those of a reference without margins, at a depth of 8:
-/// the specification's "Block inter prediction process" for one reference. The rectangle begins at column `dst_x` of
-/// row `dst_y` of `dst`, whose rows stand `dst_stride` apart. Each of its samples becomes that of the block, moved by
-/// the vector; all others stay. Only visible samples of the reference's plane are read; past a side each is the nearest
-/// of these. `window` is room to gather them, and what it holds afterwards is not told: `width + 7` by `height + 7`
-/// samples.
+/// Predicts a block that a vector moves, from one reference, at a depth of 8. The reference needs no margins. This is
+/// the specification's "Block inter prediction process". The block's rectangle begins at column `dst_x` of row `dst_y`
+/// of `dst`, and rows of `dst` are `dst_stride` samples apart. All other samples of `dst` are unchanged. The call only
+/// reads visible samples of the plane. Outside them it uses the nearest visible sample. `window` is scratch of `width +
+/// 7` by `height + 7` samples. Its contents after the call are unspecified.
 ///
-/// `DONE`: that was done. `BAD_SIZE`: a side is 0, or above 128. `BAD_MODE`: a filter has no such number. `BAD_AREA`:
-/// the plane has no samples or does not lie in them, or the rectangle doesn't, or the plane or the block's place is
-/// past 65,536. `TOO_SHORT`: the window is.
+/// `DONE`: success. `BAD_SIZE`: the width or the height is 0 or above 128. `BAD_MODE`: no filter has this number.
+/// `BAD_AREA`: the plane has no samples or does not lie in `src`, or the rectangle does not lie in `dst`. It is also
+/// the status if the plane's dimensions or the block's position are above 65,536. `TOO_SHORT`: the window is too short.
 pub fn av1_put_moved_8(
     dst: &mut [u8],
     dst_stride: usize,
@@ -198,8 +197,9 @@ pub fn av1_put_moved_8(
     }
 }
 
-/// The same for samples of 16 bits at a depth of 8, 10 or 12. It looks at no sample before it reads it: the caller has
-/// to see that none that is read is past the depth, as `av1_test_samples_16` tells of a whole reference.
+/// Predicts as [`av1_put_moved_8`] does, in samples of 16 bits at a depth of 8, 10 or 12. The call does not test the
+/// samples. The caller has to ensure that no sample that is read is past the depth. `av1_test_samples_16` tests a whole
+/// reference.
 ///
 /// `BAD_DEPTH`: samples have no such depth.
 pub fn av1_put_moved_16(

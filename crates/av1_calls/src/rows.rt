@@ -1,11 +1,11 @@
-//! Rows of samples, each lent by itself, so that what lies between them may be lent to others. A block of samples that
-//! stand side by side is loaded from rows, and stored into rows.
+//! Copies a block from rows of samples and into rows of samples. Each row is a slice of its own. So other threads may
+//! use the samples between the rows.
 ghost use Rattle.std.specs.Prelude.{◌≡◌, true, ◌+◌, ◌++◌, ◌≤◌, length, take, drop};
 ghost use Rattle.av1_calls.specs.Rows.{LoadsRows, StoresRows, all_lent, all_read, stored, with_front};
 
 use crate::status::{DONE, TOO_SHORT};
 
-/// Whether rows have no more samples together than so many.
+/// Whether the rows together have at most `room` samples.
 fn fits<T>(rows: &[&[T]], room: usize) -> bool
     ensures true_is { result ≡ true → length (all_read rows.now) ≤ room }
     ensures is_true { length (all_read rows.now) ≤ room → result ≡ true }
@@ -21,7 +21,7 @@ fn fits<T>(rows: &[&[T]], room: usize) -> bool
     true
 }
 
-/// The samples of the block from number `at` on become those of the row. The answer is the number of the next one.
+/// Copies a row to the block, from sample `at` of the block on. Returns the number of the sample after the copy.
 fn load_row<T: Copy>(block: &mut [T], row: &[T], at: usize) -> usize
     requires { at + length row.now ≤ length block.old }
     ensures end { result ≡ at + length row.now }
@@ -32,7 +32,7 @@ fn load_row<T: Copy>(block: &mut [T], row: &[T], at: usize) -> usize
     end
 }
 
-/// The front of the block becomes the samples of the rows.
+/// Copies the samples of the rows to the front of the block.
 fn load<T: Copy>(block: &mut [T], rows: &[&[T]])
     requires { length (all_read rows.now) ≤ length block.old }
     ensures { block.new ≡ with_front (all_read rows.now) block.old }
@@ -43,10 +43,10 @@ fn load<T: Copy>(block: &mut [T], rows: &[&[T]])
     }
 }
 
-/// Puts the samples of rows to the front of a block, one row behind the other. The rest of the block stays. Rows may
-/// be of any lengths, and any of them may overlap.
+/// Copies the samples of rows to the front of a block, one row after the other. The rest of the block is unchanged.
+/// Rows may have different lengths, and rows may overlap.
 ///
-/// `DONE`: that was done. `TOO_SHORT`: the block has fewer samples than the rows.
+/// `DONE`: success. `TOO_SHORT`: the block has fewer samples than the rows together.
 pub fn load_rows<T: Copy>(block: &mut [T], rows: &[&[T]]) -> u32
     ensures { LoadsRows rows.now block.old block.new result }
 {
@@ -57,7 +57,7 @@ pub fn load_rows<T: Copy>(block: &mut [T], rows: &[&[T]]) -> u32
     DONE
 }
 
-/// How many samples a row has that is lent.
+/// How many samples a borrowed row has.
 fn length_of<T>(row: &mut [T]) -> usize
     ensures value { result ≡ length row.old }
     ensures kept { row.new ≡ row.old }
@@ -65,7 +65,7 @@ fn length_of<T>(row: &mut [T]) -> usize
     row.len()
 }
 
-/// Whether rows that are lent have no more samples together than so many. They stay as they are.
+/// Whether the borrowed rows together have at most `room` samples. The rows are unchanged.
 fn fits_lent<T>(rows: &mut [&mut [T]], room: usize) -> bool
     ensures true_is { result ≡ true → length (all_lent rows.old) ≤ room }
     ensures is_true { length (all_lent rows.old) ≤ room → result ≡ true }
@@ -83,7 +83,7 @@ fn fits_lent<T>(rows: &mut [&mut [T]], room: usize) -> bool
     true
 }
 
-/// The row becomes the samples of the block from number `at` on. The answer is the number of the next one.
+/// Copies samples of the block, from sample `at` on, to the row. Returns the number of the sample after the copy.
 fn store_row<T: Copy>(row: &mut [T], block: &[T], at: usize) -> usize
     requires { at + length row.old ≤ length block.now }
     ensures end { result ≡ at + length row.old }
@@ -94,7 +94,7 @@ fn store_row<T: Copy>(row: &mut [T], block: &[T], at: usize) -> usize
     end
 }
 
-/// The rows become the front of the block.
+/// Copies the front of the block to the rows.
 fn store<T: Copy>(rows: &mut [&mut [T]], block: &[T])
     requires { length (all_lent rows.old) ≤ length block.now }
     ensures { rows.new ≡ stored rows.old block.now }
@@ -106,10 +106,10 @@ fn store<T: Copy>(rows: &mut [&mut [T]], block: &[T])
     }
 }
 
-/// Puts the front of a block into rows, one row behind the other. A row has its own samples and no others, so that
-/// what lies between rows is neither read nor written. Rows may be of any lengths.
+/// Copies the front of a block to rows, one row after the other. Each row is a slice of its own, so the call neither
+/// reads nor writes what is between rows. Rows may have different lengths.
 ///
-/// `DONE`: that was done. `TOO_SHORT`: the block has fewer samples than the rows.
+/// `DONE`: success. `TOO_SHORT`: the block has fewer samples than the rows together.
 pub fn store_rows<T: Copy>(rows: &mut [&mut [T]], block: &[T]) -> u32
     ensures { StoresRows block.now rows.old rows.new result }
 {

@@ -1,4 +1,4 @@
-//! Whether samples of the caller lie within a depth.
+//! Tests whether the caller's samples fit a depth.
 ghost use Rattle.std.specs.Prelude.{◌≡◌, true, ℕ, ◌+◌, ◌*◌, ◌^◌, ◌<◌, ◌≤◌, length, slice_index};
 ghost use Rattle.av1_blocks.specs.Depths.{IsDepth};
 ghost use Rattle.av1_frame.specs.Areas.{AreRows};
@@ -7,7 +7,7 @@ ghost use Rattle.av1_calls.specs.Samples.{AreBelow, AreLanesBelow, IsGreatest, T
 use av1_frame::StoredArea;
 use std::simd::prelude::*;
 
-// Reads each sample, so that the proof knows that it has 8 bits: it compiles to nothing.
+// Reads each sample, so that the proof knows that it has 8 bits. This compiles to nothing.
 pub(crate) fn have_8_bits(samples: &[u8])
     ensures { (i : ℕ) → i < length samples.now → slice_index samples.now i < 256 }
 {
@@ -31,7 +31,7 @@ fn greater(a: u16, b: u16) -> u16
     if a < b { b } else { a }
 }
 
-// The greater of `least` and the greatest of `count` samples from `start` on.
+// The greatest of `least` and of `count` samples from `start` on.
 fn greatest_from(samples: &[u16], start: usize, count: usize, least: u16) -> u16
     requires long { start + count ≤ length samples.now }
     ensures above { least ≤ result }
@@ -45,7 +45,7 @@ fn greatest_from(samples: &[u16], start: usize, count: usize, least: u16) -> u16
     greatest
 }
 
-// The greatest sample of a rectangle, and 0 where it has none.
+// The greatest sample of a rectangle, or 0 if the rectangle has none.
 fn greatest_of(samples: &[u16], stride: usize, area: StoredArea) -> u16
     requires { AreRows stride area (length samples.now) }
     ensures { IsGreatest stride area samples.now result }
@@ -58,7 +58,7 @@ fn greatest_of(samples: &[u16], stride: usize, area: StoredArea) -> u16
     greatest
 }
 
-// The greater of each lane and one of the eight samples from `start` on.
+// The greater of each lane and its sample among the eight samples from `start` on.
 #[inline(always)]
 fn with_eight(greatest: u16x8, samples: &[u16], start: usize) -> u16x8
     requires { start + 8 ≤ length samples.now }
@@ -67,7 +67,8 @@ fn with_eight(greatest: u16x8, samples: &[u16], start: usize) -> u16x8
     greatest.simd_max(u16x8::from_slice(&samples[start..]))
 }
 
-// The same of a row from `start` on, of which the last eight are taken once more where it is no multiple of eight long.
+// Takes in a row from `start` on, eight samples at a time. If the width is not a multiple of 8, the last eight samples
+// overlap those before.
 #[inline(always)]
 fn with_row(greatest: u16x8, samples: &[u16], start: usize, width: usize, eights: usize) -> u16x8
     requires some { 8 ≤ width }
@@ -83,7 +84,7 @@ fn with_row(greatest: u16x8, samples: &[u16], start: usize, width: usize, eights
     with_eight(lanes, samples, start + width - 8)
 }
 
-// In each lane the greatest of some samples of a rectangle, each of which is in one of them.
+// Eight lanes of greatest samples of a rectangle. Each sample of the rectangle counts in at least one lane.
 #[inline(always)]
 fn greatest_lanes(samples: &[u16], stride: usize, area: StoredArea, eights: usize) -> u16x8
     requires rows { AreRows stride area (length samples.now) }
@@ -109,7 +110,7 @@ fn are_lanes_below(lanes: u16x8, bound: u16) -> bool
     lanes.simd_ge(u16x8::splat(bound)).to_bitmask() == 0
 }
 
-// Whether each sample of a rectangle with so many columns is below a bound.
+// Whether each sample of a rectangle is below a bound. A row has at least `eights` times 8 samples and at most 8 more.
 #[inline(always)]
 fn are_wide_below(
     samples: &[u16],
@@ -129,7 +130,7 @@ fn are_wide_below(
     are_lanes_below(greatest_lanes(samples, stride, area, eights), bound)
 }
 
-// Whether each sample of the rectangle with these sides at column `x` of row `y` is below a bound.
+// Whether each sample is below a bound, in the rectangle of these dimensions at column `x` of row `y`.
 #[inline(never)]
 fn are_any_below(
     samples: &[u16],
@@ -158,7 +159,8 @@ fn are_any_below(
     }
 }
 
-// The same, with a loop of its own for each usual width. Numbers by themselves are handed on in registers.
+// Whether each sample of a rectangle is below a bound, with a separate loop for each usual width. The dimensions are
+// separate arguments, so that they are passed in registers.
 #[inline(never)]
 fn are_below(
     samples: &[u16],
@@ -196,7 +198,7 @@ fn are_below(
     }
 }
 
-// The first number that has more bits than the depth.
+// The least number that is past the depth.
 #[inline(always)]
 fn bound_of(bit_depth: usize) -> u16
     requires { IsDepth bit_depth }

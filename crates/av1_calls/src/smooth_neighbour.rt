@@ -1,4 +1,4 @@
-//! Whether a block has a neighbour with a smooth mode, as the edge filter asks.
+//! Finds whether a block has a neighbour with a smooth mode, for the edge filter.
 //!
 //! AV1 specification: intra filter type process.
 ghost use Rattle.std.specs.Prelude.{◌≡◌, IfOk, IfErr};
@@ -10,24 +10,24 @@ use crate::status::DONE;
 use av1_blocks::{PredictionMode, RefType};
 use av1_intra::IntraEdgeFilterParameters;
 
-/// The blocks above and to the left of one that an intra mode predicts, in numbers.
+/// The blocks above and to the left of a block that an intra mode predicts.
 #[repr(C)]
 #[derive(Clone, Copy, Debug, PartialEq, Eq)]
 pub struct Neighbours {
-    /// Whether the plane is one of chroma: 0 for luma.
+    /// 0 if the plane is luma, else it is chroma.
     pub chroma: u8,
-    /// The number of the mode that the block above has in this plane, or [`ANY_MODE`] where none lies there in the
+    /// The number of the mode that the block above has in this plane. It is [`ANY_MODE`] if no block lies there in the
     /// tile.
     pub above_mode: u8,
-    /// Whether the block above is predicted from another frame: 0 where it isn't. It is read for chroma alone.
+    /// 0 if the block above is predicted from its own frame. It is only read for chroma.
     pub above_inter: u8,
     /// The number of the mode that the block to the left has in this plane, or [`ANY_MODE`].
     pub left_mode: u8,
-    /// Whether the block to the left is predicted from another frame: 0 where it isn't. It is read for chroma alone.
+    /// 0 if the block to the left is predicted from its own frame. It is only read for chroma.
     pub left_inter: u8,
 }
 
-// The mode of this number, or none.
+// The mode of this number, or `None` for `ANY_MODE`.
 fn neighbour_mode(number: u8) -> Result<Option<PredictionMode>, BadArgument>
     ensures found { IfOk result (IsNeighbourMode number) }
     ensures fault { IfErr result (λ e. (e ≡ BadArgument.Mode) × HasNoNeighbourMode number) }
@@ -41,7 +41,7 @@ fn neighbour_mode(number: u8) -> Result<Option<PredictionMode>, BadArgument>
     }
 }
 
-// The frames that a neighbour is predicted from, of which it matters whether the first is its own.
+// The reference frames of a neighbour. It only matters whether the first one is its own frame.
 fn references(inter: u8) -> Option<[RefType; 2]>
     ensures { result ≡ references inter }
 {
@@ -53,11 +53,11 @@ fn references(inter: u8) -> Option<[RefType; 2]>
     Some([first, RefType::NONE_FRAME])
 }
 
-/// What the edge filter is told of these neighbours.
+/// What the edge filter takes of these neighbours.
 ///
 /// # Errors
 ///
-/// `Mode`: no mode has a neighbour's number.
+/// `Mode`: no mode has the number of a neighbour.
 fn parameters_of(neighbours: Neighbours) -> Result<IntraEdgeFilterParameters, BadArgument>
     ensures found { IfOk result (AreNeighbours neighbours) }
     ensures fault { IfErr result (λ e. (e ≡ BadArgument.Mode) × HaveNoMode neighbours) }
@@ -73,18 +73,18 @@ fn parameters_of(neighbours: Neighbours) -> Result<IntraEdgeFilterParameters, Ba
     })
 }
 
-// 1 where one of the neighbours is smooth, else 0.
+// 1 if one of the neighbours is smooth, else 0.
 fn smooth_number(parameters: IntraEdgeFilterParameters) -> u8
     ensures { result ≡ smooth_number parameters }
 {
     if parameters.use_smooth_filter() { 1 } else { 0 }
 }
 
-/// Tells whether a neighbour of a block has a smooth mode: the specification's "intra filter type process". `smooth`
-/// becomes 1 where one has, and else 0, as calls take it for `smooth_neighbour`. In a plane of chroma only a neighbour
-/// counts that is predicted from its own frame.
+/// Finds whether a neighbour of a block has a smooth mode: the specification's "intra filter type process". `smooth`
+/// becomes 1 if one has, else 0. Pass it as `smooth_neighbour` to other calls. In a plane of chroma, a neighbour only
+/// counts if it is predicted from its own frame.
 ///
-/// `DONE`: that was done. `BAD_MODE`: no mode has a neighbour's number.
+/// `DONE`: success. `BAD_MODE`: no mode has the number of a neighbour.
 pub fn av1_smooth_neighbour(smooth: &mut u8, neighbours: &Neighbours) -> u32
     ensures { TellsSmooth neighbours.now smooth.old smooth.new result }
 {

@@ -1,12 +1,12 @@
-//! The numbers that calls answer with. C's header and the Rust crate have the same under the same names.
+//! The statuses that calls return. C's header and the Rust crate use the same numbers and names.
 
-/// All was done.
+/// Success.
 pub const DONE: u32 = 0;
 
-/// The buffer that was to be written is too short.
+/// The output buffer is too short.
 pub const ROOM_TOO_SMALL: u32 = 2;
 
-/// No size has this number, or no block has such a side.
+/// No size has this number, or no block has such a width or height.
 pub const BAD_SIZE: u32 = 6;
 
 /// No type has this number, or the size has no such type.
@@ -21,7 +21,7 @@ pub const BAD_AREA: u32 = 9;
 /// A list has too few elements.
 pub const TOO_SHORT: u32 = 10;
 
-/// A coefficient has more bits than the depth admits.
+/// A coefficient has more bits than the depth allows.
 pub const BAD_COEFFICIENT: u32 = 11;
 
 /// A sample has more bits than the depth.
@@ -30,14 +30,14 @@ pub const BAD_SAMPLE: u32 = 12;
 /// No mode or filter has this number.
 pub const BAD_MODE: u32 = 13;
 
-/// An angle that its mode does not have.
+/// The mode does not have this angle.
 pub const BAD_ANGLE: u32 = 14;
 
 /// No filter has this fraction of a sample.
 pub const BAD_FRACTION: u32 = 15;
 
-/// No planes have such decimations.
+/// Chroma has no such subsampling.
 pub const BAD_SAMPLING: u32 = 16;
 
-/// So many columns or rows without luma of their own leave none with it.
+/// No column or no row has luma of its own.
 pub const BAD_PAD: u32 = 17;

@@ -1,4 +1,4 @@
-//! Samples that are tested for a depth once, so that calls on them need not look at them again.
+//! Tests samples for a depth once, so that calls need not test them again.
 ghost use Rattle.std.specs.Prelude.{IfOk, IfErr};
 ghost use Rattle.av1_calls.specs.Samples.{rectangle_of};
 ghost use Rattle.av1_calls.specs.TestedSamples.{AreTested, IsTestFault, TestsSamples};
@@ -8,7 +8,7 @@ use crate::samples::are_within;
 use crate::status::DONE;
 use av1_frame::StoredArea;
 
-/// Whether the rectangle lies in the samples, and none in it is past the depth.
+/// Tests that the rectangle lies in the samples, and that none of its samples is past the depth.
 ///
 /// # Errors
 ///
@@ -34,12 +34,12 @@ fn test_area(
     Ok(())
 }
 
-/// Tells whether no sample of a rectangle is past a depth of 8, 10 or 12, as `av1_put_tested_16` and
-/// `av1_prep_tested_16` ask of what they read. The rectangle begins at column `x` of row `y`; rows stand `stride`
-/// apart.
+/// Tests that no sample of a rectangle is past a depth of 8, 10 or 12. `av1_put_tested_16` and `av1_prep_tested_16`
+/// require this of the samples that they read. The rectangle begins at column `x` of row `y`, and rows are `stride`
+/// samples apart.
 ///
-/// `DONE`: none is. `BAD_AREA`: the rectangle does not lie in the samples. `BAD_DEPTH`: samples have no such depth.
-/// `BAD_SAMPLE`: one of them is past it.
+/// `DONE`: no sample is past the depth. `BAD_AREA`: the rectangle does not lie in the samples. `BAD_DEPTH`: samples
+/// have no such depth. `BAD_SAMPLE`: a sample of the rectangle is past the depth.
 pub fn av1_test_samples_16(
     samples: &[u16],
     stride: usize,

@@ -1,4 +1,4 @@
-//! The residue of a block, added to samples of the caller.
+//! Adds the residual of a block to the caller's samples.
 ghost use Rattle.std.specs.Prelude.{true, false, ◌≡◌, ◌⊎◌, ℕ, ◌+◌, ◌<◌, ◌≤◌, IfOk, IfErr, length, pos, ◌+ℤ◌, ◌≤ℤ◌};
 ghost use Rattle.av1_blocks.specs.Depths.{IsDepth};
 ghost use Rattle.av1_dct.specs.Arithmetic.{at, FitsBits};
@@ -16,7 +16,7 @@ use av1_blocks::{TxSize, TxType, valid_av1_transform};
 use av1_frame::StoredArea;
 use av1_itx::{TxRoom, inverse_transform_add_in};
 
-/// A transform, and the rectangle to which its residue is added.
+/// A transform, and the rectangle to which its residual is added.
 #[derive(Clone, Copy)]
 pub(crate) struct ResidualBlock {
     pub(crate) size: TxSize,
@@ -33,7 +33,7 @@ fn is_runnable(size: TxSize, kind: TxType) -> bool
     valid_av1_transform(size, kind) && (kind != TxType::WHT_WHT || size == TxSize::TX_4X4)
 }
 
-/// The block that the numbers name, in so many samples.
+/// Reads a block from its numbers. The caller's buffer has `samples` samples.
 ///
 /// # Errors
 ///
@@ -65,7 +65,7 @@ fn block_of(
     Ok(ResidualBlock { size, kind, area })
 }
 
-// Reads each number, so that the proof knows that it has 16 bits: it compiles to nothing.
+// Reads each coefficient, so that the proof knows that it has 16 bits. This compiles to nothing.
 fn have_16_bits(coefficients: &[i16])
     ensures { (i : ℕ) → i < length coefficients.now → FitsBits 16 (at coefficients.now i) }
 {
@@ -97,7 +97,7 @@ pub(crate) fn number_at(numbers: &[i32], i: usize) -> i32
     numbers[i]
 }
 
-// Whether the number has so many bits.
+// Whether the number fits `bits` bits, including its sign.
 fn fits(number: i32, bits: usize) -> bool
     requires { (1 ≤ bits) × (bits ≤ 32) }
     ensures true_is { result ≡ true → FitsBits bits number }
@@ -116,8 +116,8 @@ fn both_fit(least: i32, greatest: i32, bits: usize) -> bool
     fits(least, bits) && fits(greatest, bits)
 }
 
-// Whether each of the first numbers has so many bits. One pass finds the least and the greatest, several numbers at a
-// time.
+// Whether each of the first `count` numbers fits `bits` bits. One pass finds the least and the greatest number, several
+// at a time.
 fn all_fit(numbers: &[i32], count: usize, bits: usize) -> bool
     requires some_bits { (1 ≤ bits) × (bits ≤ 32) }
     requires long { count ≤ length numbers.now }
@@ -133,7 +133,7 @@ fn all_fit(numbers: &[i32], count: usize, bits: usize) -> bool
     both_fit(least, greatest, bits)
 }
 
-/// How many coefficients of a transform of so many a list has. Those that it is too short for are 0.
+/// How many of a transform's `count` coefficients the list has. The transform takes 0 for each missing one.
 pub(crate) fn given_count(coefficients: &[i32], count: usize) -> usize
     ensures most { result ≤ count }
     ensures there { result ≤ length coefficients.now }
@@ -142,7 +142,7 @@ pub(crate) fn given_count(coefficients: &[i32], count: usize) -> usize
     count.min(coefficients.len())
 }
 
-/// Whether each coefficient of a transform of so many has so many bits.
+/// Whether each of a transform's `count` coefficients fits `bits` bits. A coefficient past the end of the list is 0.
 pub(crate) fn all_given_fit(coefficients: &[i32], count: usize, bits: usize) -> bool
     requires { (1 ≤ bits) × (bits ≤ 32) }
     ensures true_is { result ≡ true → (i : ℕ) → i < count → FitsBits bits (at coefficients.now i) }
@@ -152,7 +152,7 @@ pub(crate) fn all_given_fit(coefficients: &[i32], count: usize, bits: usize) -> 
     all_fit(coefficients, given, bits)
 }
 
-/// The same at a depth.
+/// Reads a block from its numbers, and tests the depth.
 ///
 /// # Errors
 ///
@@ -178,7 +178,7 @@ pub(crate) fn block_at_depth(
     }
 }
 
-/// The same of coefficients that fit the depth.
+/// Reads a block from its numbers, and tests the depth and that the coefficients fit it.
 ///
 /// # Errors
 ///
@@ -206,7 +206,7 @@ fn deep_block_of(
     }
 }
 
-/// Adds the residue of coefficients that fit the depth, by AV1's rule or by rav1e's.
+/// Adds the residual of coefficients that fit the depth, by AV1's rule or by rav1e's.
 #[inline(always)]
 pub(crate) fn add_deep(
     scratch: &mut TxRoom,
@@ -240,17 +240,17 @@ pub(crate) fn add_deep(
     );
 }
 
-/// Adds the residue of coefficients to the samples of a rectangle, which has the transform's sides, and clips, at a
-/// depth of 8: the specification's "2D inverse transform process" and the addition of "Reconstruction". The rectangle
-/// begins at column `x` of row `y`, and rows of samples stand `stride` apart. The size and the type are told by their
-/// numbers in plans.
+/// Adds the residual of coefficients to a rectangle of samples and clips the sums, at a depth of 8. This is the
+/// specification's "2D inverse transform process" and the addition of "Reconstruction". The rectangle has the
+/// transform's dimensions and begins at column `x` of row `y`. Rows are `stride` samples apart. `tx_size` and `tx_type`
+/// are the numbers that plans use for the size and the type.
 ///
-/// The coefficient of row r and column c stands at `c * min(height, 32) + r`; the rows and columns from 32 on have
-/// none. Those that `coefficients` is too short for are 0, and cost nothing, so that a list need not go on behind the
-/// last one that is not 0. What `scratch` holds before the call doesn't matter.
+/// The coefficient of row r and column c is at offset `c * min(height, 32) + r`. Rows and columns from 32 on have no
+/// coefficients. Coefficients past the end of `coefficients` are 0 and cost nothing. So the list may end after the last
+/// coefficient that isn't 0. `scratch` may hold anything before the call.
 ///
-/// `DONE`: that was done. `BAD_SIZE`, `BAD_TYPE`: a number names none, or the size has no such type. `BAD_AREA`: the
-/// rectangle does not lie in the samples.
+/// `DONE`: success. `BAD_SIZE`, `BAD_TYPE`: no size or type has this number, or the size has no such type. `BAD_AREA`:
+/// the rectangle does not lie in the samples.
 pub fn av1_inverse_transform_add_8(
     scratch: &mut TxRoom,
     coefficients: &[i16],
@@ -286,12 +286,12 @@ pub fn av1_inverse_transform_add_8(
     }
 }
 
-/// The same for samples of 16 bits at a depth of 8, 10 or 12. A sample that is past the depth is clipped with what is
-/// added to it. Where rav1e's transforms differ from AV1's, it does as AV1; `av1_inverse_transform_add_rav1e_16` does
-/// as rav1e.
+/// Adds the residual as [`av1_inverse_transform_add_8`] does, to samples of 16 bits at a depth of 8, 10 or 12. If a
+/// sample is past the depth, its sum is clipped to the depth. The call follows AV1, also where rav1e's transforms
+/// differ. `av1_inverse_transform_add_rav1e_16` follows rav1e.
 ///
-/// `BAD_DEPTH`: samples have no such depth. `BAD_COEFFICIENT`: one of the transform's coefficients has more than
-/// `bit_depth + 8` bits, its sign among them.
+/// `BAD_DEPTH`: samples have no such depth. `BAD_COEFFICIENT`: a coefficient of the transform has more than `bit_depth
+/// + 8` bits, including its sign.
 pub fn av1_inverse_transform_add_16(
     scratch: &mut TxRoom,
     coefficients: &[i32],
@@ -323,9 +323,9 @@ pub fn av1_inverse_transform_add_16(
     }
 }
 
-/// The same by rav1e's rule, which differs at depths above 8. At a depth of 12 its identities of 4 and 16 values along
-/// rows wrap at 32 bits, where AV1's don't. And it clamps lossless blocks (`WHT_WHT`) between the passes, as all
-/// others.
+/// Adds the residual as [`av1_inverse_transform_add_16`] does, but by rav1e's rule. The two rules differ at depths
+/// above 8. At a depth of 12, rav1e's identities of 4 and 16 values along rows wrap at 32 bits, and AV1's don't. And
+/// rav1e clamps lossless blocks (`WHT_WHT`) between the passes, as it clamps all others.
 pub fn av1_inverse_transform_add_rav1e_16(
     scratch: &mut TxRoom,
     coefficients: &[i32],

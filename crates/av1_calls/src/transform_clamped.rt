@@ -1,4 +1,4 @@
-//! The residue of coefficients that are cut to the depth, added to samples of the caller.
+//! Adds the residual of coefficients to the caller's samples, after it clamps the coefficients to the depth.
 ghost use Rattle.std.specs.Prelude.{true, ◌≡◌, ◌+◌, ◌≤◌, length, pos, ◌+ℤ◌};
 ghost use Rattle.av1_blocks.specs.Depths.{IsDepth};
 ghost use Rattle.av1_dct.specs.Arithmetic.{at, clamp_value};
@@ -17,10 +17,10 @@ use crate::transform_add::{
 use av1_dct::clamp_value;
 use av1_itx::TxRoom;
 
-/// How many coefficients a transform has at most.
+/// The greatest number of coefficients of a transform.
 const MOST_COEFFICIENTS: usize = 1024;
 
-// The first numbers of the room become so many of the coefficients, each cut to so many bits.
+// Copies the first `count` coefficients to the front of `room`, each clamped to `bits` bits.
 #[tactic(auto, using(av1_frame::proofs::Paint::row_painting))]
 fn cut(room: &mut [i32], coefficients: &[i32], count: usize, bits: usize)
     requires some_bits { (1 ≤ bits) × (bits ≤ 32) }
@@ -33,7 +33,7 @@ fn cut(room: &mut [i32], coefficients: &[i32], count: usize, bits: usize)
     }
 }
 
-/// Adds the residue of coefficients of which some are too large for the depth.
+/// Adds the residual of the clamped coefficients, by way of a copy.
 #[inline(never)]
 fn add_cut(
     scratch: &mut TxRoom,
@@ -64,7 +64,7 @@ fn add_cut(
     );
 }
 
-/// Adds the residue of coefficients, each cut to the depth.
+/// Adds the residual of the coefficients, each clamped to the depth. If all fit, there is no copy.
 #[inline(always)]
 fn add_clamped(
     scratch: &mut TxRoom,
@@ -96,12 +96,13 @@ fn add_clamped(
     }
 }
 
-/// The same as `av1_inverse_transform_add_16`, but that a coefficient of more than `bit_depth + 8` bits, its sign among
-/// them, is cut to the nearest number of so many, as AV1 cuts what it dequantizes: the specification's "Reconstruction
-/// process". Coefficients for samples of 8 bits have no more, so that there is no such call for those.
+/// Adds the residual as `av1_inverse_transform_add_16` does, but clamps coefficients instead of rejecting them. A
+/// coefficient of more than `bit_depth + 8` bits, including its sign, becomes the nearest number that fits. AV1 clamps
+/// dequantized coefficients in the same way: the specification's "Reconstruction process". Coefficients for samples of
+/// 8 bits always fit, so there is no such call for them.
 ///
-/// `DONE`: that was done. `BAD_SIZE`, `BAD_TYPE`: a number names none, or the size has no such type. `BAD_AREA`: the
-/// rectangle does not lie in the samples. `BAD_DEPTH`: samples have no such depth.
+/// `DONE`: success. `BAD_SIZE`, `BAD_TYPE`: no size or type has this number, or the size has no such type. `BAD_AREA`:
+/// the rectangle does not lie in the samples. `BAD_DEPTH`: samples have no such depth.
 pub fn av1_inverse_transform_add_clamped_16(
     scratch: &mut TxRoom,
     coefficients: &[i32],

@@ -1,5 +1,5 @@
-//! The samples of a plane round a block that reads past its sides, gathered to a window: each is the nearest visible
-//! one.
+//! Gathers the samples round a block that reads outside its plane to a window. Each sample of the window is the nearest
+//! visible one.
 //!
 //! AV1 specification: block inter prediction process.
 ghost use Rattle.std.specs.Prelude.{◌≡◌, ◌+◌, ◌-ℤ◌, ◌+ℤ◌, ◌<◌, ◌≤◌, ◌≤ℤ◌, length, pos, slice_index_or};
@@ -12,7 +12,7 @@ use crate::intra_edge::signed;
 use crate::motion_place::MotionPlane;
 use av1_frame::{Pixel, StoredArea};
 
-/// The visible column or row, of so many, that is nearest to a place.
+/// The visible column or row that is nearest to a place. There are `visible` of them.
 #[inline(always)]
 fn nearest(place: isize, visible: usize) -> usize
     requires { 0 < visible }
@@ -25,7 +25,7 @@ fn nearest(place: isize, visible: usize) -> usize
     place.unsigned_abs().min(visible - 1)
 }
 
-/// The one that is nearest to a place so many steps behind the first.
+/// The visible column or row that is nearest to the place `steps` after `first`.
 #[inline(always)]
 fn nearest_behind(first: isize, steps: usize, visible: usize) -> usize
     requires some { 0 < visible }
@@ -39,7 +39,8 @@ fn nearest_behind(first: isize, steps: usize, visible: usize) -> usize
     nearest(place, visible)
 }
 
-/// The first `width` samples of the row become those of `source` from column `first` on, of which so many are visible.
+/// Copies `width` samples of `source`, from column `first` on, to the front of the row. `visible` samples of `source`
+/// are visible.
 #[inline(always)]
 #[tactic(auto, using(av1_frame::proofs::Paint::row_painting))]
 fn gather_row<T: Pixel>(row: &mut [T], source: &[T], first: isize, visible: usize, width: usize)
@@ -57,8 +58,8 @@ fn gather_row<T: Pixel>(row: &mut [T], source: &[T], first: isize, visible: usiz
     }
 }
 
-/// The rectangle of `window`, whose rows stand `stride` apart, becomes what is read of a plane from column `x` of row
-/// `y` on, counted from the first visible sample.
+/// Fills the rectangle of `window` with the samples of a plane from column `x` of row `y` on, counted from the first
+/// visible sample. Rows of `window` are `stride` samples apart.
 #[tactic(auto, using(av1_frame::proofs::Paint::rectangle_painting))]
 pub(crate) fn gather<T: Pixel>(
     window: &mut [T],

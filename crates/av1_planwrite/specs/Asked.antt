@@ -1,4 +1,4 @@
--- What a plan asks for after some of its fields: the slots that are left, and then parts, one after the other.
+-- What a plan needs after some of its fields: first the remaining slots, and then parts, one after the other.
 use Rattle.std.specs.Prelude.{◌≡◌, ℕ, ◌-◌, List, [], ◌∷◌, ◌++◌, Option}
 use Rattle.av1_plan.specs.declared.header.Header.{Header}
 use Rattle.av1_plan.specs.declared.nodes.Part.{Part}
@@ -7,9 +7,8 @@ use Rattle.av1_plan.specs.Grammar.{slot_planes}
 use Rattle.av1_plan.specs.Plan.{LeafValue, PlanValue}
 use Rattle.av1_plan.specs.Remaining.{parts_format}
 
--- What a plan asks for of which a header, these slots and these leaves are told: the slots from this one on, and then
--- the fields of these parts. It then is the plan whose slots and leaves are those that were told, and behind them those
--- that were asked for.
+-- The rest of a plan whose header and first slots and leaves are known. It needs the slots from this one on, and then
+-- the fields of these parts. The result is the plan with the known slots and leaves and then the new ones.
 unfoldable pub asked_for : Header → (slot : ℕ) → List Part → List (Option (List (List ℕ))) → List LeafValue →
     Format PlanValue
 asked_for h slot parts stored leaves = do
@@ -17,8 +16,8 @@ asked_for h slot parts stored leaves = do
   later ← parts_format h parts
   done (record { header = h; references = stored ++ more; leaves = leaves ++ later })
 
--- each value is of the kind that is asked for after the values before it, and admitted, and after all of them g is
--- asked for
+-- Each value is valid for the field that the format needs after the values before it. After all of the values the
+-- format is g.
 abbrev pub After : {A : Type 0} → Format A → List ℕ → Format A → Type 0
 After f [] g = f ≡ g
 After (done x) (v ∷ vs) g = ⊥

@@ -23,11 +23,11 @@ bare_leaf l = record {
   triples = map none_of l.triples;
 }
 
--- the same plan without coefficients: its predictions alone
+-- the same plan without coefficients: only its predictions
 abbrev pub bare : PlanValue → PlanValue
 bare p = record { header = p.header; references = p.references; leaves = map bare_leaf p.leaves }
 
--- its text
+-- the text of the plan without coefficients
 abbrev pub bare_text : PlanValue → List ℕ
 bare_text p = plan_text (bare p)
 

@@ -1,4 +1,4 @@
--- What stands at the front of a text.
+-- The front of a text.
 use Rattle.std.specs.Prelude.{◌≡◌, ℕ, List, length, take}
 
 -- these bytes begin with those

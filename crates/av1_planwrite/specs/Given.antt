@@ -1,4 +1,4 @@
--- Numbers that fit their types: words of private contracts.
+-- Numbers that fit their types: definitions for private contracts.
 use Rattle.std.specs.Prelude.{◌≡◌, ◌<◌, ◌^◌, length, Option, Some, None, FitsSigned}
 use Rattle.std.specs.List.{All}
 use Rattle.std.specs.Int.{w8, w32}

@@ -1,4 +1,4 @@
--- Words of private contracts on samples.
+-- Definitions for private contracts on samples.
 use Rattle.std.specs.Prelude.{ℕ, max, List, [], ◌∷◌}
 
 -- the greatest of some samples, or 0

@@ -1,4 +1,4 @@
--- The text of a plan: the plan grammar turned round. Each part gives the bytes of its fields, in their order.
+-- The text of a plan: the reverse of the plan grammar. Each definition gives the bytes of its fields, in order.
 use Rattle.std.specs.Prelude.{ℕ, zero, suc, ◌+◌, ◌*◌, ◌/◌, ◌^◌, ◌==◌, Bool, true, false, is_some, if◌then◌else◌, List}
 use Rattle.std.specs.Prelude.{[], ◌∷◌, ◌++◌, codes, length, slice_index_or, Option, Some, None}
 use Rattle.std.specs.List.{flat_map}
@@ -39,7 +39,7 @@ pair v = to_le_bytes w16 v
 abbrev pub quad : ℕ → List ℕ
 quad v = to_le_bytes w32 v
 
--- ---- what stands before the leaves
+-- ---- the fields before the leaves
 
 -- the letters of a version
 abbrev pub letters : ℕ → List ℕ
@@ -47,7 +47,7 @@ letters version =
     if version == 3 then codes "RPL3" else
     if version == 2 then codes "RPL2" else codes "RPL1"
 
--- the frame, and what holds for all leaves
+-- the fields of a header: the frame, and what holds for all leaves
 unfoldable pub header_text : Header → List ℕ
 header_text h =
     letters h.version ++ pair h.width ++ pair h.height ++ byte h.depth ++ byte h.sampling
@@ -62,7 +62,7 @@ sample_text depth v = if depth == 8 then byte v else pair v
 unfoldable pub plane_text : ℕ → List ℕ → List ℕ
 plane_text depth samples = flat_map (sample_text depth) samples
 
--- the planes of a slot, where it carries planes
+-- the planes of a slot, if it carries planes
 unfoldable pub slot_text : ℕ → Option (List (List ℕ)) → List ℕ
 slot_text depth None = []
 slot_text depth (Some planes) = flat_map (plane_text depth) planes
@@ -84,7 +84,7 @@ motions_text (r ∷ references) (mv ∷ mvs) = motion_text r mv ++ motions_text 
 motions_text [] _ = []
 motions_text _ [] = []
 
--- how the chroma of an intra leaf is predicted, where it carries chroma
+-- how the chroma of an intra leaf is predicted, if the leaf carries chroma
 unfoldable pub chroma_text : Option ChromaMode → List ℕ
 chroma_text None = []
 chroma_text (Some (Plain mode step)) = byte (mode_number mode) ++ byte (cast_unsigned w8 step)
@@ -96,7 +96,7 @@ kind_text (Intra mode step chroma) = byte (mode_number mode) ++ byte (cast_unsig
 kind_text (Single mode reference mv) = byte (mode_number mode) ++ motion_text reference mv
 kind_text (Compound mode references mvs) = byte (mode_number mode) ++ motions_text references mvs
 
--- the type of the chroma transforms, where chroma is carried
+-- the type of the chroma transforms, if the leaf carries chroma
 unfoldable pub uv_type_text : Option TxType → List ℕ
 uv_type_text None = []
 uv_type_text (Some t) = byte (tx_type_number t)
@@ -109,17 +109,17 @@ triple_text t = byte t.block ++ pair t.place ++ quad (cast_unsigned w32 t.value)
 unfoldable pub triples_text : List Triple → List ℕ
 triples_text triples = pair (length triples) ++ flat_map triple_text triples
 
--- those of U and V, where chroma is carried
+-- the coefficients of U and V, if the leaf carries chroma
 unfoldable pub chroma_triples_text : Bool → List Triple → List Triple → List ℕ
 chroma_triples_text true u v = triples_text u ++ triples_text v
 chroma_triples_text false u v = []
 
--- what a leaf has before its coefficients
+-- the fields of a leaf before its coefficients
 abbrev pub leading_text : LeafKind → TxSize → TxType → Option TxType → List ℕ
 leading_text kind tx_size tx_type uv_type = kind_text kind ++ byte (tx_number tx_size) ++ byte (tx_type_number tx_type)
     ++ uv_type_text uv_type
 
--- a leaf, of which these are the coefficients of Y, U and V
+-- a leaf with its coefficients of Y, U and V
 unfoldable pub fields_text : LeafKind → TxSize → TxType → Option TxType → List Triple → List Triple → List Triple →
     List ℕ
 fields_text kind tx_size tx_type uv_type y u v = leading_text kind tx_size tx_type uv_type ++ triples_text y
@@ -132,15 +132,15 @@ leaf_text l = fields_text l.kind l.tx_size l.tx_type l.uv_type (slice_index_or l
 
 -- ---- nodes
 
--- How a node of this side is cut whose first leaf has these sides: where a side of the leaf is the node's, as the
--- leaf's sides say, else into four nodes.
+-- How a node of this side is cut if its first leaf has these dimensions. If the leaf is as wide or as high as the node,
+-- the leaf's other dimension decides. Else the node is cut into four nodes.
 unfoldable pub cut_by_sides : (side width height : ℕ) → PartitionType
 cut_by_sides side width height =
     if width == side then
     (if height == side then PARTITION_NONE else (if 2 * height == side then PARTITION_HORZ else PARTITION_HORZ_4))
     else (if height == side then (if 2 * width == side then PARTITION_VERT else PARTITION_VERT_4) else PARTITION_SPLIT)
 
--- how a node of side 4 * 2 ^ level is cut whose first leaf has this size
+-- how a node of 4 * 2 ^ level luma samples is cut if its first leaf has this size
 unfoldable pub cut_of : ℕ → BlockSize → PartitionType
 cut_of level size = cut_by_sides (4 * 2 ^ level) (block_width size) (block_height size)
 
@@ -153,25 +153,25 @@ mark_of PARTITION_HORZ_4 = 8
 mark_of PARTITION_VERT_4 = 9
 mark_of _ = 3
 
--- the leaves that are still to be written, and the bytes that stand already
+-- the leaves that are still to be written, and the bytes so far
 abbrev pub Draft : Type 0
 Draft = List LeafValue × List ℕ
 
--- the next leaf, where one is left
+-- the next leaf is written, if one is left
 unfoldable pub leaf_written : List LeafValue → List ℕ → Draft
 leaf_written [] bytes = ([], bytes)
 leaf_written (l ∷ leaves) bytes = (leaves, bytes ++ leaf_text l)
 
--- a part that is a leaf, where its corner lies in the frame
+-- a part that is a leaf is written, if it begins in the frame
 unfoldable pub part_written : Header → ℕ → ℕ → Draft → Draft
 part_written h x y d = if is_inside h x y then leaf_written d.0 d.1 else d
 
--- how a node of this level is cut, by the next leaf
+-- how a node of this level is cut, as its first leaf decides
 unfoldable pub next_cut : ℕ → List LeafValue → PartitionType
 next_cut level [] = PARTITION_NONE
 next_cut level (l ∷ leaves) = cut_of level l.size
 
--- the parts of a node of this level that is cut so, where node writes the part of half the side at a place
+-- the parts of a node of this level with this cut are written; `node` writes a part of half the side at a position
 unfoldable pub parts_written : Header → ℕ → (ℕ → ℕ → Draft → Draft) → ℕ → ℕ → PartitionType → Draft → Draft
 parts_written h level node x y PARTITION_NONE d = part_written h x y d
 parts_written h level node x y PARTITION_HORZ d = part_written h x (y + half_side level) (part_written h x y d)
@@ -188,7 +188,7 @@ parts_written h level node x y _ d =
     node (x + half_side level) (y + half_side level)
     (node x (y + half_side level) (node (x + half_side level) y (node x y d)))
 
--- a part of side 4 * 2 ^ level: a 4x4 leaf at level 0, else a node, its mark first
+-- a part of 4 * 2 ^ level luma samples is written: a 4x4 leaf at level 0, else a node, its mark first
 unfoldable pub block_written : Header → ℕ → ℕ → ℕ → Draft → Draft
 block_written h zero x y d = part_written h x y d
 block_written h (suc level) x y d =
@@ -205,13 +205,13 @@ in_turn f i (suc n) d = in_turn f (i + 1) n (f i d)
 unfoldable pub row_written : Header → ℕ → Draft → Draft
 row_written h row d = in_turn (λ col. block_written h 4 (64 * col) (64 * row)) 0 ((h.width + 63) / 64) d
 
--- all of them, in raster order
+-- all superblocks, in raster order
 unfoldable pub superblocks_written : Header → Draft → Draft
 superblocks_written h d = in_turn (row_written h) 0 ((h.height + 63) / 64) d
 
 -- ---- the whole
 
--- what stands before the leaves
+-- the bytes before the leaves
 unfoldable pub front_text : PlanValue → List ℕ
 front_text p = header_text p.header ++ references_text p.header.depth p.references
 

@@ -1,4 +1,4 @@
-//! Which arguments the calls of a builder admit.
+//! Tests which arguments the calls of a builder accept.
 
 ghost use Rattle.std.specs.Prelude.{◌≡◌, ◌<◌, ◌≤◌, ◌^◌, ◌==◌, true, nat_le, length};
 ghost use Rattle.std.specs.List.{list_all};
@@ -13,21 +13,21 @@ use av1_plan::{ChromaMode, Header, LeafKind};
 
 // ---- the header
 
-/// Whether a frame may have a side of so many luma samples.
+/// Whether a frame may have this width or height in luma samples.
 fn is_side(version: u8, side: u16) -> bool
     ensures { result ≡ is_side version side }
 {
     (version == 3 || side % 8 == 0) && 1 <= side && side <= 2048
 }
 
-/// Whether samples may have so many bits.
+/// Whether samples may have this many bits.
 fn is_depth(depth: u8) -> bool
     ensures { result ≡ is_depth depth }
 {
     depth == 8 || depth == 10 || depth == 12
 }
 
-/// Whether there are slots of these numbers.
+/// Whether these numbers are slots.
 #[tactic(auto, using(crate::proofs::Items::items))]
 fn are_slots(slots: &[u8]) -> bool
     ensures { result ≡ list_all (λ slot. nat_le slot 7) slots.now }
@@ -39,7 +39,7 @@ fn are_slots(slots: &[u8]) -> bool
     fit
 }
 
-/// Whether each value of a header is admitted.
+/// Whether each value of a header is valid.
 #[tactic(auto, unfolding(crate::specs::Building::admits_header))]
 pub fn admits_header(header: &Header) -> bool
     ensures value { result ≡ admits_header header.now }
@@ -105,7 +105,7 @@ fn is_named(reference: RefType) -> bool
     1 <= number && number <= 7
 }
 
-/// Whether chroma may be predicted so.
+/// Whether chroma may be predicted in this way.
 #[tactic(auto, unfolding(crate::specs::Building::admits_chroma))]
 fn admits_chroma(chroma: Option<ChromaMode>) -> bool
     ensures value { result ≡ admits_chroma chroma }
@@ -118,7 +118,7 @@ fn admits_chroma(chroma: Option<ChromaMode>) -> bool
     }
 }
 
-/// Whether a leaf may be predicted so, by whether it carries chroma.
+/// Whether a leaf may be predicted in this way, if it carries chroma or not.
 #[tactic(auto, unfolding(crate::specs::Building::admits_kind))]
 fn admits_kind(carried: bool, kind: LeafKind) -> bool
     ensures value { result ≡ admits_kind carried kind }
@@ -144,7 +144,7 @@ fn admits_kind(carried: bool, kind: LeafKind) -> bool
     }
 }
 
-/// Whether a leaf may have so many triples in each plane, by whether it carries chroma.
+/// Whether a leaf may have these numbers of triples in Y, U and V, if it carries chroma or not.
 #[tactic(auto, unfolding(crate::specs::Building::admits_counts))]
 fn admits_counts(carried: bool, y: usize, u: usize, v: usize) -> bool
     ensures value { result ≡ admits_counts carried y u v }
@@ -153,7 +153,7 @@ fn admits_counts(carried: bool, y: usize, u: usize, v: usize) -> bool
     (carried || (u == 0 && v == 0)) && y <= 65535 && u <= 65535 && v <= 65535
 }
 
-/// Whether these may be the fields of a leaf with so many triples in each plane, by whether it carries chroma.
+/// Whether a leaf may have these fields and numbers of triples, if it carries chroma or not.
 #[tactic(auto, unfolding(crate::specs::Building::admits_fields))]
 pub fn admits_fields(
     carried: bool,

@@ -1,4 +1,4 @@
-//! From the bytes of a plan to the bytes of its predictions alone.
+//! Reads the bytes of a plan and writes the plan without its coefficients.
 
 ghost use Rattle.av1_plan.specs.Values.{plan_value};
 ghost use Rattle.av1_planwrite.specs.Bare.{bare_text};
@@ -12,12 +12,12 @@ use av1_streams::write_bytes;
 use std::alloc::Global;
 
 /// Reads a plan from the source to its end, and appends the text of the same plan without its coefficients to the sink.
-/// It shows an encoder what its predictions alone come to.
+/// This shows an encoder its predictions without residuals.
 ///
 /// # Errors
 ///
-/// As for [`av1_recon::reconstruct_plan`]: `ReadFault` and `TooLong` while it reads, then `Malformed`, then `Invalid`,
-/// then `WriteFault`. `Memory` may stand in place of any of them, before the first written byte.
+/// As for [`av1_recon::reconstruct_plan`]: `ReadFault` and `TooLong` while the call reads, then `Malformed`, then
+/// `Invalid`, then `WriteFault`. `Memory` may replace any of them, before the first byte is written.
 pub fn bare_plan<R: Source, W: Sink>(
     alloc: Global,
     source: &mut R,

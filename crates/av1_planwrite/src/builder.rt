@@ -1,4 +1,4 @@
-//! Plans built field by field, as an encoder comes to them.
+//! Builds plans field by field, in the order in which an encoder decides the fields.
 
 ghost use Rattle.av1_planwrite.specs.Builder.{built, TellsSome};
 
@@ -9,21 +9,22 @@ use av1_blocks::{TxSize, TxType};
 use av1_plan::{Header, LeafKind, Triple};
 use std::alloc::Global;
 
-/// A plan in the making: what an encoder fills while it encodes.
+/// An unfinished plan that an encoder fills while it encodes.
 ///
-/// [`PlanBuilder::new`] gives the header. Then come the planes of each slot that the mask names, rising
-/// ([`PlanBuilder::reference`]), and then, superblock by superblock, the mark of each node before its parts
-/// ([`PlanBuilder::mark`]) and each leaf ([`PlanBuilder::leaf`]). Parts that begin outside the frame are left out.
-/// [`PlanBuilder::finish`] gives the bytes.
+/// [`PlanBuilder::new`] takes the header. Then come the planes of each slot of the mask, in rising order
+/// ([`PlanBuilder::reference`]). Then come the superblocks in order. Each node's mark comes before the node's parts
+/// ([`PlanBuilder::mark`]), and each leaf is one call ([`PlanBuilder::leaf`]). Parts that begin outside the frame are
+/// left out. [`PlanBuilder::finish`] returns the bytes.
 ///
-/// The builder keeps the bytes of the fields given so far, which are always those of a proper list of the plan grammar,
-/// and in a fixed space what that asks for next ([`Progress`]). A call that is refused leaves it as it was. Arguments
-/// are checked in constant time, but for samples and triples, and memory is taken only to grow the bytes.
+/// The builder keeps the bytes of the fields so far. These are always a proper list of fields of the plan grammar. The
+/// builder also keeps, in constant space, what the grammar needs next ([`Progress`]). A rejected call changes nothing.
+/// Tests of arguments take constant time, except the tests of samples and triples. Only the growth of the bytes
+/// allocates.
 #[derive(Drop)]
 pub struct PlanBuilder {
     progress: Progress,
     text: Text,
-    // The bytes are the fields of a proper list of the plan grammar, which tells of some plan.
+    // The bytes are the fields of a proper list of the plan grammar, which spells a part of some plan.
     ghost tells: { ∥ TellsSome (built progress text.bytes.items) ∥₁ },
 }
 
@@ -51,16 +52,16 @@ impl PlanBuilder {
       plan_with_leaf,
     };
 
-    /// A builder of a plan with this header, whose fields stand first.
+    /// A builder of a plan with this header. The plan's bytes begin with the header's fields.
     ///
     /// # Errors
     ///
-    /// `NotAdmitted` where a value of the header isn't admitted. `Memory` where memory runs out.
+    /// `NotAdmitted` if a value of the header isn't valid. `Memory` if memory runs out.
     pub fn new(alloc: Global, header: &Header) -> Result<PlanBuilder, BuildError>
-        // It is refused exactly where a value isn't admitted, unless memory runs out.
+        // The call rejects exactly the headers with a bad value, unless memory runs out.
         ensures answers { Answers result (header_refusal header.now) }
         ensures begun { IfOk result (λ b. building b ≡ begun header.now) }
-        // The bytes are a proper list, which tells of a plan its header.
+        // The bytes are a proper list, which spells the header of a plan.
         ensures told { IfOk result (λ b. Tells (building b) (plan_begun header.now)) }
     {
         let Some(progress) = Progress::new(header) else {
@@ -73,21 +74,21 @@ impl PlanBuilder {
         Ok(PlanBuilder { progress, text })
     }
 
-    /// Gives the planes of the next slot of the mask, each row by row.
+    /// Appends the planes of the next slot of the mask, each row by row.
     ///
     /// # Errors
     ///
-    /// `NotNow` where no planes are asked for. `NotAdmitted` where a plane has another number of samples, or one of
-    /// them isn't below `1 << depth`. `TooLong` where the bytes would be more than 2^26. `Memory` where memory runs
-    /// out. The builder stays as it was.
+    /// `NotNow` if the plan needs no planes next. `NotAdmitted` if a plane has the wrong number of samples, or one of
+    /// its samples isn't below `1 << depth`. `TooLong` if there would be more than 2^26 bytes. `Memory` if memory runs
+    /// out. After an error the builder is unchanged.
     pub fn reference(&mut self, y: &[u16], u: &[u16], v: &[u16]) -> Result<(), BuildError>
-        // It is refused for the first reason that holds, unless memory runs out.
+        // The error is the first reason that holds, unless memory runs out.
         ensures answers { Answers result (reference_refusal (building self.old) y.now u.now v.now) }
-        // Exactly these planes are appended.
+        // The call appends exactly these planes.
         ensures given { OnOk result (building self.new ≡ with_reference (building self.old) y.now u.now v.now) }
-        // What the bytes told of a plan before, they tell of it with what is given.
+        // If the bytes before spell a part of a plan, the bytes after spell this part with these planes.
         ensures told { (p : PlanValue) → Tells (building self.old) p → OnOk result (Tells (building self.new) (plan_with_reference p y.now u.now v.now)) }
-        // After a refusal the builder is as before.
+        // After an error the builder is unchanged.
         ensures kept { OnErr result (building self.new ≡ building self.old) }
     {
         self.progress.check_reference(y, u, v)?;
@@ -98,20 +99,20 @@ impl PlanBuilder {
         Ok(())
     }
 
-    /// Gives the mark of the next node.
+    /// Appends the mark of the next node.
     ///
     /// # Errors
     ///
-    /// `NotNow` where no mark is asked for. `NotAdmitted` where the node can't have this mark. `TooLong` where the
-    /// bytes would be more than 2^26. `Memory` where memory runs out. The builder stays as it was.
+    /// `NotNow` if the plan needs no mark next. `NotAdmitted` if the node can't have this mark. `TooLong` if there
+    /// would be more than 2^26 bytes. `Memory` if memory runs out. After an error the builder is unchanged.
     pub fn mark(&mut self, mark: u8) -> Result<(), BuildError>
-        // It is refused for the first reason that holds, unless memory runs out.
+        // The error is the first reason that holds, unless memory runs out.
         ensures answers { Answers result (mark_refusal (building self.old) mark) }
-        // Exactly this mark is appended.
+        // The call appends exactly this mark.
         ensures given { OnOk result (building self.new ≡ with_mark (building self.old) mark) }
-        // What the bytes told of a plan before, they tell of it with what is given.
+        // If the bytes before spell a part of a plan, so do the bytes after.
         ensures told { (p : PlanValue) → Tells (building self.old) p → OnOk result (Tells (building self.new) p) }
-        // After a refusal the builder is as before.
+        // After an error the builder is unchanged.
         ensures kept { OnErr result (building self.new ≡ building self.old) }
     {
         self.progress.check_mark(mark)?;
@@ -122,15 +123,18 @@ impl PlanBuilder {
         Ok(())
     }
 
-    /// Gives the next leaf. Its size and its place come from the marks.
+    /// Appends the next leaf. The marks decide its size and position.
     ///
     /// # Errors
     ///
-    /// `NotNow` where no leaf is asked for. `NotAdmitted` where the chroma type or, of an intra leaf, the chroma mode
-    /// is given though the leaf carries no chroma, or is missing though it does; where it carries none and `u` or `v`
-    /// isn't empty; where a mode isn't of its kind, or a reference isn't one of LAST to ALTREF; and where a plane has
-    /// more than 65,535 triples. `TooLong` where the bytes would be more than 2^26. `Memory` where memory runs out. The
-    /// builder stays as it was.
+    /// `NotNow` if the plan needs no leaf next. `TooLong` if there would be more than 2^26 bytes. `Memory` if memory
+    /// runs out. After an error the builder is unchanged. `NotAdmitted` if one of these holds:
+    ///
+    /// - The leaf carries chroma, and its chroma type or, in an intra leaf, its chroma mode is missing.
+    /// - The leaf carries no chroma, and a chroma type, a chroma mode or a triple of `u` or `v` is given.
+    /// - The mode doesn't fit the kind of the leaf, or the chroma mode is not valid.
+    /// - A reference isn't one of LAST to ALTREF.
+    /// - A plane has more than 65,535 triples.
     pub fn leaf(
         &mut self,
         kind: &LeafKind,
@@ -141,21 +145,21 @@ impl PlanBuilder {
         u: &[Triple],
         v: &[Triple],
     ) -> Result<(), BuildError>
-        // It is refused for the first reason that holds, unless memory runs out.
+        // The error is the first reason that holds, unless memory runs out.
         ensures answers { Answers result
             (leaf_refusal (building self.old)
             (record { kind = kind.now; tx_size = tx_size; tx_type = tx_type; uv_type = uv_type; y = y.now; u = u.now; v = v.now })) }
-        // Exactly the fields of this leaf are appended.
+        // The call appends exactly the fields of this leaf.
         ensures given { OnOk result
             (building self.new ≡ with_leaf (building self.old)
             (record { kind = kind.now; tx_size = tx_size; tx_type = tx_type; uv_type = uv_type; y = y.now; u = u.now; v = v.now })) }
-        // What the bytes told of a plan before, they tell of it with what is given.
+        // If the bytes before spell a part of a plan, the bytes after spell this part with this leaf.
         ensures told { (p : PlanValue) → Tells (building self.old) p →
             OnOk result
             (Tells (building self.new)
             (plan_with_leaf p (asked_part (building self.old))
             (record { kind = kind.now; tx_size = tx_size; tx_type = tx_type; uv_type = uv_type; y = y.now; u = u.now; v = v.now }))) }
-        // After a refusal the builder is as before.
+        // After an error the builder is unchanged.
         ensures kept { OnErr result (building self.new ≡ building self.old) }
     {
         self.progress
@@ -167,17 +171,17 @@ impl PlanBuilder {
         Ok(())
     }
 
-    /// The bytes of the plan: its text.
+    /// Returns the bytes of the plan: its text.
     ///
     /// # Errors
     ///
-    /// The builder itself, where a field is still asked for.
+    /// The builder itself, if the plan still needs a field.
     pub fn finish(self) -> Result<Vec<u8>, PlanBuilder>
         ensures complete { IfOk result (λ bytes. asks_more (building self) ≡ false) }
         ensures bytes { IfOk result (λ bytes. bytes.items ≡ (building self).bytes) }
-        // They are the text of a plan, whatever was given.
+        // The bytes are the text of a plan, whatever was given.
         ensures of_some { IfOk result (λ bytes. ∥ ((p : PlanValue) × AreText plan bytes.items p) ∥₁) }
-        // They are that of the plan of which all is told.
+        // The bytes are the text of the plan whose parts were given.
         ensures text { (p : PlanValue) → Tells (building self) p → IfOk result (λ bytes. AreText plan bytes.items p) }
         ensures asked { IfErr result (λ b. asks_more (building self) ≡ true) }
         ensures kept { IfErr result (λ b. b ≡ self) }

@@ -1,18 +1,18 @@
-//! Why a call of a builder is refused.
+//! Why a builder rejects a call.
 
 ghost use Rattle.std.specs.Prelude.{◌≡◌};
 ghost use Rattle.av1_planwrite.specs.declared.error.BuildError.TheVariants.{Memory};
 
 use av1_blocks::OutOfMemory;
 
-/// Why a builder refused a call.
+/// Why a builder rejects a call, or memory ran out.
 #[derive(Copy, Clone, Debug, PartialEq, Eq)]
 pub enum BuildError {
-    /// A plan asks for another kind of field next.
+    /// The plan needs another kind of field next.
     NotNow,
-    /// An argument has a value that isn't admitted here.
+    /// An argument has a value that isn't valid here.
     NotAdmitted,
-    /// The bytes would be more than 2^26.
+    /// There would be more than 2^26 bytes.
     TooLong,
     /// Memory ran out.
     Memory,

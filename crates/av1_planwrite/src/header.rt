@@ -1,4 +1,4 @@
-//! The fields of a header.
+//! Writes the fields of a header.
 
 ghost use Rattle.std.specs.Prelude.{◌≡◌};
 ghost use Rattle.av1_planwrite.specs.Text.{header_text, letters};
@@ -8,7 +8,7 @@ use crate::text::Text;
 use av1_blocks::OutOfMemory;
 use av1_plan::Header;
 
-/// The letters of a version.
+/// The four letters of a version.
 fn letters(version: u8) -> [u8; 4]
     ensures { result ≡ letters version }
 {
@@ -19,7 +19,7 @@ fn letters(version: u8) -> [u8; 4]
     }
 }
 
-/// The fields of a header.
+/// The bytes of a header's fields.
 #[tactic(auto, unfolding(crate::specs::Text::header_text))]
 pub fn header_fields(header: &Header) -> [u8; 20]
     ensures { result ≡ header_text header.now }
@@ -42,7 +42,7 @@ impl Text {
     ghost use Rattle.std.specs.Prelude.{◌≡◌, ◌++◌, OnOk};
     ghost use Rattle.av1_planwrite.specs.Text.{header_text};
 
-    /// Writes what stands before the reference samples.
+    /// Writes the fields before the reference samples.
     pub fn header(&mut self, header: &Header) -> Result<(), OutOfMemory>
         ensures { OnOk result (self.new.bytes.items ≡ self.old.bytes.items ++ header_text header.now) }
     {

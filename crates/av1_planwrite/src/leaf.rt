@@ -1,4 +1,4 @@
-//! The fields of a leaf.
+//! Writes the fields of a leaf.
 
 ghost use Rattle.std.specs.Prelude.{◌≡◌, ◌+◌, ◌++◌, ◌≤◌, length, take, drop};
 ghost use Rattle.av1_planwrite.specs.Given.{FitsTriple};
@@ -11,10 +11,10 @@ use av1_plan::{ChromaMode, LeafKind, Triple};
 
 // ---- before the coefficients
 
-/// The most bytes that the fields of a leaf have before its coefficients.
+/// The greatest number of bytes of a leaf before its coefficients.
 pub const MOST_LEADING: usize = 14;
 
-/// Puts a reference and its vector.
+/// Writes a reference and its vector.
 #[tactic(auto, using(crate::proofs::Rests::rest_later), unfolding(crate::specs::Text::motion_text))]
 fn put_motion(slice: &mut [u8], at: usize, reference: RefType, mv: MotionVector) -> usize
     requires { at + 5 ≤ length slice.old }
@@ -27,7 +27,7 @@ fn put_motion(slice: &mut [u8], at: usize, reference: RefType, mv: MotionVector)
     put_pair(slice, at, mv.col.cast_unsigned())
 }
 
-/// Puts two references, each with its vector.
+/// Writes two references, each with its vector.
 #[tactic(auto, using(crate::proofs::Rests::rest_later), unfolding(crate::specs::Text::motions_text))]
 fn put_motions(
     slice: &mut [u8],
@@ -46,7 +46,7 @@ fn put_motions(
     put_motion(slice, at, second, second_mv)
 }
 
-/// Puts how the chroma of an intra leaf is predicted, where it carries chroma.
+/// Writes how the chroma of an intra leaf is predicted, if the leaf carries chroma.
 #[tactic(auto, using(crate::proofs::Rests::rest_later), unfolding(crate::specs::Text::chroma_text))]
 fn put_chroma_mode(slice: &mut [u8], at: usize, chroma: Option<ChromaMode>) -> usize
     requires { at + 3 ≤ length slice.old }
@@ -69,7 +69,7 @@ fn put_chroma_mode(slice: &mut [u8], at: usize, chroma: Option<ChromaMode>) -> u
     }
 }
 
-/// Puts how a leaf is predicted.
+/// Writes how a leaf is predicted.
 #[tactic(auto, using(crate::proofs::Rests::rest_later), unfolding(crate::specs::Text::kind_text))]
 fn put_kind(slice: &mut [u8], at: usize, kind: LeafKind) -> usize
     requires { at + 11 ≤ length slice.old }
@@ -103,7 +103,7 @@ fn put_kind(slice: &mut [u8], at: usize, kind: LeafKind) -> usize
     }
 }
 
-/// Puts the type of the chroma transforms, where chroma is carried.
+/// Writes the type of the chroma transforms, if the leaf carries chroma.
 #[tactic(auto, unfolding(crate::specs::Text::uv_type_text))]
 fn put_uv_type(slice: &mut [u8], at: usize, uv_type: Option<TxType>) -> usize
     requires { at + 1 ≤ length slice.old }
@@ -118,8 +118,8 @@ fn put_uv_type(slice: &mut [u8], at: usize, uv_type: Option<TxType>) -> usize
     }
 }
 
-/// Puts the fields of a leaf before its coefficients to the front of a slice, and says how many bytes they have. What
-/// stands behind them stays.
+/// Writes the fields of a leaf before its coefficients to the front of a slice, and returns their length in bytes. The
+/// rest of the slice is unchanged.
 #[tactic(auto, using(crate::proofs::Rests::rest_later))]
 pub fn put_leading(
     slice: &mut [u8],
@@ -141,7 +141,7 @@ pub fn put_leading(
 
 // ---- coefficients
 
-// A field of one byte, one of two and one of four.
+// A field of one byte, a field of two and a field of four.
 fn three_fields(block: u8, place: u16, value: u32) -> [u8; 7]
     ensures { result ≡ byte block ++ pair place ++ quad value }
 {
@@ -150,7 +150,7 @@ fn three_fields(block: u8, place: u16, value: u32) -> [u8; 7]
     [block, low, high, a, b, c, d]
 }
 
-/// The fields of a coefficient.
+/// The bytes of a coefficient's fields.
 #[tactic(auto, unfolding(crate::specs::Text::triple_text))]
 pub fn triple_fields(triple: &Triple) -> [u8; 7]
     ensures text { result ≡ triple_text triple.now }
@@ -191,7 +191,7 @@ impl Text {
         self.copy(&triple_fields(triple))
     }
 
-    /// Writes the coefficients of a plane, their count first.
+    /// Writes the coefficients of a plane, first their count.
     #[tactic(auto, unfolding(crate::specs::Text::triples_text))]
     fn triples(&mut self, triples: &[Triple]) -> Result<(), OutOfMemory>
         requires { length triples.now < 2 ^ 16 }
@@ -206,7 +206,7 @@ impl Text {
         Ok(())
     }
 
-    /// Writes the coefficients of U and V, where chroma is carried.
+    /// Writes the coefficients of U and V, if the leaf carries chroma.
     #[tactic(auto, unfolding(crate::specs::Text::chroma_triples_text))]
     fn chroma_triples(
         &mut self,
@@ -228,7 +228,7 @@ impl Text {
         self.triples(v)
     }
 
-    /// Writes a leaf, of which these are the coefficients of Y, U and V.
+    /// Writes a leaf with its coefficients of Y, U and V.
     #[tactic(auto, unfolding(crate::specs::Text::fields_text))]
     pub fn leaf(
         &mut self,

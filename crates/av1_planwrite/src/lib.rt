@@ -1,25 +1,32 @@
-//! Plans written as bytes: the plan grammar turned round.
+//! Writes plans as bytes: the reverse of the plan grammar.
 //!
-//! [`write_plan`] gives the text of a plan, [`write_bare`] that of the same plan without its coefficients, and
-//! [`bare_plan`] reads a plan from a source and appends its text without coefficients to a sink. So a plan that was
-//! read can be handed on, and an encoder can be shown what its predictions alone come to.
+//! [`write_plan`] returns the text of a plan. [`write_bare`] returns the text of the same plan without its
+//! coefficients. [`bare_plan`] reads a plan from a source and appends its text without coefficients to a sink. So a
+//! plan that was read can be passed on, and an encoder can be shown its predictions without residuals.
 //!
-//! A [`PlanBuilder`] is filled by an encoder while it encodes, field by field, and gives a plan's text at the end.
-//! Where the bytes are kept elsewhere, a [`Progress`] says what is asked for and admitted, and [`header_fields`],
-//! [`put_planes`], [`put_leading`] and [`triple_fields`] give what is appended, and take no memory.
+//! An encoder fills a [`PlanBuilder`] field by field while it encodes. At the end the builder returns the text of the
+//! plan. If the caller keeps the bytes elsewhere, a [`Progress`] says what the plan needs and accepts. Then
+//! [`header_fields`], [`put_planes`], [`put_leading`] and [`triple_fields`] give the bytes to append, and do not
+//! allocate.
 //!
-//! It stands on `av1_plan` for the grammar and for plans in memory, and on `av1_streams` and `av1_recon` for sources,
-//! sinks and what the calls promise that read a plan and write of it.
+//! This crate uses `av1_plan` for the grammar and for plans in memory. It uses `av1_streams` and `av1_recon` for
+//! sources, sinks and the contracts of calls that read a plan and write.
 //!
-//! Promised: the text is one definition, `plan_text` (`specs/Text.antt`), in which the sizes of the leaves fix the
-//! marks. Bytes that are a plan are its text, so that writing gives back what was read, and no two inputs are the same
-//! plan. Without its coefficients a plan is a plan, and a valid one where it was valid. `bare_plan` keeps what all
-//! calls keep that read a plan and write of it (`Converts` of `av1_recon`).
+//! What the calls promise:
 //!
-//! Of a builder: unless memory runs out, a call is refused exactly where the grammar asks for another field, or an
-//! argument isn't admitted there, or the bytes would be too many; at `Ok` it appends exactly its own fields, and a
-//! refusal changes nothing. The bytes are always those of a proper list of the grammar, and those of a builder that is
-//! done are the text of the plan whose header, references and leaves were given (`specs/Building.antt`).
+//! - One definition, `plan_text` (`specs/Text.antt`), says what the text of a plan is. The sizes of the leaves decide
+//!   the marks.
+//! - Bytes that are a plan are its text. So writing gives back what was read, and no two inputs are the same plan.
+//! - Without its coefficients a plan is a plan, and a valid plan stays valid.
+//! - `bare_plan` keeps the contract of all calls that read a plan and write (`Converts` of `av1_recon`).
+//!
+//! What a builder promises, unless memory runs out:
+//!
+//! - It rejects a call exactly if the grammar needs another field, or an argument isn't valid there, or there would be
+//!   too many bytes.
+//! - At `Ok` the call appends exactly its own fields. After an error the builder is unchanged.
+//! - The bytes are always a proper list of fields of the grammar. When the builder is done, they are the text of the
+//!   plan whose header, references and leaves were given (`specs/Building.antt`).
 #![tactic(auto)]
 
 mod admitted;

@@ -1,4 +1,4 @@
-//! Writing the leaves of a plan, part by part, with the marks that the sizes of the leaves fix.
+//! Writes the leaves of a plan, part by part, with the marks that the sizes of the leaves decide.
 
 ghost use Rattle.std.specs.Prelude.{◌≡◌, ◌<◌, ◌≤◌, ◌^◌, length};
 ghost use Rattle.av1_plan.specs.Values.{plan_value, stored_leaves};
@@ -11,14 +11,14 @@ use av1_blocks::PartitionType::{self, *};
 use av1_blocks::{BlockSize, OutOfMemory};
 use av1_plan::{Header, Leaf, Part, Plan, TreeWalk, Triple};
 
-/// Whether the coefficients of leaves are written, or none.
+/// Whether the coefficients of leaves are written.
 #[derive(Copy, Clone, Debug, PartialEq, Eq)]
 pub enum Coefficients {
     Kept,
     LeftOut,
 }
 
-/// A plan that is written: the leaf that is next, and the text so far.
+/// A plan that is being written: the number of the next leaf, and the text so far.
 #[derive(Drop)]
 pub struct Writer<'a> {
     pub plan: &'a Plan,
@@ -27,7 +27,7 @@ pub struct Writer<'a> {
     pub text: Text,
 }
 
-/// How a node of side `4 << level` is cut whose first leaf has this size.
+/// How a node of `4 << level` luma samples is cut if its first leaf has this size.
 #[tactic(auto, unfolding(crate::specs::Text::cut_of, crate::specs::Text::cut_by_sides))]
 fn cut_of(level: u8, size: BlockSize) -> PartitionType
     requires { level ≤ 4 }
@@ -69,7 +69,7 @@ fn mark_of(cut: PartitionType) -> u8
     }
 }
 
-/// The coefficients of a leaf in plane `p` that are written, of which the plan has no more than so many.
+/// The coefficients of a leaf in plane `p` that are written. There are at most as many as the plan has.
 fn told_triples<'a>(
     plan: &'a Plan,
     coefficients: Coefficients,
@@ -97,7 +97,7 @@ impl<'a> Writer<'a> {
     ghost use Rattle.av1_planwrite.specs.Text.{leaf_written, next_cut, superblocks_written};
     ghost use Rattle.av1_planwrite.specs.Writing.{draft, remaining_written};
 
-    /// The next leaf, where one is left.
+    /// The next leaf, if one is left.
     fn next_leaf(&self) -> Option<Leaf>
         ensures { result ≡ slice_get (stored_leaves self.now.plan.now) self.now.next }
     {
@@ -129,7 +129,7 @@ impl<'a> Writer<'a> {
         }
     }
 
-    /// How a node of side `4 << level` is cut, by the next leaf.
+    /// How a node of `4 << level` luma samples is cut. The next leaf decides it.
     #[tactic(auto, using(crate::proofs::Left::leaves_left))]
     fn next_cut(&self, level: u8) -> PartitionType
         requires { level ≤ 4 }
@@ -143,7 +143,7 @@ impl<'a> Writer<'a> {
 
     /// Writes the next part of the walk, if one remains: the mark of a node, or a leaf.
     fn next_part(&mut self, walk: &mut TreeWalk) -> Result<bool, OutOfMemory>
-        // What is written of the parts that remain is the same before and after.
+        // The text so far and the text of the remaining parts together are unchanged.
         ensures text { OnOk result
             (remaining_written walk.old.header (remaining walk.new) (draft self.new) ≡ remaining_written walk.old.header (remaining walk.old)
             (draft self.old)) }

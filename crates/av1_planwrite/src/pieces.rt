@@ -1,9 +1,10 @@
-//! Pieces of a text, put into a slice one behind the other.
+//! Writes pieces of a text into a slice, one after the other.
 
 ghost use Rattle.std.specs.Prelude.{◌≡◌, ◌+◌, ◌++◌, ◌≤◌, length, take, drop};
 ghost use Rattle.av1_planwrite.specs.Text.{byte, pair};
 
-/// Puts bytes into a slice behind its first `at`, and says where they end. What stands before and behind them stays.
+/// Writes bytes into a slice from offset `at` on, and returns the offset of their end. The rest of the slice is
+/// unchanged.
 pub fn put(slice: &mut [u8], at: usize, bytes: &[u8]) -> usize
     requires { at + length bytes.now ≤ length slice.old }
     ensures end { result ≡ at + length bytes.now }
@@ -16,7 +17,7 @@ pub fn put(slice: &mut [u8], at: usize, bytes: &[u8]) -> usize
     at + bytes.len()
 }
 
-/// Puts a field of one byte.
+/// Writes a field of one byte.
 pub fn put_byte(slice: &mut [u8], at: usize, value: u8) -> usize
     requires { at + 1 ≤ length slice.old }
     ensures end { result ≡ at + 1 }
@@ -26,7 +27,7 @@ pub fn put_byte(slice: &mut [u8], at: usize, value: u8) -> usize
     put(slice, at, &[value])
 }
 
-/// Puts a field of two bytes, the low one first.
+/// Writes a field of two bytes, the low byte first.
 pub fn put_pair(slice: &mut [u8], at: usize, value: u16) -> usize
     requires { at + 2 ≤ length slice.old }
     ensures end { result ≡ at + 2 }

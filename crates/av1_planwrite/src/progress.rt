@@ -1,4 +1,4 @@
-//! How far a plan in the making has come, wherever its bytes go.
+//! The state of an unfinished plan, wherever its bytes are kept.
 
 ghost use Rattle.std.specs.Prelude.{◌≡◌, ◌<◌, ◌≤◌, true, length};
 ghost use Rattle.av1_planwrite.specs.Building.{admits_header, next_slot};
@@ -9,16 +9,16 @@ use crate::state::State;
 use av1_blocks::TxType;
 use av1_plan::{Header, LeafKind, Part, TreeWalk, carries_chroma, cut_by};
 
-/// What a plan in the making asks for next, by its header and the fields behind it: the planes of a slot, the mark of a
-/// node, a leaf, or nothing more. It keeps none of the bytes.
+/// What an unfinished plan needs next: the planes of a slot, the mark of a node, a leaf, or nothing more. It keeps none
+/// of the bytes.
 ///
-/// Each field has two calls. The first says why these arguments are refused, if they are. Once the bytes of a field
-/// that isn't refused stand, the second goes past it.
+/// Each field has two calls. The first says why the arguments are rejected, if they are. If they aren't, append the
+/// bytes of the field and then make the second call.
 #[derive(Drop)]
 pub struct Progress {
-    // The slot whose planes are asked for next, or 8.
+    // The slot whose planes the plan needs next, or 8.
     slot: usize,
-    // The header, and the parts that are asked for behind the planes.
+    // The header, and the parts that the plan needs after the planes.
     walk: TreeWalk,
     ghost admitted: { admits_header walk.header ≡ true },
     ghost mask: { walk.header.mask < 256 },
@@ -72,13 +72,12 @@ impl Progress {
     ghost use Rattle.av1_planwrite.specs.States.{is_state, stopped};
     ghost use Rattle.av1_planwrite.specs.Text.{header_text};
 
-    /// How far a plan of this header has come whose fields behind the header are still to be given: None where a value
-    /// of it isn't admitted.
+    /// The state of a plan that only has this header. `None` if a value of the header isn't valid.
     pub fn new(header: &Header) -> Option<Progress>
         ensures admitted { IfSome result (λ p. admits_header header.now ≡ true) }
         ensures refused { IsNone result → admits_header header.now ≡ false }
         ensures begun { IfSome result (λ p. built p (header_text header.now) ≡ begun header.now) }
-        // The bytes of the header tell of a plan just that.
+        // The bytes of the header spell the beginning of a plan with this header.
         ensures told { IfSome result (λ p. Tells (built p (header_text header.now)) (plan_begun header.now)) }
     {
         if !admits_header(header) {
@@ -90,9 +89,9 @@ impl Progress {
         })
     }
 
-    /// How far a plan of this header has come that stopped there: None where no plan of this header can stop there.
+    /// The plan with this header in this state. `None` if no plan with this header can be in this state.
     ///
-    /// Which marks led to these parts isn't asked.
+    /// The call does not test which marks led to these parts.
     #[tactic(auto, unfolding(crate::specs::States::is_state))]
     pub fn resume(header: &Header, state: &State) -> Option<Progress>
         ensures resumed { IfSome result (λ p. built p [] ≡ stopped header.now state.now) }
@@ -113,7 +112,7 @@ impl Progress {
         })
     }
 
-    /// Where the plan stops.
+    /// The state of the plan.
     pub fn state(&self) -> State
         ensures stopped { stopped (built self.now []).header result ≡ built self.now [] }
         ensures valid { is_state (built self.now []).header result ≡ true }
@@ -139,7 +138,7 @@ impl Progress {
         self.walk.header().depth
     }
 
-    /// The part that is asked for next: none while planes are.
+    /// The part that the plan needs next. `None` while it needs planes, and at its end.
     pub fn asked_part(&self) -> Option<Part>
         ensures value { result ≡ asked_part (built self.now []) }
         ensures room { IfSome result (λ p. has_room p (length (later_parts self.now.walk.parts)) ≡ true) }
@@ -151,12 +150,12 @@ impl Progress {
         }
     }
 
-    /// Whether these planes may come next.
+    /// Tests that these planes may come next.
     ///
     /// # Errors
     ///
-    /// `NotNow` where no planes are asked for. `NotAdmitted` where a plane has another number of samples, or one of
-    /// them isn't below `1 << depth`.
+    /// `NotNow` if the plan needs no planes next. `NotAdmitted` if a plane has the wrong number of samples, or one of
+    /// its samples isn't below `1 << depth`.
     #[tactic(auto, using(crate::proofs::PlaneSizes::few_in_each))]
     pub fn check_reference(&self, y: &[u16], u: &[u16], v: &[u16]) -> Result<(), BuildError>
         ensures asked { OnOk result (asks_reference (built self.now []) ≡ true) }
@@ -174,23 +173,23 @@ impl Progress {
         Ok(())
     }
 
-    /// Goes past the planes that are asked for, whose bytes stand behind the others.
+    /// Moves past the planes that the plan needs. Append their bytes first.
     pub fn pass_reference(&mut self)
         requires { asks_reference (built self.old []) ≡ true }
         ensures given { (bytes y u v : List ℕ) →
             built self.new (with_reference (built self.old bytes) y u v).bytes ≡ with_reference (built self.old bytes) y u v }
-        // What the bytes told of a plan before, they tell of it with admitted planes.
+        // If the bytes before spell a part of a plan, the bytes after spell this part with valid planes.
         ensures told { (bytes y u v : List ℕ) (p : PlanValue) → Tells (built self.old bytes) p → admits_reference (built self.old []).header y u v ≡ true
             → Tells (built self.new (with_reference (built self.old bytes) y u v).bytes) (plan_with_reference p y u v) }
     {
         self.slot = next_slot(self.walk.header(), self.slot + 1);
     }
 
-    /// Whether this mark may come next.
+    /// Tests that this mark may come next.
     ///
     /// # Errors
     ///
-    /// `NotNow` where no mark is asked for. `NotAdmitted` where the node can't have this mark.
+    /// `NotNow` if the plan needs no mark next. `NotAdmitted` if the node can't have this mark.
     pub fn check_mark(&self, mark: u8) -> Result<(), BuildError>
         ensures asked { OnOk result (asks_mark (asked_part (built self.now [])) ≡ true) }
         ensures admitted { OnOk result (admits_mark (built self.now []).header (asked_part (built self.now [])) mark ≡ true) }
@@ -206,25 +205,28 @@ impl Progress {
         Ok(())
     }
 
-    /// Goes past the mark that is asked for, whose byte stands behind the others. The parts of the node come next.
+    /// Moves past the mark that the plan needs. Append its byte first. The parts of the node come next.
     pub fn pass_mark(&mut self, mark: u8)
         requires { admits_mark (built self.old []).header (asked_part (built self.old [])) mark ≡ true }
         ensures given { (bytes : List ℕ) → built self.new (with_mark (built self.old bytes) mark).bytes ≡ with_mark (built self.old bytes) mark }
-        // What the bytes told of a plan before, they tell of it with the mark.
+        // If the bytes before spell a part of a plan, so do the bytes after.
         ensures told { (bytes : List ℕ) (p : PlanValue) → Tells (built self.old bytes) p →
             Tells (built self.new (with_mark (built self.old bytes) mark).bytes) p }
     {
         self.walk.cut(cut_by(mark));
     }
 
-    /// Whether a leaf may come next that is predicted so and has so many triples in Y, U and V.
+    /// Tests that a leaf may come next that is predicted in this way, with `y`, `u` and `v` triples in Y, U and V.
     ///
     /// # Errors
     ///
-    /// `NotNow` where no leaf is asked for. `NotAdmitted` where the chroma type or, of an intra leaf, the chroma mode
-    /// is given though the leaf carries no chroma, or is missing though it does; where it carries none and `u` or `v`
-    /// isn't 0; where a mode isn't of its kind, or a reference isn't one of LAST to ALTREF; and where a plane has more
-    /// than 65,535 triples.
+    /// `NotNow` if the plan needs no leaf next. `NotAdmitted` if one of these holds:
+    ///
+    /// - The leaf carries chroma, and its chroma type or, in an intra leaf, its chroma mode is missing.
+    /// - The leaf carries no chroma, and a chroma type or a chroma mode is given, or `u` or `v` isn't 0.
+    /// - The mode doesn't fit the kind of the leaf, or the chroma mode is not valid.
+    /// - A reference isn't one of LAST to ALTREF.
+    /// - A plane has more than 65,535 triples.
     pub fn check_leaf(
         &self,
         kind: &LeafKind,
@@ -250,7 +252,7 @@ impl Progress {
         Ok(())
     }
 
-    /// Goes past the leaf that is asked for, whose bytes stand behind the others.
+    /// Moves past the leaf that the plan needs. Append its bytes first.
     pub fn pass_leaf(&mut self)
         requires { asks_leaf (asked_part (built self.old [])) ≡ true }
         ensures { (bytes : List ℕ) (l : LeafFields) → built self.new (with_leaf (built self.old bytes) l).bytes ≡ with_leaf (built self.old bytes) l }
@@ -258,7 +260,7 @@ impl Progress {
         self.walk.pass();
     }
 
-    /// Whether a field is still asked for.
+    /// Whether the plan still needs a field.
     pub fn asks_more(&self) -> bool
         ensures { result ≡ asks_more (built self.now []) }
     {

@@ -1,4 +1,4 @@
-//! Samples of references, as bytes.
+//! Writes the samples of references as bytes.
 
 ghost use Rattle.std.specs.Prelude.{◌≡◌, ◌+◌, ◌++◌, ◌*◌, ◌^◌, ◌≤◌, length, take, drop};
 ghost use Rattle.std.specs.List.{flat_map};
@@ -7,13 +7,13 @@ ghost use Rattle.av1_planwrite.specs.Text.{sample_text, plane_text};
 use crate::text::Text;
 use av1_blocks::OutOfMemory;
 
-// The samples that are written at once.
+// The greatest number of samples that are written at once.
 const MOST_SAMPLES: usize = 512;
 
-// The bytes of these.
+// The length of these samples in bytes.
 const MOST_BYTES: usize = 2 * MOST_SAMPLES;
 
-/// Puts samples at the front of the bytes, one byte each.
+/// Writes samples to the front of the bytes, one byte each.
 fn pack_one(samples: &[u16], bytes: &mut [u8])
     requires room { length samples.now ≤ length bytes.old }
     ensures text { take (length samples.now) bytes.new ≡ flat_map (sample_text 8) samples.now }
@@ -24,7 +24,7 @@ fn pack_one(samples: &[u16], bytes: &mut [u8])
     }
 }
 
-/// Puts samples at the front of the bytes, two bytes each.
+/// Writes samples to the front of the bytes, two bytes each.
 fn pack_two(samples: &[u16], bytes: &mut [u8])
     requires room { 2 * length samples.now ≤ length bytes.old }
     ensures text { take (2 * length samples.now) bytes.new ≡ flat_map (sample_text 16) samples.now }
@@ -61,7 +61,7 @@ pub fn slot_len(depth: u8, y: &[u16], u: &[u16], v: &[u16]) -> usize
     text_len(depth, y) + text_len(depth, u) + text_len(depth, v)
 }
 
-/// Puts samples of this depth at the front of the bytes, and says how many bytes these are.
+/// Writes samples of this depth to the front of the bytes, and returns their length in bytes.
 #[tactic(auto, using(crate::proofs::Packed::lengths))]
 fn pack(depth: u8, samples: &[u16], bytes: &mut [u8]) -> usize
     requires room { length (plane_text depth samples.now) ≤ length bytes.old }
@@ -78,7 +78,7 @@ fn pack(depth: u8, samples: &[u16], bytes: &mut [u8]) -> usize
     }
 }
 
-/// Puts the samples of a plane into a slice behind its first `at`, and says where they end.
+/// Writes the samples of a plane into a slice from offset `at` on, and returns the offset of their end.
 fn put_plane(slice: &mut [u8], at: usize, depth: u8, samples: &[u16]) -> usize
     requires { at + length (plane_text depth samples.now) ≤ length slice.old }
     ensures end { result ≡ at + length (plane_text depth samples.now) }
@@ -89,7 +89,7 @@ fn put_plane(slice: &mut [u8], at: usize, depth: u8, samples: &[u16]) -> usize
     at + pack(depth, samples, free)
 }
 
-/// Puts the planes of a slot at the front of a slice, and says how many bytes they have. What stands behind them stays.
+/// Writes the planes of a slot to the front of a slice, and returns their length in bytes. The rest is unchanged.
 #[tactic(auto, using(crate::proofs::Rests::rest_later))]
 pub fn put_planes(slice: &mut [u8], depth: u8, y: &[u16], u: &[u16], v: &[u16]) -> usize
     requires { length (plane_text depth y.now ++ plane_text depth u.now ++ plane_text depth v.now) ≤ length slice.old }

@@ -1,9 +1,9 @@
-//! A text in the making: fields are written one behind the other.
+//! A text to which fields are appended, one after the other.
 
 use crate::error::BuildError;
 use av1_blocks::OutOfMemory;
 
-// The most bytes of a plan.
+// The greatest length of a plan in bytes.
 const MOST_BYTES: usize = 67_108_864;
 
 /// The bytes so far.
@@ -45,7 +45,7 @@ impl Text {
         Ok(())
     }
 
-    /// Keeps what was written behind the first bytes, or takes it back: where memory ran out, or it is too long.
+    /// Keeps what was written after the first bytes. If memory ran out or the text is too long, removes it again.
     pub fn settle(
         &mut self,
         kept: usize,

@@ -1,4 +1,4 @@
-//! Plans written whole.
+//! Writes whole plans.
 
 ghost use Rattle.std.specs.Prelude.{◌≡◌, ◌<◌, IfOk};
 ghost use Rattle.av1_plan.specs.Values.{plan_value};
@@ -19,7 +19,7 @@ impl Text {
     ghost use Rattle.av1_plan.specs.Plan.{carried_plane};
     ghost use Rattle.av1_planwrite.specs.Writing.{samples_text};
 
-    /// Writes plane `p` of a slot, where it carries planes.
+    /// Writes plane `p` of a slot, if the slot carries planes.
     fn slot_plane(&mut self, plan: &Plan, slot: usize, p: usize) -> Result<(), OutOfMemory>
         requires slot { slot < 8 }
         requires plane { p < 3 }
@@ -32,7 +32,7 @@ impl Text {
         }
     }
 
-    /// Writes the planes of a slot, where it carries planes.
+    /// Writes the planes of a slot, if the slot carries planes.
     fn slot(&mut self, plan: &Plan, slot: usize) -> Result<(), OutOfMemory>
         requires { slot < 8 }
         ensures { OnOk result (self.new.bytes.items ≡ self.old.bytes.items
@@ -56,7 +56,7 @@ impl Text {
     }
 }
 
-/// Writes a plan, with its coefficients or without.
+/// Writes a plan, with its coefficients or without them.
 #[tactic(auto, using(crate::proofs::References::told_text))]
 fn write(alloc: Global, plan: &Plan, coefficients: Coefficients) -> Result<Vec<u8>, OutOfMemory>
     ensures { IfOk result (λ bytes. bytes.items ≡ plan_text (told coefficients (plan_value plan.now))) }
@@ -79,11 +79,11 @@ fn write(alloc: Global, plan: &Plan, coefficients: Coefficients) -> Result<Vec<u
     Ok(bytes)
 }
 
-/// The text of a plan: what [`av1_plan::parse_plan`] reads as this plan.
+/// The text of a plan. [`av1_plan::parse_plan`] reads it as this plan.
 ///
 /// # Errors
 ///
-/// `OutOfMemory` where memory runs out.
+/// `OutOfMemory` if memory runs out.
 #[tactic(auto, using(crate::proofs::Spelled::written), unfolding(crate::specs::Writing::told))]
 pub fn write_plan(alloc: Global, plan: &Plan) -> Result<Vec<u8>, OutOfMemory>
     ensures text { IfOk result (λ bytes. bytes.items ≡ plan_text (plan_value plan.now)) }
@@ -97,7 +97,7 @@ pub fn write_plan(alloc: Global, plan: &Plan) -> Result<Vec<u8>, OutOfMemory>
 ///
 /// # Errors
 ///
-/// `OutOfMemory` where memory runs out.
+/// `OutOfMemory` if memory runs out.
 #[tactic(auto, using(crate::proofs::Spelled::written), unfolding(crate::specs::Writing::told))]
 pub fn write_bare(alloc: Global, plan: &Plan) -> Result<Vec<u8>, OutOfMemory>
     ensures text { IfOk result (λ bytes. bytes.items ≡ bare_text (plan_value plan.now)) }

@@ -1,4 +1,4 @@
--- How the fields of each kind of call stand in the bytes of its row, before others.
+-- The bytes of the fields of each kind of call in its row, before other bytes.
 use Rattle.std.specs.Prelude.{ℕ, List, ◌∷◌}
 use Rattle.av1_blocks.specs.Blocks.{block_number}
 use Rattle.av1_blocks.specs.Transforms.{tx_number, tx_type_number}
@@ -52,18 +52,18 @@ intra_before i others =
     two_before i.visible_columns (two_before i.visible_rows (i.left ∷ i.above ∷
     margins_before i.margins (way_number i.way ∷ four_before i.seed others))))
 
--- the same from luma
+-- a block of chroma that is predicted from luma
 abbrev pub from_luma_before : FromLuma → List ℕ → List ℕ
 from_luma_before f others =
     intra_before f.intra (signed_before f.alpha (signed_numbers_before f.drawn others))
 
--- the sides of a plane and of a tile
+-- the dimensions of a plane and of a tile
 abbrev pub sheet_before : Sheet → List ℕ → List ℕ
 sheet_before s others =
     s.halved_columns ∷ s.halved_rows ∷ two_before s.width (two_before s.height (
     two_before s.tile_x (two_before s.tile_y (two_before s.tile_width (two_before s.tile_height others)))))
 
--- the places of a transform and its block
+-- the positions of a transform and its block
 abbrev pub place_before : TransformPlace → List ℕ → List ℕ
 place_before p others =
     two_before p.x (two_before p.y (
@@ -89,7 +89,7 @@ block_before b others = block_number b.size ∷ b.x ∷ b.y ∷ others
 abbrev pub unit_before : Unit → List ℕ → List ℕ
 unit_before u others = tx_number u.size ∷ u.row ∷ u.column ∷ others
 
--- whether what is beside a transform is coded before it
+-- a call that asks whether the samples beside a transform are coded before it
 abbrev pub availability_before : Availability → List ℕ → List ℕ
 availability_before a others =
     block_before a.block (flag_before a.first (flag_before a.second (
@@ -108,7 +108,7 @@ kind_of (kinds.Edge _) = 9
 kind_of (kinds.Luma _) = 10
 kind_of (kinds.Availability _) = 11
 
--- the format of its samples; one without samples has none, and that of 8 bits stands for it
+-- the format of the call's samples; for a call without samples it is the format of 8 bits
 abbrev pub format_of : BlockCall → Format
 format_of (kinds.Network _) = Short
 format_of (kinds.Transform transform) = transform.format

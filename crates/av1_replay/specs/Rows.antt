@@ -1,4 +1,4 @@
--- How what rows have in common stands in their bytes: formats, margins, and how numbers are drawn.
+-- The bytes of fields that several kinds of rows have: formats, margins, and how numbers are drawn.
 use Rattle.std.specs.Prelude.{ℕ, List, ◌∷◌}
 use Rattle.av1_replay.specs.declared.way.Way.{Way}
 use Rattle.av1_replay.specs.declared.way.Way.TheVariants.{Any, Ends, Same}
@@ -14,7 +14,7 @@ format_number Long8 = 1
 format_number Long10 = 2
 format_number Long12 = 3
 
--- the depth of its samples
+-- the depth of the samples of a format
 abbrev pub depth_of : Format → ℕ
 depth_of Short = 8
 depth_of Long8 = 8

@@ -1,4 +1,4 @@
-//! What a call answered.
+//! The answer of a call: what it returned and wrote.
 
 ghost use Rattle.std.specs.Prelude.{◌≡◌, ◌↔◌, ◌≤◌, ℕ, List, [], length, min, IfOk, IfSome, IsTrue};
 ghost use Rattle.std.specs.List.{flat_map};
@@ -12,14 +12,14 @@ use crate::fields::Fields;
 use av1_frame::Pixel;
 use std::alloc::{AllocError, Global};
 
-/// An answer: a status, a text, and what was written, told by a digest.
+/// An answer: a status, a text, and the length and digest of what was written.
 #[derive(Drop)]
 pub struct Answer {
     pub status: u8,
     pub text: Vec<u8>,
-    /// How many bytes were written, up to the last value of a `u32`.
+    /// How many bytes were written, at most the last value of a `u32`.
     pub count: u32,
-    /// Their digest.
+    /// The digest of these bytes.
     pub sum: u32,
 }
 
@@ -36,14 +36,14 @@ impl Answer {
         }
     }
 
-    /// The answer of a call on a block with this status, which left these samples: two bytes each.
+    /// The answer of a call on a block with this status and these output samples: two bytes each.
     pub fn of_samples<T: Pixel>(alloc: Global, status: u32, samples: &[T]) -> Answer
         ensures { Tells result (min status 255) [] (flat_map (λ sample. to_le_bytes w16 (T.num sample)) samples.now) }
     {
         Answer::plain(alloc, short_status(status), digest_of(samples))
     }
 
-    /// The same of numbers of 16 bits.
+    /// The answer of a call on a block with this status and these output numbers of 16 bits: two bytes each.
     pub fn of_shorts(alloc: Global, status: u32, numbers: &[i16]) -> Answer
         ensures { Tells result (min status 255) [] (flat_map (λ number. to_le_bytes w16 (cast_unsigned w16 number)) numbers.now) }
     {
@@ -54,7 +54,7 @@ impl Answer {
         Answer::plain(alloc, short_status(status), digest)
     }
 
-    /// The same of numbers of 32 bits, of a call that refuses none.
+    /// The answer of a call that rejects nothing, with these output numbers of 32 bits: four bytes each.
     pub fn of_numbers(alloc: Global, numbers: &[i32]) -> Answer
         ensures { Tells result 0 [] (flat_map (λ number. to_le_bytes w32 (cast_unsigned w32 number)) numbers.now) }
     {
@@ -77,7 +77,7 @@ fn digest_of<T: Pixel>(samples: &[T]) -> Digest
     digest
 }
 
-// The status of a call on a block, of which there are few.
+// The status of a call on a block as a byte. All statuses are small.
 fn short_status(status: u32) -> u8
     ensures { result ≡ min status 255 }
 {
@@ -94,7 +94,7 @@ pub struct Wanted<'a> {
 }
 
 impl<'a> Wanted<'a> {
-    /// The next answer: its status, a text behind its length, the number of bytes and their digest.
+    /// Reads the next answer: its status, the length of a text and the text, the number of bytes and their digest.
     pub fn read(fields: &mut Fields<'a>) -> Option<Wanted<'a>>
         ensures found { IfSome result (λ wanted. unread fields.old ≡ wanted_before wanted (unread fields.new)) }
         ensures later { length (unread fields.new) ≤ length (unread fields.old) }
@@ -111,7 +111,7 @@ impl<'a> Wanted<'a> {
         })
     }
 
-    /// Whether it is this one.
+    /// Whether an answer is the wanted one.
     pub fn is(&self, came: &Answer) -> bool
         ensures { IsTrue result ↔ Agrees self.now came.now }
     {
@@ -121,7 +121,7 @@ impl<'a> Wanted<'a> {
             && self.sum == came.sum
     }
 
-    /// The same, in memory of its own.
+    /// The wanted answer, in memory of its own.
     pub fn to_answer(&self, alloc: Global) -> Result<Answer, AllocError>
         ensures { IfOk result (λ answer. Agrees self.now answer) }
     {

@@ -1,4 +1,4 @@
-//! Whether the samples beside a transform are coded before it.
+//! Replays calls that ask whether the samples beside a transform are coded before it.
 
 ghost use Rattle.std.specs.Prelude.{◌≡◌, ◌≤◌, [], IfSome, length};
 ghost use Rattle.av1_replay.specs.Answers.{Tells};
@@ -14,7 +14,7 @@ use av1_blocks::{BlockSize, TxSize};
 use av1_frame::{BlockOffset, TileBlockOffset};
 use std::alloc::Global;
 
-/// A block by its size and the cell that it begins at.
+/// A block: its size and the cell at which it begins.
 #[derive(Clone, Copy)]
 pub struct PlacedBlock {
     size: BlockSize,
@@ -34,7 +34,7 @@ impl PlacedBlock {
         Some(PlacedBlock { size, x, y })
     }
 
-    // The cell that it begins at.
+    // The cell at which the block begins.
     fn place(&self) -> TileBlockOffset
         ensures x { result.0.x ≡ self.now.x }
         ensures y { result.0.y ≡ self.now.y }
@@ -46,7 +46,7 @@ impl PlacedBlock {
     }
 }
 
-/// A transform by its size and the row and column of units that it begins at in its block.
+/// A transform: its size, and the row and column of units at which it begins in its block.
 #[derive(Clone, Copy)]
 pub struct Unit {
     size: TxSize,
@@ -67,7 +67,7 @@ impl Unit {
     }
 }
 
-/// A transform in a block, and what lies in the frame beside it.
+/// A transform in a block, and whether the rows and columns beside it lie in the frame.
 #[derive(Clone, Copy)]
 pub struct Availability {
     block: PlacedBlock,
@@ -81,7 +81,7 @@ pub struct Availability {
 }
 
 impl Availability {
-    /// The next one.
+    /// Reads the next call of this kind.
     pub fn read(fields: &mut Fields) -> Option<Availability>
         ensures found { IfSome result (λ asked. unread fields.old ≡ availability_before asked (unread fields.new)) }
         ensures later { length (unread fields.new) ≤ length (unread fields.old) }
@@ -102,8 +102,8 @@ impl Availability {
         })
     }
 
-    /// Its answer: whether those above right and below left are, by the tables, then both by the bits of the block's
-    /// place, a byte each.
+    /// The answer has four bytes. The first two say whether the samples above right and below left are coded before, by
+    /// the tables. The last two say the same by the bits of the block's position.
     pub fn replay(&self, alloc: Global) -> Answer
         ensures { Tells result 0 [] (available_bytes self.now) }
     {

@@ -40,12 +40,12 @@ pub enum BlockCall {
     Edge(Edge),
     /// Kind 10: luma's differences from its mean.
     Luma(DrawnLuma),
-    /// Kind 11: what is coded before a transform.
+    /// Kind 11: which samples are coded before a transform.
     Availability(Availability),
 }
 
 impl BlockCall {
-    /// The next call, of the kind of this number: 2 to 11.
+    /// Reads the next call, of the kind with this number: 2 to 11.
     pub fn read(kind: u8, fields: &mut Fields) -> Option<BlockCall>
         ensures known { IfSome result (λ call. kind ≡ kind_of call) }
         ensures found { IfSome result (λ call. unread fields.old ≡ call_before call (unread fields.new)) }
@@ -70,7 +70,7 @@ impl BlockCall {
         }
     }
 
-    /// The format of its samples. A call without samples has none, and that of 8 bits stands for it.
+    /// The format of the call's samples. For a call without samples it is the format of 8 bits.
     fn format(&self) -> Format
         ensures { result ≡ format_of self.now }
     {
@@ -87,12 +87,13 @@ impl BlockCall {
         }
     }
 
-    /// Its answer. What was written is all that the call was given to write to, two bytes for each sample or 16-bit
-    /// value, four for each value of a one-dimensional transform; of an edge it is the part that the row asks for.
+    /// Replays the call and returns its answer. The output is all that the call could write to: two bytes for each
+    /// sample or 16-bit value, four for each value of a one-dimensional transform. The output of an edge is the part
+    /// that the row asks for.
     ///
     /// # Errors
     ///
-    /// `Memory`: an allocation was refused.
+    /// `Memory`: an allocation failed.
     pub fn replay(&self, alloc: Global) -> Result<Answer, CallFault>
         ensures { IfErr result (λ fault. fault ≡ CallFault.Memory) }
     {
@@ -102,7 +103,7 @@ impl BlockCall {
         }
     }
 
-    // The same with samples of a type.
+    // Replays the call with samples of a type.
     fn replay_as<T: Called>(&self, alloc: Global) -> Result<Answer, CallFault>
         requires deep { depth_of (format_of self.now) ≤ T.Pixel.BITS }
         ensures { IfErr result (λ fault. fault ≡ CallFault.Memory) }

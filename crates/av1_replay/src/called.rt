@@ -1,4 +1,4 @@
-//! The calls on one block by the type of its samples.
+//! The calls on one block, by the type of samples.
 
 use crate::samples::Target;
 use av1_calls::{
@@ -9,17 +9,17 @@ use av1_calls::{
 };
 use av1_frame::Pixel;
 
-/// The column and row of a block in its reference: what the filters read begins with the first sample.
+/// The column and row of a block in its reference. The samples that the filters read begin with the first sample.
 pub const BEFORE: usize = 3;
 
-/// The samples of a reference, whose rows stand `stride` apart.
+/// The samples of a reference, in rows that are `stride` apart.
 #[derive(Clone, Copy)]
 pub struct Source<'a, T> {
     pub samples: &'a [T],
     pub stride: usize,
 }
 
-/// The sides of a block.
+/// The dimensions of a block.
 #[derive(Clone, Copy)]
 pub struct BlockSides<'a, T> {
     pub left: &'a [T],
@@ -27,7 +27,7 @@ pub struct BlockSides<'a, T> {
     pub above: &'a [T],
 }
 
-/// Samples that blocks are made of. Each call gives its status.
+/// Types of samples that the calls take. Each call returns its status.
 pub trait Called: Pixel {
     /// Predicts a block from a reference.
     fn put(
@@ -44,10 +44,10 @@ pub trait Called: Pixel {
     /// Averages two prepared blocks.
     fn average(to: &mut [Self], target: Target, first: &[i16], second: &[i16], depth: u8) -> u32;
 
-    /// Predicts a block from its sides.
+    /// Predicts a block from its edge.
     fn predict(to: &mut [Self], target: Target, block: &IntraBlock, sides: BlockSides<Self>) -> u32;
 
-    /// Predicts a block of chroma from its sides and luma's differences.
+    /// Predicts a block of chroma from its edge and luma's differences.
     fn predict_from_luma(
         to: &mut [Self],
         target: Target,
@@ -65,7 +65,7 @@ pub trait Called: Pixel {
         block: &EdgeBlock,
     ) -> u32;
 
-    /// Puts how far luma is from its mean.
+    /// Writes how far luma is from its mean.
     fn put_differences(
         differences: &mut [i16],
         luma: Source<Self>,

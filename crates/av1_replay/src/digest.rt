@@ -4,7 +4,7 @@ ghost use Rattle.std.specs.Prelude.{◌≡◌, ℕ, ◌-◌, ◌^◌, List, [], 
 ghost use Rattle.std.specs.Int.{to_le_bytes, w16, w32};
 ghost use Rattle.av1_replay.specs.Digest.{Holds, after_four_bits, crc32};
 
-/// What four more bits make of a remainder below 16.
+/// What four more bits add to a remainder below 16.
 const REMAINDERS: [u32; 16] = [
     0x0000_0000,
     0x1DB7_1064,
@@ -24,7 +24,7 @@ const REMAINDERS: [u32; 16] = [
     0xBDBD_F21C,
 ];
 
-/// The remainder of the bytes so far, and how many there were: CRC-32, as of zip files.
+/// A digest: the remainder of the bytes so far, and how many there were. It is CRC-32, as in zip files.
 #[derive(Clone, Copy)]
 pub struct Digest {
     sum: u32,
@@ -43,7 +43,7 @@ impl Digest {
         }
     }
 
-    /// One more byte.
+    /// Adds one more byte.
     pub fn push(&mut self, byte: u8)
         ensures { (bytes : List ℕ) → Holds self.old bytes → Holds self.new (bytes ++ byte ∷ []) }
     {
@@ -52,7 +52,7 @@ impl Digest {
         self.count = self.count.saturating_add(1);
     }
 
-    /// A number of two bytes, the low one first.
+    /// Adds a number of two bytes, the low byte first.
     pub fn push_two(&mut self, number: u16)
         ensures { (bytes : List ℕ) → Holds self.old bytes → Holds self.new (bytes ++ to_le_bytes w16 number) }
     {
@@ -61,7 +61,7 @@ impl Digest {
         self.push(high);
     }
 
-    /// A number of four bytes, the low one first.
+    /// Adds a number of four bytes, the low byte first.
     pub fn push_four(&mut self, number: u32)
         ensures { (bytes : List ℕ) → Holds self.old bytes → Holds self.new (bytes ++ to_le_bytes w32 number) }
     {
@@ -79,7 +79,7 @@ impl Digest {
         self.sum ^ u32::MAX
     }
 
-    /// How many bytes it is of, up to the last value of a `u32`.
+    /// How many bytes were added, at most the last value of a `u32`.
     pub fn count(&self) -> u32
         ensures { (bytes : List ℕ) → Holds self.now bytes → result ≡ min (length bytes) (2 ^ 32 - 1) }
     {

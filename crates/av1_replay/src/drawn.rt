@@ -1,4 +1,4 @@
-//! Numbers that a seed alone decides, so that rows are short.
+//! Draws numbers from a seed, so that rows are short.
 
 ghost use Rattle.std.specs.Prelude.{◌≡◌, ◌+◌, ◌-◌, ◌^◌, ◌<◌, ◌≤◌, All, IfOk, length, map, pos};
 ghost use Rattle.av1_dct.specs.Arithmetic.{FitsBits};
@@ -9,7 +9,7 @@ use av1_blocks::OutOfMemory;
 use av1_frame::{Coefficient, Pixel};
 use std::alloc::Global;
 
-/// Numbers by splitmix64.
+/// Numbers that splitmix64 draws.
 #[derive(Drop)]
 pub struct Numbers {
     state: u64,
@@ -36,7 +36,7 @@ impl Numbers {
         z ^ (z >> 31)
     }
 
-    // A number of so many bits, from 1 to 31: the upper ones of the next.
+    // A number of `count` bits, from 1 to 31: the upper bits of the next number.
     #[tactic(auto, using(crate::proofs::Powers::upper_below))]
     fn bits(&mut self, count: u8) -> u32
         requires some { 1 ≤ count }
@@ -48,7 +48,7 @@ impl Numbers {
         (self.next() >> (64 - count)) as u32
     }
 
-    // A number of so many bits in this way, of which all are the same one.
+    // A number of `bits` bits, drawn in this way. In the way `Same` it is `same`.
     fn in_way(&mut self, way: Way, bits: u8, same: u32) -> u32
         requires some { 1 ≤ bits }
         requires few { bits ≤ 31 }
@@ -66,7 +66,7 @@ impl Numbers {
         }
     }
 
-    // What all numbers of so many bits are, where they are all the same.
+    // A number of `bits` bits in the way `Same`, which all others repeat. In other ways 0.
     #[tactic(auto, using(std::proofs::lemmas::Nat::pow_pos))]
     fn same_for(&mut self, way: Way, bits: u8) -> u32
         requires some { 1 ≤ bits }
@@ -80,7 +80,7 @@ impl Numbers {
         }
     }
 
-    /// A sample of a depth.
+    /// Draws a sample of a depth.
     pub fn sample<T: Pixel>(&mut self, depth: u8, way: Way) -> T
         requires some { 1 ≤ depth }
         requires deep { depth ≤ T.BITS }
@@ -90,7 +90,7 @@ impl Numbers {
         sample_of(self.in_way(way, depth, same), depth)
     }
 
-    /// So many samples of a depth.
+    /// Draws `count` samples of a depth.
     pub fn samples<T: Pixel>(
         &mut self,
         alloc: Global,
@@ -112,7 +112,7 @@ impl Numbers {
         Ok(samples)
     }
 
-    /// So many numbers of so many bits in two's complement. Each is 0 unless the next number of `spare` bits is 0.
+    /// Draws `count` numbers in two's complement. Each is 0 unless the next number of `spare` bits is 0.
     pub fn signed<C: Coefficient>(
         &mut self,
         alloc: Global,
@@ -144,7 +144,7 @@ impl Numbers {
     }
 }
 
-// The greatest number of so many bits.
+// The greatest number of this many bits.
 #[tactic(auto, using(crate::proofs::Powers::power, std::proofs::lemmas::Nat::pow_pos))]
 fn greatest(bits: u8) -> u32
     requires { bits ≤ 31 }
@@ -153,7 +153,7 @@ fn greatest(bits: u8) -> u32
     (1 << bits) - 1
 }
 
-// Half of what so many bits count.
+// Half of 2 to the power of `bits`.
 #[tactic(auto, using(crate::proofs::Powers::power, crate::proofs::Powers::halves, crate::proofs::Powers::half_few))]
 fn half(bits: u8) -> u32
     requires some { 1 ≤ bits }
@@ -165,7 +165,7 @@ fn half(bits: u8) -> u32
     1 << (bits - 1)
 }
 
-// The same number with a sign.
+// The number as a signed number.
 fn with_sign(number: u32) -> i32
     requires { number < 2 ^ 31 }
     ensures { result ≡ pos number }
@@ -173,7 +173,7 @@ fn with_sign(number: u32) -> i32
     number as i32
 }
 
-// The number in two's complement that is so far above the least one of so many bits.
+// The number of `bits` bits in two's complement that is `number` above the least one.
 fn centred(number: u32, bits: u8) -> i32
     requires some { 1 ≤ bits }
     requires few { bits ≤ 20 }
@@ -185,7 +185,7 @@ fn centred(number: u32, bits: u8) -> i32
     with_sign(number) - with_sign(half)
 }
 
-// The sample of a number.
+// The number as a sample.
 fn sample_of<T: Pixel>(number: u32, depth: u8) -> T
     requires deep { depth ≤ T.BITS }
     requires within { number < 2 ^ depth }
@@ -194,7 +194,7 @@ fn sample_of<T: Pixel>(number: u32, depth: u8) -> T
     T::from_u32(number)
 }
 
-// The coefficient of a number.
+// The number as a coefficient.
 fn coefficient_of<C: Coefficient>(number: i32, bits: u8) -> C
     requires some { 1 ≤ bits }
     requires fit { bits ≤ C.BITS }

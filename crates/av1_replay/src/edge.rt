@@ -1,4 +1,4 @@
-//! Edges of transforms, prepared from drawn planes.
+//! Replays calls that prepare edges of transforms, from drawn planes.
 
 ghost use Rattle.std.specs.Prelude.{◌≤◌};
 
@@ -12,10 +12,10 @@ use crate::way::Way;
 use av1_calls::{EDGE_SAMPLES, EdgeBlock, EdgePlane};
 use std::alloc::Global;
 
-/// How many samples of an edge stand before its corner.
+/// How many samples of an edge precede its corner.
 const HALF: usize = 128;
 
-/// The sides of a plane and of a tile of it.
+/// The dimensions of a plane and of one of its tiles, in samples.
 #[derive(Clone, Copy)]
 pub struct Sheet {
     halved_columns: u8,
@@ -63,7 +63,7 @@ impl Sheet {
     }
 }
 
-/// Where a transform stands in its tile, its block in the tile, and the transform in the block.
+/// The positions of a transform in its tile, of its block in the tile, and of the transform in the block.
 #[derive(Clone, Copy)]
 pub struct TransformPlace {
     x: u16,
@@ -100,7 +100,7 @@ impl TransformPlace {
     }
 }
 
-/// A transform of a drawn plane, whose edge is prepared, and how many samples of the edge are compared.
+/// A transform of a drawn plane whose edge is prepared, and how many samples of the edge are compared.
 #[derive(Clone, Copy)]
 pub struct Edge {
     pub(crate) format: Format,
@@ -126,7 +126,8 @@ impl Edge {
     ghost use Rattle.av1_replay.specs.Fields.{unread};
     ghost use Rattle.av1_replay.specs.Rows.{depth_of};
 
-    /// The next one: a plane of at most 512 columns and rows, and at most 128 samples of either side.
+    /// Reads the next call of this kind. The plane has at most 512 columns and rows, and either side at most 128
+    /// samples.
     pub fn read(fields: &mut Fields) -> Option<Edge>
         ensures found { IfSome result (λ edge. unread fields.old ≡ edge_before edge (unread fields.new)) }
         ensures later { length (unread fields.new) ≤ length (unread fields.old) }
@@ -164,7 +165,7 @@ impl Edge {
         })
     }
 
-    // Where the plane's visible samples stand among those that are drawn.
+    // The position of the plane's visible samples among the drawn samples.
     fn target(&self) -> Target
         ensures few { result.count ≤ 783874 }
     {
@@ -208,7 +209,7 @@ impl Edge {
         }
     }
 
-    /// Its answer: of 257 samples that were 1 before, those of the edge's left side, its corner, and those above.
+    /// The answer: the edge's left side, its corner and the side above, out of 257 samples that were 1 before the call.
     pub fn replay_as<T: Called>(&self, alloc: Global) -> Result<Answer, CallFault>
         requires deep { depth_of self.now.format ≤ T.Pixel.BITS }
         ensures { IfErr result (λ fault. fault ≡ CallFault.Memory) }

@@ -1,4 +1,4 @@
-//! Why a call was not made.
+//! Why a call was not replayed.
 
 ghost use Rattle.std.specs.Prelude.{◌≡◌};
 ghost use Rattle.av1_replay.specs.declared.error.CallFault.TheVariants.{Memory};
@@ -6,12 +6,12 @@ ghost use Rattle.av1_replay.specs.declared.error.CallFault.TheVariants.{Memory};
 use av1_blocks::OutOfMemory;
 use std::alloc::{AllocError, AllocFailed};
 
-/// Why a call was not made.
+/// Why a call was not replayed.
 #[derive(Clone, Copy, Debug, PartialEq, Eq)]
 pub enum CallFault {
-    /// Its arguments name none.
+    /// Its arguments are not valid.
     Malformed,
-    /// An allocation was refused.
+    /// An allocation failed.
     Memory,
 }
 

@@ -1,8 +1,8 @@
-//! The fields of rows.
+//! Reads the fields of rows.
 
-/// What is left of the bytes, read field by field from the front. Numbers stand with their low byte first.
+/// The rest of the bytes, read field by field from the front. The low byte of a number comes first.
 ///
-/// Each reading gives `None` where too few bytes are left for it.
+/// Each read returns `None` if too few bytes are left.
 #[derive(Drop)]
 pub struct Fields<'a> {
     left: &'a [u8],
@@ -33,7 +33,7 @@ impl<'a> Fields<'a> {
         self.left.is_empty()
     }
 
-    /// So many bytes.
+    /// Reads this many bytes.
     pub fn bytes(&mut self, count: usize) -> Option<&'a [u8]>
         ensures found { IfSome result (λ front. unread self.old ≡ front.now ++ unread self.new) }
         ensures counted { IfSome result (λ front. length front.now ≡ count) }
@@ -45,7 +45,7 @@ impl<'a> Fields<'a> {
         Some(front)
     }
 
-    /// A byte.
+    /// Reads a byte.
     pub fn byte(&mut self) -> Option<u8>
         ensures found { IfSome result (λ byte. unread self.old ≡ byte ∷ unread self.new) }
         ensures lacks { IfNone result (Lacks 1 (unread self.old) (unread self.new)) }
@@ -60,7 +60,7 @@ impl<'a> Fields<'a> {
         }
     }
 
-    /// A byte that is 0 or 1.
+    /// Reads a byte that is 0 or 1.
     pub fn flag(&mut self) -> Option<bool>
         ensures found { IfSome result (λ flag. unread self.old ≡ flag_before flag (unread self.new)) }
         ensures later { length (unread self.new) ≤ length (unread self.old) }
@@ -72,7 +72,7 @@ impl<'a> Fields<'a> {
         }
     }
 
-    /// A number from -128 to 127 in two's complement.
+    /// Reads a number from -128 to 127 in two's complement.
     pub fn signed(&mut self) -> Option<i8>
         ensures found { IfSome result (λ number. unread self.old ≡ signed_before number (unread self.new)) }
         ensures lacks { IfNone result (Lacks 1 (unread self.old) (unread self.new)) }
@@ -81,7 +81,7 @@ impl<'a> Fields<'a> {
         Some(self.byte()?.cast_signed())
     }
 
-    /// A number of two bytes.
+    /// Reads a number of two bytes.
     pub fn two(&mut self) -> Option<u16>
         ensures found { IfSome result (λ number. unread self.old ≡ two_before number (unread self.new)) }
         ensures lacks { IfNone result (Lacks 2 (unread self.old) (unread self.new)) }
@@ -97,7 +97,7 @@ impl<'a> Fields<'a> {
         }
     }
 
-    /// A number of four bytes.
+    /// Reads a number of four bytes.
     pub fn four(&mut self) -> Option<u32>
         ensures found { IfSome result (λ number. unread self.old ≡ four_before number (unread self.new)) }
         ensures lacks { IfNone result (Lacks 4 (unread self.old) (unread self.new)) }
@@ -113,7 +113,7 @@ impl<'a> Fields<'a> {
         }
     }
 
-    /// A number of four bytes, and so many bytes.
+    /// Reads a number of four bytes, and then this many bytes.
     pub fn part(&mut self) -> Option<&'a [u8]>
         ensures found { IfSome result (λ part. unread self.old ≡ part_before part.now (unread self.new)) }
         ensures later { length (unread self.new) ≤ length (unread self.old) }
@@ -122,7 +122,7 @@ impl<'a> Fields<'a> {
         self.bytes(count as usize)
     }
 
-    /// A number of one byte, and so many bytes.
+    /// Reads a number of one byte, and then this many bytes.
     pub fn short_part(&mut self) -> Option<&'a [u8]>
         ensures short { IfSome result (λ part. length part.now < 256) }
         ensures found { IfSome result (λ part. unread self.old ≡ short_part_before part.now (unread self.new)) }

@@ -1,4 +1,4 @@
-//! Prediction by intra modes from drawn sides.
+//! Replays prediction by intra modes, from drawn edges.
 
 ghost use Rattle.std.specs.Prelude.{◌≡◌, ◌≤◌, IfErr, IfSome, length};
 ghost use Rattle.av1_replay.specs.Fields.{unread};
@@ -15,7 +15,7 @@ use av1_blocks::TxSize;
 use av1_calls::IntraBlock;
 use std::alloc::Global;
 
-/// A block that is predicted from drawn sides, and where it stands in drawn samples.
+/// A block that is predicted from drawn sides, and its position in drawn samples.
 #[derive(Clone, Copy)]
 pub struct Intra {
     pub(crate) format: Format,
@@ -35,7 +35,7 @@ pub struct Intra {
     seed: u32,
 }
 
-// The sides of a block, and the samples that it stands in.
+// The sides of a block, and the samples that contain it.
 #[derive(Drop)]
 struct Drawn<T> {
     left: Vec<T>,
@@ -47,7 +47,7 @@ struct Drawn<T> {
 impl Intra {
     ghost use Rattle.av1_replay.specs.Calls.{intra_before};
 
-    /// The next one.
+    /// Reads the next call of this kind.
     pub fn read(fields: &mut Fields) -> Option<Intra>
         ensures found { IfSome result (λ intra. unread fields.old ≡ intra_before intra (unread fields.new)) }
         ensures later { length (unread fields.new) ≤ length (unread fields.old) }
@@ -90,7 +90,7 @@ impl Intra {
         self.margins.round(self.size.width(), self.size.height())
     }
 
-    // What is drawn for it: the left side, the corner, the side above, the samples.
+    // Draws the left side, the corner, the side above and the samples.
     fn draw<T: Called>(&self, alloc: Global, numbers: &mut Numbers) -> Result<Drawn<T>, CallFault>
         requires deep { depth_of self.now.format ≤ T.Pixel.BITS }
         ensures { IfErr result (λ fault. fault ≡ CallFault.Memory) }
@@ -108,7 +108,7 @@ impl Intra {
         })
     }
 
-    /// Its answer: all samples.
+    /// The answer: all samples.
     pub fn replay_as<T: Called>(&self, alloc: Global) -> Result<Answer, CallFault>
         requires deep { depth_of self.now.format ≤ T.Pixel.BITS }
         ensures { IfErr result (λ fault. fault ≡ CallFault.Memory) }
@@ -125,7 +125,7 @@ impl Intra {
     }
 }
 
-/// Chroma from luma: such a block, and drawn differences of luma.
+/// Chroma from luma: a block that is predicted from drawn sides, and drawn differences of luma.
 #[derive(Clone, Copy)]
 pub struct FromLuma {
     pub(crate) intra: Intra,
@@ -137,7 +137,7 @@ pub struct FromLuma {
 impl FromLuma {
     ghost use Rattle.av1_replay.specs.Calls.{from_luma_before};
 
-    /// The next one. Differences have at most 16 bits.
+    /// Reads the next call of this kind. Differences have at most 16 bits.
     pub fn read(fields: &mut Fields) -> Option<FromLuma>
         ensures found { IfSome result (λ from_luma. unread fields.old ≡ from_luma_before from_luma (unread fields.new)) }
         ensures later { length (unread fields.new) ≤ length (unread fields.old) }
@@ -155,7 +155,7 @@ impl FromLuma {
         })
     }
 
-    /// Its answer: all samples.
+    /// The answer: all samples.
     pub fn replay_as<T: Called>(&self, alloc: Global) -> Result<Answer, CallFault>
         requires deep { depth_of self.now.intra.format ≤ T.Pixel.BITS }
         ensures { IfErr result (λ fault. fault ≡ CallFault.Memory) }

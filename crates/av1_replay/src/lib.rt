@@ -1,16 +1,15 @@
-//! Recorded calls on one block, made again, and what they answer.
+//! Replays recorded calls on one block.
 //!
-//! A row is a call and the answer that it gave elsewhere. The crate reads the fields of a row ([`Fields`]), makes the
-//! call ([`BlockCall`]) and tells its answer ([`Answer`]) by a status and a digest of what was written ([`Digest`]),
-//! which is compared with the answer that is wanted ([`Wanted`]). To the crate above it promises:
+//! A row is a call and the answer that it gave elsewhere. The crate reads the fields of a row ([`Fields`]) and replays
+//! the call ([`BlockCall`]). The answer ([`Answer`]) is a status and a digest of what was written ([`Digest`]). It is
+//! compared with the answer that the row wants ([`Wanted`]). What the crate promises:
 //!
-//! - a call is read from exactly the bytes that spell it (`specs/Calls.antt`), and a wanted answer from those that
-//!   spell it;
-//! - drawn samples and numbers are those of `specs/Drawn.antt`, so many as were asked for, each within its bits;
-//! - a digest is the CRC-32 of the bytes that were put into it (`specs/Digest.antt`);
-//! - an answer agrees with a wanted one exactly where the status, the text, the number of bytes and the digest are the
-//!   same;
-//! - no call fails but for memory that was refused.
+//! - A call and a wanted answer are read from exactly the bytes that spell them (`specs/Calls.antt`).
+//! - Drawn samples and numbers are those of `specs/Drawn.antt`. There are as many as requested, each within its bits.
+//! - A digest is the CRC-32 of the bytes that were added to it (`specs/Digest.antt`).
+//! - An answer agrees with a wanted answer exactly if the status, the text, the number of bytes and the digest are the
+//!   same.
+//! - A call only fails if an allocation fails.
 #![tactic(auto)]
 
 mod answer;

@@ -1,4 +1,4 @@
-//! How far drawn luma is from its mean.
+//! Replays calls that give how far drawn luma is from its mean.
 
 ghost use Rattle.std.specs.Prelude.{◌≡◌, ◌≤◌, length, IfErr, IfSome};
 ghost use Rattle.av1_replay.specs.Calls.{luma_before};
@@ -16,7 +16,7 @@ use av1_blocks::BlockSize;
 use av1_calls::CflBlock;
 use std::alloc::Global;
 
-/// How many values stand behind those of a block.
+/// How many values follow the block's own values.
 const BEHIND: usize = 4;
 
 /// A block of chroma, and drawn luma over it.
@@ -34,7 +34,7 @@ pub struct DrawnLuma {
 }
 
 impl DrawnLuma {
-    /// The next one.
+    /// Reads the next call of this kind.
     pub fn read(fields: &mut Fields) -> Option<DrawnLuma>
         ensures found { IfSome result (λ luma. unread fields.old ≡ luma_before luma (unread fields.new)) }
         ensures later { length (unread fields.new) ≤ length (unread fields.old) }
@@ -71,7 +71,7 @@ impl DrawnLuma {
         }
     }
 
-    // The sides of the block, which are 0 where no size has its number.
+    // The dimensions of the block, which are 0 if no size has its number.
     fn sides(&self) -> (usize, usize)
         ensures { (result.0 ≤ 128) × (result.1 ≤ 128) }
     {
@@ -81,8 +81,8 @@ impl DrawnLuma {
         }
     }
 
-    /// Its answer: all values, of which 4 stand behind the block's, and that were 77 before. A decimation that is none
-    /// is refused, and luma is then drawn as for a decimation of 1.
+    /// The answer: all values, including the 4 that follow the block's own. All values were 77 before the call. The
+    /// call rejects an invalid decimation. Luma is then drawn as for a decimation of 1.
     #[tactic(auto, using(crate::proofs::Rectangles::bytes_few))]
     pub fn replay_as<T: Called>(&self, alloc: Global) -> Result<Answer, CallFault>
         requires deep { depth_of self.now.format ≤ T.Pixel.BITS }

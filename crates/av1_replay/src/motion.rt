@@ -1,4 +1,4 @@
-//! Prediction from references.
+//! Replays prediction from references.
 
 ghost use Rattle.std.specs.Prelude.{◌≡◌, ◌+◌, ◌≤◌, IfErr, IfSome, length};
 ghost use Rattle.av1_replay.specs.Fields.{unread};
@@ -15,13 +15,13 @@ use av1_blocks::OutOfMemory;
 use av1_calls::{MotionBlock, RAV1E_SHARP, SHARP};
 use std::alloc::Global;
 
-/// How many more columns and rows than the block has are read: 3 before it, and 4 behind.
+/// How many more columns and rows than the block's own are read: 3 before the block, and 4 after it.
 const ROUND: usize = 7;
 
-/// How many values stand behind those of a prepared block.
+/// How many values follow the values of a prepared block.
 const BEHIND: usize = 4;
 
-/// The number by which a call knows a filter of rav1e. What isn't one of its four stays none.
+/// The number that a call has for one of rav1e's filters. A number that is not one of rav1e's four stays invalid.
 fn filter_of(number: u8) -> u8 {
     match number {
         SHARP => RAV1E_SHARP,
@@ -47,7 +47,7 @@ pub struct Reference {
 impl Reference {
     ghost use Rattle.av1_replay.specs.Calls.{reference_before};
 
-    /// The next one.
+    /// Reads the next call of this kind.
     pub fn read(fields: &mut Fields) -> Option<Reference>
         ensures found { IfSome result (λ reference. unread fields.old ≡ reference_before reference (unread fields.new)) }
         ensures later { length (unread fields.new) ≤ length (unread fields.old) }
@@ -85,14 +85,14 @@ impl Reference {
         }
     }
 
-    // How far the rows of its samples stand apart.
+    // The distance between the starts of two rows, in samples.
     fn stride(&self) -> usize
         ensures { result ≡ self.now.width + 7 }
     {
         usize::from(self.width) + ROUND
     }
 
-    // All samples that are read for it.
+    // All samples that are read for the block.
     #[tactic(auto, using(crate::proofs::Rectangles::bytes_few))]
     fn samples<T: Called>(
         &self,
@@ -105,7 +105,7 @@ impl Reference {
         numbers.samples(alloc, count, self.format.depth(), self.way)
     }
 
-    /// The answer of its preparing: all values, of which 4 stand behind the block's.
+    /// The answer of a call that prepares the block: all values, including the 4 that follow the block's own.
     #[tactic(auto, using(crate::proofs::Rectangles::bytes_few))]
     pub fn prepare_as<T: Called>(&self, alloc: Global) -> Result<Answer, CallFault>
         requires deep { depth_of self.now.format ≤ T.Pixel.BITS }
@@ -122,7 +122,7 @@ impl Reference {
         Ok(Answer::of_shorts(alloc, status, &values))
     }
 
-    /// The answer of its prediction into drawn samples with these margins: all of them.
+    /// The answer of a call that predicts the block into drawn samples with these margins: all samples.
     pub fn put_as<T: Called>(&self, alloc: Global, margins: Margins) -> Result<Answer, CallFault>
         requires deep { depth_of self.now.format ≤ T.Pixel.BITS }
         ensures { IfErr result (λ fault. fault ≡ CallFault.Memory) }
@@ -141,7 +141,7 @@ impl Reference {
     }
 }
 
-/// Two blocks of drawn values, whose average goes into drawn samples.
+/// Two blocks of drawn values, whose average is written to drawn samples.
 #[derive(Clone, Copy)]
 pub struct Average {
     pub(crate) format: Format,
@@ -156,7 +156,7 @@ pub struct Average {
 impl Average {
     ghost use Rattle.av1_replay.specs.Calls.{average_before};
 
-    /// The next one. Values have at most 16 bits.
+    /// Reads the next call of this kind. Values have at most 16 bits.
     pub fn read(fields: &mut Fields) -> Option<Average>
         ensures found { IfSome result (λ average. unread fields.old ≡ average_before average (unread fields.new)) }
         ensures later { length (unread fields.new) ≤ length (unread fields.old) }
@@ -180,7 +180,7 @@ impl Average {
         })
     }
 
-    /// Its answer: all samples.
+    /// The answer: all samples.
     #[tactic(auto, using(crate::proofs::Rectangles::bytes_few))]
     pub fn replay_as<T: Called>(&self, alloc: Global) -> Result<Answer, CallFault>
         requires deep { depth_of self.now.format ≤ T.Pixel.BITS }

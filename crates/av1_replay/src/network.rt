@@ -1,4 +1,4 @@
-//! One-dimensional transforms.
+//! Replays one-dimensional transforms.
 
 ghost use Rattle.std.specs.Prelude.{◌≡◌, ◌≤◌, All, IfErr, IfSome, length};
 ghost use Rattle.av1_dct.specs.Arithmetic.{FitsBits};
@@ -16,7 +16,7 @@ use av1_itx::{
 };
 use std::alloc::Global;
 
-/// The most values of a transform.
+/// The greatest number of values of a transform.
 const MOST: usize = 64;
 
 /// A one-dimensional transform of drawn values.
@@ -34,7 +34,7 @@ pub struct Network {
 impl Network {
     ghost use Rattle.av1_replay.specs.Calls.{network_before};
 
-    /// The next one. Values have at most as many bits as the range, which is from 8 to 20.
+    /// Reads the next call of this kind. The range is from 8 to 20 bits, and values have at most as many bits.
     pub fn read(fields: &mut Fields) -> Option<Network>
         ensures found { IfSome result (λ network. unread fields.old ≡ network_before network (unread fields.new)) }
         ensures later { length (unread fields.new) ≤ length (unread fields.old) }
@@ -54,7 +54,7 @@ impl Network {
         })
     }
 
-    /// Its answer: 64 numbers, of which those behind its length stay -1.
+    /// The answer: 64 numbers. Numbers past the transform's length stay -1.
     pub fn replay(&self, alloc: Global) -> Result<Answer, CallFault>
         ensures { IfErr result (λ fault. fault ≡ CallFault.Memory) }
     {

@@ -49,7 +49,7 @@ impl Format {
     }
 }
 
-/// Where a rectangle stands in samples: `x` columns and `y` rows stand before it, and `behind` columns behind.
+/// The position of a rectangle in samples: `x` columns and `y` rows precede it, and `behind` columns follow it.
 #[derive(Clone, Copy, Debug, PartialEq, Eq)]
 pub struct Margins {
     pub x: u8,
@@ -58,7 +58,7 @@ pub struct Margins {
 }
 
 impl Margins {
-    /// The next margins.
+    /// Reads the next margins.
     pub fn read(fields: &mut Fields) -> Option<Margins>
         ensures found { IfSome result (λ margins. unread fields.old ≡ margins_before margins (unread fields.new)) }
         ensures later { length (unread fields.new) ≤ length (unread fields.old) }
@@ -69,7 +69,7 @@ impl Margins {
         Some(Margins { x, y, behind })
     }
 
-    /// The rectangle of so many columns and rows, at most 512, with these margins.
+    /// The rectangle of these dimensions, at most 512, with these margins round it.
     #[tactic(auto, using(crate::proofs::Rectangles::places_few))]
     pub fn round(self, width: usize, height: usize) -> Target
         requires width { width ≤ 512 }
@@ -94,11 +94,11 @@ impl Margins {
     }
 }
 
-/// A rectangle of samples whose rows stand `stride` apart.
+/// A rectangle of samples whose rows are `stride` apart.
 #[derive(Clone, Copy, Debug, PartialEq, Eq)]
 pub struct Target {
     pub area: StoredArea,
     pub stride: usize,
-    /// How many samples there are.
+    /// How many samples there are in all.
     pub count: usize,
 }

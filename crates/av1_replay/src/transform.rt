@@ -1,4 +1,4 @@
-//! Inverse transforms of blocks.
+//! Replays inverse transforms of blocks.
 
 ghost use Rattle.std.specs.Prelude.{◌≡◌, true, ◌+◌, ◌≤◌, IfErr, IfSome, IsTrue, length};
 ghost use Rattle.av1_blocks.specs.Transforms.{valid_av1_transform};
@@ -18,7 +18,7 @@ use av1_frame::{Coefficient, Pixel};
 use av1_itx::{TxScratch, inverse_transform_add_to};
 use std::alloc::Global;
 
-/// The residue of drawn coefficients, added to drawn samples.
+/// The residual of drawn coefficients, added to drawn samples.
 #[derive(Clone, Copy)]
 pub struct DrawnTransform {
     size: TxSize,
@@ -35,7 +35,8 @@ pub struct DrawnTransform {
 impl DrawnTransform {
     ghost use Rattle.av1_replay.specs.Calls.{transform_before};
 
-    /// The next one: a type that its size has, and coefficients of at most 8 bits more than the depth.
+    /// Reads the next call of this kind. Its size has the type, and coefficients have at most 8 bits more than the
+    /// depth.
     #[tactic(auto, using(crate::proofs::Numbered::size_numbered, crate::proofs::Numbered::type_numbered))]
     pub fn read(fields: &mut Fields) -> Option<DrawnTransform>
         ensures found { IfSome result (λ transform. unread fields.old ≡ transform_before transform (unread fields.new)) }
@@ -60,7 +61,7 @@ impl DrawnTransform {
         })
     }
 
-    /// Its answer: all samples.
+    /// The answer: all samples.
     pub fn replay_as<T: Pixel>(&self, alloc: Global) -> Result<Answer, CallFault>
         requires deep { depth_of self.now.format ≤ T.BITS }
         ensures { IfErr result (λ fault. fault ≡ CallFault.Memory) }
@@ -85,7 +86,7 @@ impl DrawnTransform {
     }
 }
 
-// Whether transforms of the size have this type.
+// Whether the size has an inverse transform of this type.
 fn has_type(size: TxSize, kind: TxType) -> bool
     ensures valid { result ≡ true → IsTrue (valid_av1_transform size kind) }
     ensures lossless { result ≡ true → kind ≡ WHT_WHT → size ≡ TX_4X4 }

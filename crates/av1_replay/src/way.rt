@@ -1,17 +1,17 @@
-//! In which way numbers are drawn.
+//! The ways to draw numbers.
 
 ghost use Rattle.std.specs.Prelude.{◌≤◌};
 
 use crate::fields::Fields;
 
-/// How numbers are drawn.
+/// A way to draw numbers.
 #[derive(Clone, Copy, Debug, PartialEq, Eq)]
 pub enum Way {
-    /// Each is any number of its range.
+    /// Each is an arbitrary number of its range.
     Any,
     /// Each is the least or the greatest of its range.
     Ends,
-    /// All are the same one of the range.
+    /// All are the same number of the range.
     Same,
 }
 
@@ -20,7 +20,7 @@ impl Way {
     ghost use Rattle.av1_replay.specs.Fields.{unread};
     ghost use Rattle.av1_replay.specs.Rows.{way_number};
 
-    /// The next way, by its number.
+    /// The next way, from its number.
     pub fn read(fields: &mut Fields) -> Option<Way>
         ensures found { IfSome result (λ way. unread fields.old ≡ way_number way ∷ unread fields.new) }
         ensures later { length (unread fields.new) ≤ length (unread fields.old) }
@@ -39,9 +39,9 @@ impl Way {
 pub struct Signed {
     /// How many bits they have, from 1 to 20.
     pub bits: u8,
-    /// In which way.
+    /// The way to draw them.
     pub way: Way,
-    /// So many bits, at most 16, that are all 0 where a number is drawn.
+    /// How many more bits decide whether a number is drawn, at most 16. If they aren't all 0, the number is 0.
     pub spare: u8,
     ghost some_bits: { 1 ≤ bits },
     ghost few_bits: { bits ≤ 20 },
@@ -53,7 +53,7 @@ impl Signed {
     ghost use Rattle.av1_replay.specs.Fields.{unread};
     ghost use Rattle.av1_replay.specs.Rows.{signed_numbers_before};
 
-    /// How the next signed numbers are drawn.
+    /// Reads how the next signed numbers are drawn.
     pub fn read(fields: &mut Fields) -> Option<Signed>
         ensures found { IfSome result (λ drawn. unread fields.old ≡ signed_numbers_before drawn (unread fields.new)) }
         ensures later { length (unread fields.new) ≤ length (unread fields.old) }

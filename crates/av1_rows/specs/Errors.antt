@@ -1,4 +1,4 @@
--- The error that reading ends with.
+-- The error for each error of reading.
 use Rattle.av1_streams.specs.declared.read.ReadError.{ReadError}
 use Rattle.av1_streams.specs.declared.read.ReadError.TheVariants as reading
 use Rattle.av1_rows.specs.declared.error.RowsError.{RowsError}

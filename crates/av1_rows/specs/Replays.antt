@@ -12,7 +12,7 @@ use Rattle.av1_rows.specs.Tallies.{counts_of}
 
 -- ---- errors
 
--- what an error blames
+-- the cause of an error
 abbrev pub cause : RowsError → Cause
 cause ReadFault = read_failed
 cause TooLong = too_long
@@ -21,8 +21,8 @@ cause (Malformed row) = refused
 cause Memory = no_memory
 cause WriteFault = write_failed
 
--- Why bytes are refused: they are too long, don't begin as a file does, or begin so with rows that were replayed, as
--- many as the number that is told, behind which stands what was not. Other errors say nothing of the bytes.
+-- Why bytes are rejected. They are too long, or don't begin like a file. Or they begin like a file with `row` rows that
+-- were replayed, and then have other bytes. The other errors say nothing of the bytes.
 abbrev pub Refuses : RowsError → List ℕ → Type 0
 Refuses TooLong bytes = max_plan_bytes < length bytes
 Refuses NoRows bytes = take 4 bytes ≢ magic
@@ -32,13 +32,13 @@ Refuses ReadFault bytes = ⊤
 Refuses Memory bytes = ⊤
 Refuses WriteFault bytes = ⊤
 
--- ---- answers
+-- ---- results
 
 -- whether all rows agree, or why they were not replayed
 abbrev pub Answer : Type 0
 Answer = Result Bool RowsError
 
--- the exit status of an answer
+-- the exit status of a result
 abbrev pub status_of : Answer → ℕ
 status_of (Ok true) = 0
 status_of (Ok false) = 1
@@ -53,7 +53,7 @@ error_line (Malformed row) = codes "malformed row " ++ decimal row ++ codes "\n"
 error_line Memory = codes "out of memory\n"
 error_line WriteFault = codes "write fault\n"
 
--- the line for an answer, none for rows that were replayed
+-- the line for a result, none if the rows were replayed
 abbrev pub line_of : Answer → List ℕ
 line_of (Ok agree) = []
 line_of (Err e) = error_line e

@@ -1,10 +1,10 @@
--- What is written of rows.
+-- The report on rows.
 use Rattle.std.specs.Prelude.{ℕ, zero, suc, List, [], ◌++◌, Option, Some, None, get_or, codes, decimal, ◌==◌}
 use Rattle.std.specs.Prelude.{if◌then◌else◌}
 use Rattle.av1_rows.specs.Rows.{Told, Replayed, kinds}
 use Rattle.av1_rows.specs.Tallies.{Counts, Differs, counts_of}
 
--- what a kind is called
+-- the name of a kind
 unfoldable pub kind_text : ℕ → List ℕ
 kind_text kind =
     if kind == 0 then codes "program"
@@ -31,7 +31,7 @@ lines_below counts zero = []
 lines_below counts (suc kind) =
     lines_below counts kind ++ kind_line kind (get_or counts.rows kind 0) (get_or counts.differ kind 0)
 
--- the line of the first row that differs, and those of an answer: what came, or what was wanted
+-- the line of the first row that differs, and the lines of its answer and of the wanted answer
 abbrev pub row_line : Differs → List ℕ
 row_line first = codes "first row that differs: " ++ decimal first.row ++ codes ", " ++ kind_text first.kind
     ++ codes "\n"
@@ -44,16 +44,16 @@ numbers_text name told = name ++ codes " status " ++ decimal told.status ++ code
 abbrev pub answer_text : List ℕ → Told → List ℕ
 answer_text name told = numbers_text name told ++ told.text ++ codes "\n"
 
--- what is written of the first row that differs, nothing where there is none
+-- the lines on the first row that differs, none if no row does
 abbrev pub first_text : Option Differs → List ℕ
 first_text None = []
 first_text (Some first) = row_line first ++ answer_text (codes "came") first.came
     ++ answer_text (codes "wanted") first.wanted
 
--- what is written of counts: a line for each kind, and the first row that differs
+-- the report of counts: a line for each kind, and the first row that differs
 abbrev pub report_text : Counts → List ℕ
 report_text counts = lines_below counts kinds ++ first_text counts.first
 
--- what is written of rows
+-- the report of rows
 abbrev pub report : List Replayed → List ℕ
 report rows = report_text (counts_of rows)

@@ -1,4 +1,4 @@
--- What a file of rows is, and what it is to have replayed one.
+-- The format of a file of rows, and replayed rows.
 use Rattle.std.specs.Prelude.{◌≡◌, ◌↔◌, ℕ, ◌<◌, List, [], ◌∷◌, ◌++◌, Bool, IsTrue, All, flat_map, codes}
 use Rattle.av1_replay.specs.Answers.{wanted_before}
 use Rattle.av1_replay.specs.Calls.{call_before, kind_of}
@@ -26,11 +26,11 @@ abbrev pub fields_before : Call → List ℕ → List ℕ
 fields_before (Run r) others = run_before r others
 fields_before (Block call) others = call_before call others
 
--- what follows the length of a row: the fields of its call, and the answer that it wants
+-- the bytes after the length of a row: the fields of its call, and the wanted answer
 abbrev pub body : Row → List ℕ
 body row = fields_before row.call (wanted_before row.wanted [])
 
--- a row, before other bytes: the number of its kind, how many bytes follow in four bytes, and these
+-- a row, before other bytes: the number of its kind, the number of bytes that follow, in four bytes, and then these
 abbrev pub row_before : Row → List ℕ → List ℕ
 row_before row others = row.kind ∷ part_before (body row) others
 
@@ -43,20 +43,20 @@ pub record Told : Type 0 where
   pub count : ℕ
   pub digest : ℕ
 
--- what is told by an answer that came, and by one that a row wants
+-- an answer, and a wanted answer, as such values
 abbrev pub told_by : Answer → Told
 told_by answer = record { status = answer.status; text = answer.text.items; count = answer.count; digest = answer.sum }
 
 abbrev pub wanted_by : Wanted → Told
 wanted_by wanted = record { status = wanted.status; text = wanted.text.now; count = wanted.count; digest = wanted.sum }
 
--- a row that was replayed, the answer that came, and whether it is the wanted one
+-- a row that was replayed, its answer, and whether this is the wanted answer
 pub record Replayed : Type 0 where
   pub row : Row
   pub came : Told
   pub agrees : Bool
 
--- its kind is that of its call, one of those that there are, and it is told truly whether it agrees
+-- The row's kind is valid, and is the kind of its call. And `agrees` is true exactly if the answer is the wanted one.
 pub record IsReplayed (replayed : Replayed) : Type 0 where
   pub known : replayed.row.kind < kinds
   pub kind : replayed.row.kind ≡ call_kind replayed.row.call
@@ -64,7 +64,7 @@ pub record IsReplayed (replayed : Replayed) : Type 0 where
 
 -- ---- files
 
--- what a file begins with
+-- the bytes that a file begins with
 abbrev pub magic : List ℕ
 magic = codes "ROW1"
 
@@ -72,7 +72,7 @@ magic = codes "ROW1"
 abbrev pub rows_text : List Replayed → List ℕ
 rows_text rows = flat_map (λ replayed. row_before replayed.row []) rows
 
--- the bytes begin as a file does, with these rows, each of which was replayed; and the rest follows
+-- The bytes begin like a file, with these rows, each of which was replayed. Then comes the rest.
 pub record BeginWith (bytes : List ℕ) (rows : List Replayed) (rest : List ℕ) : Type 0 where
   pub text : bytes ≡ (magic ++ rows_text rows) ++ rest
   pub each : All IsReplayed rows
@@ -82,6 +82,6 @@ pub record AreReplayed (bytes : List ℕ) (rows : List Replayed) : Type 0 where
   pub text : bytes ≡ magic ++ rows_text rows
   pub each : All IsReplayed rows
 
--- in each of the rows the answer came that it wants
+-- each of the rows has the wanted answer
 abbrev pub AllAgree : List Replayed → Type 0
 AllAgree rows = All (λ replayed. IsTrue replayed.agrees) rows

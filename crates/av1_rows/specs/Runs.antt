@@ -1,4 +1,4 @@
--- How the fields of a run stand in its row.
+-- The bytes of the fields of a run in its row.
 use Rattle.std.specs.Prelude.{ℕ, List}
 use Rattle.av1_replay.specs.Fields.{four_before, part_before, short_part_before}
 use Rattle.av1_rows.specs.declared.run.Pieces.{Pieces}
@@ -12,15 +12,15 @@ abbrev pub program_kind : Program → ℕ
 program_kind Reconstruction = 0
 program_kind Tools = 1
 
--- how many bytes a piece has at most, and which call fails
+-- how many bytes a call moves at most, and which call fails
 abbrev pub pieces_before : Pieces → List ℕ → List ℕ
 pieces_before pieces others = four_before pieces.size (four_before pieces.failing others)
 
--- how many bytes a sink takes, and its pieces
+-- how many bytes a sink takes, and the calls that move them
 abbrev pub room_before : Room → List ℕ → List ℕ
 room_before room others = four_before room.count (pieces_before room.pieces others)
 
--- the words, the source, the sinks of the output and of lines, the input, and how many zeros stand behind it
+-- the arguments, the source, the sinks of the output and of lines, the input, and the number of zeros that follow it
 abbrev pub run_before : Run → List ℕ → List ℕ
 run_before r others =
     short_part_before r.words.now

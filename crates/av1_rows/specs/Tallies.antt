@@ -1,25 +1,25 @@
--- How many rows of each kind there are, and how many differ.
+-- The counts of rows of each kind, and of rows that differ.
 use Rattle.std.specs.Prelude.{ℕ, List, Option, Some, None, Bool, set, get_or, replicate, fold, if◌then◌else◌}
 use Rattle.av1_lists.specs.Counts.{counted}
 use Rattle.av1_rows.specs.Rows.{Told, Replayed, told_by, wanted_by, kinds}
 use Rattle.av1_rows.specs.declared.tally.DifferingRow.{DifferingRow}
 use Rattle.av1_rows.specs.declared.tally.Tally.{Tally}
 
--- a row that differs: its number, its kind, what came and what was wanted
+-- a row that differs: its number, its kind, its answer and the wanted answer
 pub record Differs : Type 0 where
   pub row : ℕ
   pub kind : ℕ
   pub came : Told
   pub wanted : Told
 
--- how many rows there are, how many of each kind, how many of each differ, and the first that does
+-- how many rows there are, how many of each kind, how many of each kind differ, and the first row that differs
 pub record Counts : Type 0 where
   pub count : ℕ
   pub rows : List ℕ
   pub differ : List ℕ
   pub first : Option Differs
 
--- the counts that a tally holds
+-- the row that differs of a tally, as such a value
 abbrev pub differs_by : DifferingRow → Differs
 differs_by difference = record {
   row = difference.row;
@@ -35,11 +35,11 @@ first_by (Some difference) = Some (differs_by difference)
 abbrev pub counts_by : Tally → Counts
 counts_by tally = record { count = tally.count; rows = tally.rows; differ = tally.differ; first = first_by tally.first }
 
--- one more at this place, up to the last value of a `u64`
+-- one more at this index, at most the last value of a `u64`
 abbrev pub one_more : List ℕ → ℕ → List ℕ
 one_more counts kind = set counts kind (counted (get_or counts kind 0))
 
--- the first of what was there and what is new
+-- the earlier value if there is one, else the later
 abbrev pub earlier : Option Differs → Differs → Option Differs
 earlier None later = Some later
 earlier (Some first) later = Some first

@@ -8,25 +8,25 @@ use av1_replay::CallFault;
 use av1_streams::{ReadError, WriteFault};
 use std::alloc::AllocError;
 
-/// Why rows were not replayed, or what came of them was not written.
+/// Why rows were not replayed, or their report was not written.
 #[derive(Clone, Copy, Debug, PartialEq, Eq)]
 pub enum RowsError {
     /// A read failed.
     ReadFault,
-    /// The source gave a byte past the longest file.
+    /// The source has more bytes than the longest file: 64 MiB.
     TooLong,
-    /// The bytes don't begin as a file of rows does.
+    /// The bytes don't begin like a file of rows.
     NoRows,
-    /// Row number `row`, counted from 0, is cut, has a value that is not admitted or bytes left over.
+    /// Row number `row`, counted from 0, is cut off, has a value that is not valid, or has bytes left over.
     Malformed { row: u64 },
-    /// An allocation was refused.
+    /// An allocation failed.
     Memory,
-    /// A write failed. A prefix of the report was written.
+    /// A write failed. The sink has a prefix of the report.
     WriteFault,
 }
 
 impl RowsError {
-    /// Why the row of this number was not replayed.
+    /// Why the row with this number was not replayed.
     pub fn of_row(row: u64, fault: CallFault) -> RowsError
         ensures { (result ≡ variants.Malformed row) ⊎ (result ≡ variants.Memory) }
     {

@@ -1,8 +1,8 @@
-//! Replays recorded rows from standard input: calls and what they answered, as `docs/ROWS.md` says. It prints a line
-//! for each kind of row, and of the first row that differs what came and what was wanted.
+//! Replays recorded rows from standard input: calls and their answers, in the format of `docs/ROWS.md`. The program
+//! prints a line for each kind of row. For the first row that differs, it prints both answers.
 //!
-//! All that the program does is [`program::replay_rows`]; here are its real source and sinks. The flush of its output
-//! and its exit status are `av1_recon::run_on_words`, whose words it doesn't read.
+//! [`program::replay_rows`] is all that the program does. This file connects it to the real source and sinks.
+//! `av1_recon::run_on_words` flushes the output and sets the exit status. The program ignores its arguments.
 #![tactic(auto)]
 
 mod error;

@@ -22,29 +22,30 @@ use av1_replay::Fields;
 use av1_streams::{MAX_PLAN_BYTES, read_bytes, write_bytes};
 use std::alloc::Global;
 
-/// What a file of rows begins with.
+/// The bytes that a file of rows begins with.
 const MAGIC: &[u8] = b"ROW1";
 
-/// Reads rows from the source to its end, at most 64 MiB, and replays each. It writes a line for each kind to `out`,
-/// and of the first row that differs what came and what was wanted.
+/// Reads rows from the source to its end, at most 64 MiB, and replays each. Writes a line for each kind to `out`, and
+/// for the first row that differs its answer and the wanted answer.
 ///
-/// | status | where | line on `err` |
+/// | status | if | line on `err` |
 /// |---|---|---|
 /// | 0 | each row was replayed, and none differs | none |
-/// | 1 | each row was replayed, and some differs | none |
-/// | 2 | the bytes are no rows | `too long`, `no rows` or `malformed row N` |
+/// | 1 | each row was replayed, and some differ | none |
+/// | 2 | the bytes are not valid rows | `too long`, `no rows` or `malformed row N` |
 /// | 3 | memory ran out | `out of memory` |
 /// | 4 | a read failed | `read fault` |
 /// | 5 | a write failed | `write fault` |
 ///
-/// N is the number of a row, from 0. Where a write to `err` failed a prefix of the line stands, and the status stays.
+/// N is the number of a row, from 0. If a write to `err` fails, `err` has a prefix of the line, and the status is the
+/// same.
 pub fn replay_rows<R: Source, W: Sink, E: Sink>(
     alloc: Global,
     source: &mut R,
     out: &mut W,
     err: &mut E,
 ) -> u8
-    // The answer is told by the status and a line.
+    // The status and the line follow from the result.
     ensures answer { (answer : Answer) × (result ≡ status_of answer) × HasLine E.taken E.faults err.old err.new (line_of answer)
         × IfErr answer (λ e. IfSome (R.left source.old) (Refuses e)) }
     // What each status says.
@@ -64,7 +65,7 @@ pub fn replay_rows<R: Source, W: Sink, E: Sink>(
     }
 }
 
-// Reads rows from the source to its end, replays each, and writes the report of them. It gives whether all agree.
+// Reads rows from the source to its end, replays each, and writes their report. Returns whether all agree.
 fn replay<R: Source, W: Sink>(alloc: Global, source: &mut R, out: &mut W) -> Result<bool, RowsError>
     ensures done { IfOk result
         (λ agree. Rows (R.left source.old) (λ rows. (IsTrue agree ↔ AllAgree rows) × Appends (W.taken out.old) (W.taken out.new) (report rows))) }
@@ -81,7 +82,7 @@ fn replay<R: Source, W: Sink>(alloc: Global, source: &mut R, out: &mut W) -> Res
     Ok(tally.agrees())
 }
 
-// What comes of the rows that these bytes are.
+// Replays the rows of these bytes, and counts them.
 fn replay_bytes(alloc: Global, bytes: &[u8]) -> Result<Tally, RowsError>
     ensures done { IfOk result (λ tally. (rows : List Replayed) × AreReplayed bytes.now rows × (counts_by tally ≡ counts_of rows)
         × (IsNone (counts_by tally).first ↔ AllAgree rows)) }

@@ -1,4 +1,4 @@
-//! What is written of rows, and of errors.
+//! Writes the report on rows, and the lines of errors.
 
 ghost use Rattle.std.specs.Prelude.{◌≡◌, ◌≤◌, ◌++◌, Some, codes, decimal, length, IfOk, OnOk};
 ghost use Rattle.av1_recon.specs.Answers.{HasLine};
@@ -17,7 +17,7 @@ use av1_replay::Answer;
 use av1_streams::Line;
 use std::alloc::{AllocError, Global};
 
-// What a kind is called.
+// The name of a kind.
 #[tactic(auto, unfolding(crate::specs::Reports::kind_text))]
 fn kind_text(kind: usize) -> &'static [u8]
     ensures text { result.now ≡ kind_text kind }
@@ -39,11 +39,11 @@ fn kind_text(kind: usize) -> &'static [u8]
     }
 }
 
-/// What is written of a tally: a line for each kind of row, and three on the first row that differs.
+/// The report of a tally: a line for each kind of row, and three lines on the first row that differs.
 ///
 /// # Errors
 ///
-/// Memory for the text.
+/// The error is that memory ran out.
 #[tactic(auto, using(crate::proofs::Lines::no_lines, crate::proofs::Lines::lines_more))]
 pub fn report_of(alloc: Global, tally: &Tally) -> Result<Vec<u8>, AllocError>
     ensures { IfOk result (λ report. report.items ≡ report_text (counts_by tally.now)) }
@@ -101,7 +101,7 @@ fn push_answer(name: &[u8], answer: &Answer, report: &mut Vec<u8>) -> Result<(),
     report.extend_from_slice(b"\n")
 }
 
-// What stands before the text of an answer.
+// The part of an answer's line before its text.
 fn numbers_line(name: &[u8], answer: &Answer) -> Line
     requires { length name.now ≤ 8 }
     ensures { result ≡ numbers_text name.now (told_by answer.now) }
@@ -141,7 +141,7 @@ fn error_line(error: RowsError) -> Line
     }
 }
 
-/// Writes the line of an error, and gives its exit status.
+/// Writes the line of an error, and returns its exit status.
 pub fn report_error<E: Sink>(error: RowsError, err: &mut E) -> u8
     ensures status { result ≡ error_status (cause error) }
     ensures line { HasLine E.taken E.faults err.old err.new (error_line error) }

@@ -1,4 +1,4 @@
-//! Rows: a call, and the answer that is wanted.
+//! Rows: a call, and the wanted answer.
 
 ghost use Rattle.std.specs.Prelude.{◌≡◌, ◌<◌, IfSome};
 ghost use Rattle.av1_replay.specs.Fields.{unread};
@@ -21,7 +21,8 @@ pub enum Call<'a> {
 }
 
 impl<'a> Call<'a> {
-    /// The next call, of the kind of this number. `None` where the kind is none, or the fields are cut or say no call.
+    /// Reads the next call, of the kind with this number. `None` if the kind or a field is not valid, or fields are cut
+    /// off.
     pub fn read(kind: u8, fields: &mut Fields<'a>) -> Option<Call<'a>>
         ensures kind { IfSome result (λ call. kind ≡ call_kind call) }
         ensures found { IfSome result (λ call. unread fields.old ≡ fields_before call (unread fields.new)) }
@@ -33,11 +34,11 @@ impl<'a> Call<'a> {
         }
     }
 
-    /// Makes the call, and gives its answer.
+    /// Replays the call, and returns its answer.
     ///
     /// # Errors
     ///
-    /// `Malformed` where its fields say no call after all, and `Memory`.
+    /// `Malformed` if its fields are not valid after all, and `Memory`.
     pub fn replay(&self, alloc: Global) -> Result<Answer, CallFault> {
         match self {
             Call::Run(run) => run.replay(alloc),
@@ -56,8 +57,8 @@ pub struct Row<'a> {
 }
 
 impl<'a> Row<'a> {
-    /// The next row: the number of its kind, how many bytes follow, its call and the answer that it wants. `None` where
-    /// it is cut, its kind is none, its fields say no call, or bytes are left over.
+    /// Reads the next row: the number of its kind, the number of bytes that follow, its call and the wanted answer.
+    /// `None` if the row is cut off, its kind or a field is not valid, or bytes are left over.
     pub fn read(fields: &mut Fields<'a>) -> Option<Row<'a>>
         ensures known { IfSome result (λ row. row.kind < KINDS) }
         ensures kind { IfSome result (λ row. row.kind ≡ call_kind row.call) }

@@ -1,4 +1,4 @@
-//! A run of a program over memory.
+//! Runs a program over memory.
 
 ghost use Rattle.std.specs.Prelude.{◌≡◌, ◌<◌, ◌≤◌, length, IfOk, IfSome};
 ghost use Rattle.av1_replay.specs.Answers.{Tells};
@@ -8,7 +8,7 @@ use av1_replay::{Answer, CallFault, Digest, Fields};
 use av1_toolbox::run_tools;
 use std::alloc::Global;
 
-/// The most bytes that a sink has room for.
+/// The greatest number of bytes that a sink takes.
 const MAX_ROOM: usize = 1 << 26;
 
 /// A program.
@@ -16,11 +16,11 @@ const MAX_ROOM: usize = 1 << 26;
 pub enum Program {
     /// `av1_recon::run`, the program of plans.
     Reconstruction,
-    /// `av1_toolbox::run_tools`, the tools round plans.
+    /// `av1_toolbox::run_tools`, the tools for plans.
     Tools,
 }
 
-/// Pieces of at most so many bytes, of which one is a fault.
+/// Calls that move at most `size` bytes each. One of the calls fails.
 #[derive(Clone, Copy)]
 pub struct Pieces {
     /// At least 1.
@@ -47,7 +47,7 @@ impl Pieces {
     }
 }
 
-/// How many bytes a sink takes, and in which pieces.
+/// How many bytes a sink takes, and how many at once.
 #[derive(Clone, Copy)]
 pub struct Room {
     count: usize,
@@ -80,7 +80,7 @@ pub struct Run<'a> {
     out: Room,
     err: Room,
     input: &'a [u8],
-    /// So many zeros stand behind the input.
+    /// How many zeros follow the input.
     zeros: usize,
 }
 
@@ -88,8 +88,8 @@ impl<'a> Run<'a> {
     ghost use Rattle.av1_replay.specs.Fields.{unread};
     ghost use Rattle.av1_rows.specs.Runs.{run_before};
 
-    /// The next run, of this program. `None` where its fields are cut, a piece has no bytes or a sink room for more
-    /// than 64 MiB.
+    /// Reads the next run, of this program. `None` if its fields are cut off, a call may move no bytes, or a sink would
+    /// take more than 64 MiB.
     pub fn read(program: Program, fields: &mut Fields<'a>) -> Option<Run<'a>>
         ensures program { IfSome result (λ found. found.program ≡ program) }
         ensures found { IfSome result (λ found. unread fields.old ≡ run_before found (unread fields.new)) }
@@ -112,11 +112,11 @@ impl<'a> Run<'a> {
         })
     }
 
-    /// Its answer: the exit status, what stands on the sink for lines, and what was written to the output.
+    /// The answer of the run: the exit status, the lines on `err`, and what was written to the output.
     ///
     /// # Errors
     ///
-    /// `Malformed` where the last word isn't ended by a line break, or a word is no text, and `Memory`.
+    /// `Malformed` if the last argument does not end with a line break, or an argument is not valid text, and `Memory`.
     pub fn replay(&self, alloc: Global) -> Result<Answer, CallFault> {
         let words = words_of(alloc, self.words)?;
         let mut bytes = Vec::from_slice(alloc, self.input)?;
@@ -135,7 +135,7 @@ impl<'a> Run<'a> {
     }
 }
 
-// What a run left.
+// The result of a run.
 fn answer_of(alloc: Global, status: u8, out: &[u8], err: &[u8]) -> Result<Answer, CallFault>
     ensures { IfOk result (λ came. Tells came status err.now out.now) }
 {
@@ -151,7 +151,7 @@ fn answer_of(alloc: Global, status: u8, out: &[u8], err: &[u8]) -> Result<Answer
     })
 }
 
-// The words of a text, each of which ends with a line break.
+// The arguments in a text. Each ends with a line break.
 fn words_of(alloc: Global, text: &[u8]) -> Result<Vec<String>, CallFault> {
     let mut words = Vec::new(alloc);
     let mut word = Vec::new(alloc);

@@ -1,4 +1,4 @@
-//! How many rows of each kind there were, and how many differ.
+//! Counts the rows of each kind, and the rows that differ.
 
 ghost use Rattle.std.specs.Prelude.{◌≡◌, ◌<◌, IsNone, OnOk, IsTrue, ◌↔◌};
 ghost use Rattle.av1_rows.specs.Rows.{told_by, wanted_by};
@@ -19,7 +19,7 @@ pub struct DifferingRow {
     pub wanted: Answer,
 }
 
-/// How many rows there were. Each count stays at the last value of a `u64`.
+/// How many rows there were. No count exceeds the last value of a `u64`.
 #[derive(Drop)]
 pub struct Tally {
     /// How many in all.
@@ -28,12 +28,12 @@ pub struct Tally {
     pub rows: [u64; KINDS],
     /// How many of each kind differ.
     pub differ: [u64; KINDS],
-    /// The first one that does.
+    /// The first row that differs.
     pub first: Option<DifferingRow>,
 }
 
 impl Tally {
-    /// No rows so far.
+    /// The tally without rows.
     pub fn new() -> Tally
         ensures { counts_by result ≡ no_rows }
     {
@@ -45,11 +45,11 @@ impl Tally {
         }
     }
 
-    /// One more row of a kind, of which this answer came, and whether it is the wanted one.
+    /// Counts one more row of a kind, with its answer, and whether the answer is the wanted one.
     ///
     /// # Errors
     ///
-    /// Memory for the first difference.
+    /// The error is that memory ran out, at the first row that differs.
     pub fn add(
         &mut self,
         alloc: Global,

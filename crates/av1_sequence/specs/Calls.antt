@@ -1,5 +1,4 @@
--- What lists of calls come to: a frame that is refused leaves nothing behind, and the slots are those of the frames
--- alone that are accepted or shown again.
+-- The effect of lists of calls: only frames that are accepted or shown again change a sequence.
 use Rattle.std.specs.Prelude.{◌≡◌, Bool, true, false, List, [], ◌∷◌, ℕ, Option, Some, None, Result, Ok, Err}
 use Rattle.std.specs.List.{fold}
 use Rattle.av1_plan.specs.Plan.{PlanValue}
@@ -10,13 +9,13 @@ use Rattle.av1_sequence.specs.Kept.{Kept}
 use Rattle.av1_sequence.specs.Outcomes.{Accepts, IsValidFrame, Refuses, accepted, shown_again}
 use Rattle.av1_sequence.specs.Slots.{Frame, Slots, refreshed, slot_of}
 
--- a call, with a frame or with a slot that is to be shown again, and its answer
+-- a call and its answer: a call with a frame, or with a slot to show again
 pub data Call : Type 0 where
   frame_call : FrameHead → (part : List ℕ) → (answer : Result (Unit {0}) FrameError) → Call
   slot_call : (slot refresh : ℕ) → (answer : Bool) → Call
 
--- what a call with this answer does: it accepts the frame or shows the slot again, or all is as it was and there is a
--- reason
+-- What a call with this answer does. It accepts the frame or shows the slot again, or it changes nothing and has a
+-- reason.
 abbrev pub Does : Kept → Call → Kept → Type 0
 Does k (frame_call head part (Ok done)) k' = Accepts k head part k'
 Does k (frame_call head part (Err e)) k' = (k' ≡ k) × Refuses k head part e
@@ -24,26 +23,26 @@ Does k (slot_call slot refresh true) k' = (frame : Frame) × (slot_of k.slots sl
     (k' ≡ shown_again k refresh frame)
 Does k (slot_call slot refresh false) k' = (k' ≡ k) × (slot_of k.slots slot ≡ None)
 
--- and calls one after the other
+-- what calls do, one after the other
 abbrev pub DoInTurn : Kept → List Call → Kept → Type 0
 DoInTurn k [] k' = k' ≡ k
 DoInTurn k (c ∷ calls) k' = (m : Kept) × Does k c m × DoInTurn m calls k'
 
--- a frame that was accepted or shown again, and the slots that it then stands in
+-- a frame that was accepted or shown again, and the slots that then hold it
 pub record TakenFrame : Type 0 where
   pub refresh : ℕ
   pub frame : Frame
 
--- the slots once it was
+-- the slots after such a frame
 abbrev pub slots_after : Slots → TakenFrame → Slots
 slots_after slots f = refreshed slots f.refresh f.frame
 
--- the last frame then
+-- the last frame after such a frame
 abbrev pub last_after : Option Frame → TakenFrame → Option Frame
 last_after last f = Some f.frame
 
--- what a call adds to the frames that are taken: the frame of its valid plan over what is kept where it was accepted,
--- and that of the slot where it was shown again
+-- What a call adds to the taken frames. An accepted frame adds the frame of its valid plan over the slots. A slot that
+-- is shown again adds its frame.
 abbrev pub Adds : Kept → Call → (later : Kept → List TakenFrame → Type 0) → List TakenFrame → Type 0
 Adds k (frame_call head part (Err e)) later frames = later k frames
 Adds k (frame_call head part (Ok done)) later [] = ⊥
@@ -54,14 +53,14 @@ Adds k (slot_call slot refresh true) later [] = ⊥
 Adds k (slot_call slot refresh true) later (f ∷ frames) = (f.refresh ≡ refresh) ×
     (slot_of k.slots slot ≡ Some f.frame) × later (shown_again k refresh f.frame) frames
 
--- these are the frames that calls take, in their order
+-- these are the frames that calls take, in order
 abbrev pub AreTaken : Kept → List Call → List TakenFrame → Type 0
 AreTaken k [] [] = Unit {0}
 AreTaken k [] (f ∷ frames) = ⊥
 AreTaken k (c ∷ calls) frames = Adds k c (λ m later. AreTaken m calls later) frames
 
--- After any list of calls the slots are those before, replaced by the frames that are taken, one after the other, and
--- the last frame is the last of these.
+-- After any list of calls, the taken frames have replaced slots of the sequence, one after the other. The last frame is
+-- the last of them.
 abbrev pub AcceptedAloneCount : Type 0
 AcceptedAloneCount =
     (k k' : Kept) (calls : List Call) → DoInTurn k calls k'

@@ -1,4 +1,4 @@
--- What an error of a lower call is for a sequence.
+-- The error of a sequence for each error of a lower call.
 use Rattle.std.specs.Prelude.{ℕ}
 use Rattle.av1_plan.specs.declared.error.PlanError.{PlanError}
 use Rattle.av1_plan.specs.declared.error.PlanError.TheVariants as plan_errors
@@ -16,7 +16,7 @@ read_error read_errors.ReadFault = errors.ReadFault
 read_error read_errors.TooLong = errors.TooLong
 read_error read_errors.Memory = errors.Memory
 
--- an error of reading the sequence that they are
+-- an error of reading the sequence from its bytes
 abbrev pub file_error : PlanError → SequenceError
 file_error (plan_errors.Malformed at) = errors.Malformed at
 file_error plan_errors.Memory = errors.Memory

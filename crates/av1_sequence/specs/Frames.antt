@@ -1,4 +1,4 @@
--- The plan of a frame, over the slots that the frames before it left.
+-- The plan of a frame, over the slots of a sequence.
 use Rattle.std.specs.Prelude.{◌≡◌, ℕ, ◌+◌, ◌*◌, ◌<◌, ◌^◌, List, [], ◌∷◌, ◌++◌, Option, None, length}
 use Rattle.std.specs.Prelude.{if◌then◌else◌}
 use Rattle.av1_blocks.specs.Filters.{filter_number}
@@ -17,14 +17,13 @@ use Rattle.av1_tile.specs.Reference.{slow_walk}
 use Rattle.av1_sequence.specs.declared.head.FrameHead.{FrameHead}
 use Rattle.av1_sequence.specs.Slots.{Frame, Slots, slot_of, is_read, bits_of, count_of}
 
--- the head of a frame that a sequence takes: the filter is one of the first four, and each reference names one of the
--- eight slots
+-- a head that a sequence takes: the filter is one of the first four, and each reference names one of the eight slots
 pub record IsHead (head : FrameHead) : Type 0 where
   pub filter : filter_number head.filter < 4
   pub slots : AreSlots head.slots
 
--- The header of a frame's plan: the version, sides, depth and sampling of the sequence's frames, what the head says,
--- and the slots that it reads.
+-- The header of a frame's plan: the version, dimensions, depth and sampling of the sequence's frames, the fields of the
+-- head, and the slots that the frame reads.
 abbrev pub frame_header : (frames : Header) → Slots → FrameHead → Header
 frame_header frames slots head = record {
   version = frames.version;
@@ -47,17 +46,17 @@ abbrev pub IsFramePlan : (frames : Header) → Slots → FrameHead → (part : L
 IsFramePlan frames slots head part plan =
     AreText (plan_behind (frame_header frames slots head) (frame_references slots head)) part plan
 
--- the part of a frame spells no plan, and the field at fault begins at this byte of it
+-- the part of a frame does not spell a plan, and its bad field begins at this byte
 abbrev pub AreNoFramePlan : (frames : Header) → Slots → FrameHead → (part : List ℕ) → (at : ℕ) → Type 0
 AreNoFramePlan frames slots head part at =
     AreRefused (plan_behind (frame_header frames slots head) (frame_references slots head)) part at
 
--- how many bytes the plan is: 20 before its references, the samples of each slot that is read, and the part
+-- the length of the plan in bytes: 20 before its references, the samples of each slot that is read, and the part
 abbrev pub plan_bytes : (frames : Header) → Slots → FrameHead → (part : List ℕ) → ℕ
 plan_bytes frames slots head part = 20 + count_of (is_read head.slots slots) 8 * slot_bytes frames + length part
 
--- So many it is: the bytes of its header, those of its references and the part, which are its text one behind the
--- other.
+-- This is the length of the plan's text: the bytes of its header, the bytes of its references and the part, one after
+-- the other.
 abbrev pub PlansHaveTheirLength : Type 0
 PlansHaveTheirLength =
     (frames : Header) (slots : Slots) (head : FrameHead) (front samples part : List ℕ)
@@ -65,11 +64,11 @@ PlansHaveTheirLength =
     → AreText (references (frame_header frames slots head)) samples (frame_references slots head) →
     length (front ++ samples ++ part) ≡ plan_bytes frames slots head part
 
--- the most that a plan may be
+-- the greatest length of a plan in bytes
 abbrev pub most_bytes : ℕ
 most_bytes = 2 ^ 26
 
--- what is shown of the planes that a plan comes to
+-- the visible planes of a plan
 abbrev pub frame_of : PlanValue → Frame
 frame_of plan =
     by_rows (shown_of plan.header 0) (λ x y. sample_of (slow_walk plan Y x y))

@@ -1,5 +1,5 @@
--- The format of a sequence of frames: the sides, depth and sampling of its frames, how many entries there are, and for
--- each its head, and its part where it is a frame. Numbers are little-endian.
+-- The format of a sequence of frames. First come the dimensions, depth and sampling of the frames, and the number of
+-- entries. Each entry has a head, and a part if it is a frame. Numbers are little-endian.
 use Rattle.std.specs.Prelude.{codes, zero, suc, ◌==◌, ◌||◌, ℕ, Bool, List, [], ◌∷◌, ◌++◌, slice_index_or, Ok}
 use Rattle.std.specs.Prelude.{if◌then◌else◌}
 use Rattle.std.specs.Int.{w32, from_le_bytes}
@@ -14,13 +14,13 @@ use Rattle.av1_sequence.specs.declared.head.EntryHead.TheVariants as heads
 use Rattle.av1_sequence.specs.declared.head.FrameHead.{FrameHead}
 use Rattle.av1_sequence.specs.Outcomes.{frames_of}
 
--- ---- what stands before the entries
+-- ---- the fields before the entries
 
--- the four letters at the front: those of one of the two versions
+-- the four letters at the front, for one of the two versions
 abbrev pub is_magic : ℕ → Bool
 is_magic v = v == from_le_bytes w32 (codes "RSQ1") || v == from_le_bytes w32 (codes "RSQ2")
 
--- the version of plans that the frames have, by these letters
+-- the version of plans that the frames have, from these letters
 abbrev pub version_of : ℕ → ℕ
 version_of letters = if letters == from_le_bytes w32 (codes "RSQ2") then 3 else 2
 
@@ -29,7 +29,7 @@ plan_version = do
   letters ← field (where_ four is_magic)
   done (version_of letters)
 
--- a header with the version, sides, depth and sampling of the frames, and how many entries there are
+-- a header with the version, dimensions, depth and sampling of the frames, and the number of entries
 pub record FrontValue : Type 0 where
   pub frames : Header
   pub count : ℕ
@@ -60,21 +60,21 @@ head = do
     refresh = refresh;
   })
 
--- of a frame, and whether it is shown
+-- the head of an entry that is a frame, shown or not
 unfoldable pub coded_head : (shown : Bool) → Format EntryHead
 coded_head shown = do
   head ← head
   done (heads.Coded shown head)
 
--- of the frame of a slot, shown again
+-- the head of an entry that shows a slot again
 unfoldable pub again_head : Format EntryHead
 again_head = do
   slot ← field (byte_from 0 7)
   refresh ← field (any one)
   done (heads.Again slot refresh)
 
--- 0 for a frame that isn't shown, 1 for one that is, and 2 for the frame of a slot, shown again. The first version of
--- sequences, whose plans are of the second, has no such field: each frame is shown.
+-- The kind of an entry: 0 for a frame that isn't shown, 1 for a frame that is shown, and 2 for a slot that is shown
+-- again. The first version of sequences has plans of version 2 and no such field: each frame is shown.
 unfoldable pub kind : (version : ℕ) → Format ℕ
 kind version = if version == 3 then field (byte_from 0 2) else done 1
 
@@ -91,17 +91,18 @@ pub record FrameValue : Type 0 where
   pub head : FrameHead
   pub part : List ℕ
 
--- an entry: a frame, and whether it is shown; or the frame of a slot, shown again, and the slots that then hold it too
+-- an entry: a frame, and whether it is shown; or a slot that is shown again, and the slots that then also hold its
+-- frame
 pub data EntryValue : Type 0 where
   coded : (shown : Bool) → FrameValue → EntryValue
   again : (slot refresh : ℕ) → EntryValue
 
--- a sequence: a header with the version, sides, depth and sampling of its frames, and its entries
+-- a sequence: a header with the version, dimensions, depth and sampling of its frames, and its entries
 pub record FileValue : Type 0 where
   pub frames : Header
   pub entries : List EntryValue
 
--- what stands behind the head of an entry: the part of a frame, which is one field
+-- the rest of an entry after its head: the part of a frame, which is one field
 unfoldable pub read_behind : EntryHead → Input → Reading (EntryValue × Input)
 read_behind (heads.Coded shown head) i =
     on_ok (read_part i) (λ p. Ok (coded shown (record { head = head; part = p.0 }), p.1))
@@ -110,13 +111,13 @@ read_behind (heads.Again slot refresh) i = Ok (again slot refresh, i)
 unfoldable pub read_entry : (version : ℕ) → Input → Reading (EntryValue × Input)
 read_entry version i = on_ok (read (entry_head version) i) (λ h. read_behind h.0 h.1)
 
--- so many entries, behind those that were read before
+-- the next `count` entries, after the entries that were read before
 unfoldable pub read_entries : (version count : ℕ) → List EntryValue × Input → Reading (List EntryValue × Input)
 read_entries version zero s = Ok s
 read_entries version (suc count) s =
     on_ok (read_entry version s.1) (λ p. read_entries version count (s.0 ++ p.0 ∷ [], p.1))
 
--- the sequence that all of the bytes are, or the place of the first field that is cut, not admitted or left over
+-- the sequence that the bytes are, or the offset of the first field that is cut off, not valid or left over
 unfoldable pub read_file : List ℕ → Reading FileValue
 read_file bytes =
     on_ok (read front (start bytes))

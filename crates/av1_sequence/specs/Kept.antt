@@ -1,4 +1,4 @@
--- What a sequence keeps, and what is seen of it.
+-- What a sequence keeps in memory, and what its callers see of it.
 use Rattle.std.specs.Prelude.{◌≡◌, ℕ, ◌<◌, ◌≤◌, true, List, [], ◌∷◌, Option, Some, None, option_map, is_some, length}
 use Rattle.std.specs.Prelude.{slice_index_or}
 use Rattle.av1_frame.specs.declared.frame_invariants.FrameInvariants.{FrameInvariants}
@@ -18,8 +18,8 @@ use Rattle.av1_tile.specs.PlaneBlocks.{shown_of}
 use Rattle.av1_tile.specs.Walk.{HasPads, HasRoom, StoresAll}
 use Rattle.av1_sequence.specs.Slots.{Frame, Slots}
 
--- What callers see of a sequence: a header with the version, sides, depth and sampling of its frames, its slots, and
--- the frame that was accepted or shown again last.
+-- What callers see of a sequence: a header with the version, dimensions, depth and sampling of its frames, its slots,
+-- and the last frame that was accepted or shown again.
 pub record Kept : Type 0 where
   pub frames : Header
   pub slots : Slots
@@ -27,21 +27,21 @@ pub record Kept : Type 0 where
 
 -- ---- planes in memory
 
--- the numbers of the samples of plane p that are shown, row by row
+-- the visible samples of plane p as numbers, row by row
 abbrev pub plane_shown : {T : Type 0} → (T → ℕ) → Header → ℕ → Plane T → List ℕ
 plane_shown num h p plane = by_rows (shown_of h p) (λ x y. sample_at num plane x y)
 
--- of three planes
+-- the visible samples of three planes
 abbrev pub planes_shown : {T : Type 0} → (T → ℕ) → Header → (y u v : Plane T) → Frame
 planes_shown num h y u v = plane_shown num h 0 y ∷ plane_shown num h 1 u ∷ plane_shown num h 2 v ∷ []
 
--- planes that a frame can be reconstructed in, and then kept
+-- planes to reconstruct a frame in, and then to keep it in
 pub record AreReady {T : Type 0} (num : T → ℕ) (h : Header) (planes : Planes T) : Type 0 where
   pub stores : StoresAll num h planes
   pub room : HasRoom h planes
   pub pads : HasPads h 80 planes
 
--- a plane of which just what is shown of plane p of a frame is visible, and one of which all that is coded is
+-- a plane whose visible part is what is shown of plane p of a frame, or all that is coded of it
 abbrev pub shown_plane : {T : Type 0} → Header → ℕ → Plane T → Plane T
 shown_plane h p = with_sides (shown_columns h p) (shown_rows h p)
 
@@ -65,14 +65,14 @@ shown_in num h fi (Some place) = shown_at num h fi place
 abbrev pub slots_shown : {T : Type 0} → (T → ℕ) → Header → FrameInvariants T → (places : List (Option ℕ)) → Slots
 slots_shown num h fi places = by_index 8 (λ s. shown_in num h fi (slice_index_or places s None))
 
--- a frame stands at this place, padded, so that others can be predicted from it
+-- a frame is kept at this place, padded, so that other frames can be predicted from it
 pub record IsKeptAt {T : Type 0} (num : T → ℕ) (h : Header) (fi : FrameInvariants T) (place : ℕ) : Type 0 where
   pub below : place < 8
   pub filled : is_some (slice_index_or fi.slots place None) ≡ true
   pub planes : (p : ℕ) (plane : Plane T) → p < 3 → slot_plane fi place p ≡ Some plane →
       HoldsPlane num h p (plane_shown num h p plane) plane
 
--- the version, sides, depth and sampling of the frames of a sequence
+-- the version, dimensions, depth and sampling of a sequence's frames are valid
 pub record AreFrames (h : Header) : Type 0 where
   pub least_version : 1 ≤ h.version
   pub most_version : h.version ≤ 3
@@ -83,8 +83,8 @@ pub record AreFrames (h : Header) : Type 0 where
   pub depth : is_depth h.depth ≡ true
   pub sampling : h.sampling ≤ 2
 
--- the frames that slots show are kept at their places, and what stands at any place can take a later frame, once what
--- is coded is visible again
+-- The frames of slots are kept at their places. Planes at any place can take a later frame, after all that is coded is
+-- visible again.
 pub record KeepsFrames {T : Type 0} (num : T → ℕ) (h : Header) (fi : FrameInvariants T)
     (places : List (Option ℕ)) : Type 0 where
   pub frame : AreFrames h

@@ -1,4 +1,4 @@
--- What a sequence does with a frame.
+-- What a sequence does with a frame, and why it rejects one.
 use Rattle.std.specs.Prelude.{◌≡◌, ℕ, ◌<◌, ◌≤◌, false, List, Some, None, replicate}
 use Rattle.av1_blocks.specs.declared.mc.FilterMode.TheVariants.{REGULAR}
 use Rattle.av1_plan.specs.declared.header.Header.{Header}
@@ -14,13 +14,13 @@ use Rattle.av1_sequence.specs.Frames.{plan_bytes}
 use Rattle.av1_sequence.specs.Kept.{Kept}
 use Rattle.av1_sequence.specs.Slots.{Frame, refreshed}
 
--- a valid plan of a frame, over the slots that a sequence keeps
+-- the valid plan of a frame, over the slots of a sequence
 pub record IsValidFrame (k : Kept) (head : FrameHead) (part : List ℕ) (plan : PlanValue) : Type 0 where
   pub short : plan_bytes k.frames k.slots head part ≤ most_bytes
   pub text : IsFramePlan k.frames k.slots head part plan
   pub valid : first_fault plan ≡ None
 
--- a sequence once it has accepted a frame: the slots that the frame replaces hold it, and it is the last one
+-- a sequence after it accepted a frame: the slots that the frame replaces hold it, and it is the last frame
 abbrev pub accepted : Kept → FrameHead → PlanValue → Kept
 accepted k head plan = record {
   frames = k.frames;
@@ -28,14 +28,14 @@ accepted k head plan = record {
   last = Some (frame_of plan);
 }
 
--- the frame was accepted
+-- the sequence accepts the frame
 pub record Accepts (k : Kept) (head : FrameHead) (part : List ℕ) (k' : Kept) : Type 0 where
   pub plan : PlanValue
   pub frame : IsValidFrame k head part plan
   pub kept : k' ≡ accepted k head plan
 
--- Why a frame is refused: its plan would be too large, or its part spells none, or its first faulty leaf has this
--- fault. Whether it is too large is judged first.
+-- Why a frame is rejected: its plan would be too large, or its part does not spell a plan, or its first bad leaf has
+-- this fault. The size is tested first.
 abbrev pub Refuses : Kept → FrameHead → (part : List ℕ) → FrameError → Type 0
 Refuses k head part errors.TooLarge = most_bytes < plan_bytes k.frames k.slots head part
 Refuses k head part (errors.Malformed at) = (plan_bytes k.frames k.slots head part ≤ most_bytes) ×
@@ -47,8 +47,8 @@ Refuses k head part (errors.Invalid leaf kind) =
     (first_fault plan ≡ Some (record { leaf = leaf; kind = kind }))))
 Refuses k head part errors.Memory = plan_bytes k.frames k.slots head part ≤ most_bytes
 
--- a sequence once it has shown the frame of a slot again: it is the last one, and the slots that are said hold it too
--- (AV1 specification: reference frame loading process)
+-- A sequence after it showed the frame of a slot again. The frame is the last one, and the slots of `refresh` also hold
+-- it (AV1 specification: reference frame loading process).
 abbrev pub shown_again : Kept → (refresh : ℕ) → Frame → Kept
 shown_again k refresh frame = record {
   frames = k.frames;
@@ -56,8 +56,8 @@ shown_again k refresh frame = record {
   last = Some frame;
 }
 
--- the header of a sequence's frames, of which the version of plans, the sides that are shown, the depth and the
--- sampling count
+-- The header of a sequence's frames. Only the version of plans, the visible dimensions, the depth and the sampling
+-- count.
 abbrev pub frames_of : (version width height depth sampling : ℕ) → Header
 frames_of version width height depth sampling =
     record {
@@ -72,15 +72,15 @@ frames_of version width height depth sampling =
       mask = 0;
     }
 
--- a sequence of such frames, to which none was given yet
+-- a sequence without frames
 abbrev pub empty_sequence : (frames : Header) → Kept
 empty_sequence frames = record { frames = frames; slots = replicate 8 None; last = None }
 
--- of frames of the second version of plans
+-- a sequence without frames, for plans of version 2
 abbrev pub new_sequence : (width height depth sampling : ℕ) → Kept
 new_sequence width height depth sampling = empty_sequence (frames_of 2 width height depth sampling)
 
--- The leaves of a frame as a plan over the slots that a sequence keeps: a word of private contracts.
+-- The leaves of a frame as a plan over the slots of a sequence: a definition for private contracts.
 abbrev pub plan_over : Kept → FrameHead → List LeafValue → PlanValue
 plan_over k head leaves = record {
   header = frame_header k.frames k.slots head;
@@ -88,7 +88,7 @@ plan_over k head leaves = record {
   leaves = leaves;
 }
 
--- why a part is refused in a frame with this header: a word of a private contract
+-- why a part is rejected in a frame with this header: a definition for a private contract
 abbrev pub RefusesPart : Header → (part : List ℕ) → FrameError → Type 0
 RefusesPart h part errors.TooLarge = ⊥
 RefusesPart h part (errors.Malformed at) = AreRefused (superblocks h) part at

@@ -1,4 +1,4 @@
--- The bytes of a frame of a sequence, and the plane that they are written from.
+-- The bytes of a frame of a sequence, and the planes that they are written from.
 use Rattle.std.specs.Prelude.{◌≡◌, ℕ, ◌==◌, ◌≤◌, ◌++◌, [], List, slice_index_or}
 use Rattle.std.specs.List.{flat_map}
 use Rattle.av1_frame.specs.declared.plane.Plane.{Plane}
@@ -8,19 +8,19 @@ use Rattle.av1_tile.specs.Output.{sample_bytes}
 use Rattle.av1_tile.specs.Walk.{ShowsPart}
 use Rattle.av1_sequence.specs.Slots.{Frame}
 
--- the samples of plane p, each as one byte at depth 8, else as two, the low one first
+-- the samples of plane p: one byte for each at depth 8, else two, the low byte first
 abbrev pub plane_text : (frames : Header) → Frame → (p : ℕ) → List ℕ
 plane_text frames frame p = flat_map (sample_bytes frames.depth) (slice_index_or frame p [])
 
--- of Y, then of U, then of V
+-- the samples of Y, then of U, then of V
 abbrev pub frame_text : (frames : Header) → Frame → List ℕ
 frame_text frames frame = plane_text frames frame 0 ++ plane_text frames frame 1 ++ plane_text frames frame 2
 
--- plane p of a frame that can be written: it is no wider than frames are
+-- plane p of a frame that can be written: it is not wider than the widest frame
 pub record IsWritable {T : Type 0} (h : Header) (p : ℕ) (plane : Plane T) : Type 0 where
   pub place : ShowsPart h p plane
   pub wide : shown_columns h p ≤ 2048
 
--- samples of this depth are written as those of so many bits: as one byte each, or as two
+-- Samples of this depth are written like samples of this many bits: as one byte each, or as two.
 abbrev pub AreWrittenAs : (depth bits : ℕ) → Type 0
 AreWrittenAs depth bits = (depth == 8) ≡ (bits == 8)

@@ -1,5 +1,4 @@
--- What the call does that reads a sequence of frames and writes the planes of each that is shown as soon as it is
--- accepted.
+-- The contract of the call that reads a sequence of frames from a source and writes the shown frames to a sink.
 use Rattle.std.specs.Prelude.{◌≡◌, ◌⊎◌, ℕ, ◌+◌, ◌≤◌, Bool, List, [], length, Option, Some, Ok, Err, IsOk, IsErrAnd}
 use Rattle.std.specs.Prelude.{IfSome, ⊤, if◌then◌else◌}
 use Rattle.std.specs.Io.KnownBytes.{Appends, Consumes, IsAtEnd}
@@ -15,7 +14,7 @@ use Rattle.av1_sequence.specs.Kept.{Kept}
 use Rattle.av1_sequence.specs.Output.{frame_text}
 use Rattle.av1_sequence.specs.Slots.{Frame}
 
--- what an error blames
+-- the cause of an error
 abbrev pub cause_of : SequenceError → Cause
 cause_of errors.ReadFault = read_failed
 cause_of errors.TooLong = too_long
@@ -25,14 +24,14 @@ cause_of (errors.EmptySlot i) = refused
 cause_of errors.WriteFault = write_failed
 cause_of errors.Memory = no_memory
 
--- what an answer says of the source
+-- what a result says of the source
 abbrev pub LeavesSource : Answer → Option (List ℕ) → Option (List ℕ) → Type 0
 LeavesSource (Ok done) left left' = IsAtEnd left'
 LeavesSource (Err e) left left' = ErrorLeaves (cause_of e) max_plan_bytes left left'
 
--- What an answer says of bytes that were read and of the sink: after Ok and after a refusal what the outcome writes was
--- appended, after a failed write a prefix of it, and after running out of memory what some first entries write, each
--- whole. After a failed read the sink is as it was.
+-- What a result says of the bytes that were read and of the sink. After Ok, and after the input is rejected, the sink
+-- got the output of the outcome. After a failed write it got a prefix of that output. If memory ran out, it got the
+-- output of some first entries, each whole. After a failed read the sink is unchanged.
 abbrev pub ErrorAnswers : Cause → SequenceError → List ℕ → Option (List ℕ) → Option (List ℕ) → Type 0
 ErrorAnswers too_long e bytes taken taken' = (written : List ℕ) × HasOutcome bytes written (Err e) ×
     Appends taken taken' written
@@ -49,7 +48,7 @@ Answers (Ok done) bytes taken taken' = (written : List ℕ) × HasOutcome bytes 
     Appends taken taken' written
 Answers (Err e) bytes taken taken' = ErrorAnswers (cause_of e) e bytes taken taken'
 
--- before the frames, nothing is written
+-- errors that occur before anything is written
 abbrev pub IsBeforeFrames : SequenceError → Type 0
 IsBeforeFrames errors.ReadFault = ⊤
 IsBeforeFrames errors.TooLong = ⊤
@@ -63,17 +62,17 @@ IsBeforeFrames errors.Memory = ⊥
 pub record PerformsInTurn {S K : Type 0} (left : S → Option (List ℕ)) (source_faults : S → ℕ)
     (taken : K → Option (List ℕ)) (sink_faults : K → ℕ) (source source' : S) (sink sink' : K)
     (answer : Answer) : Type 0 where
-  -- Some bytes were read, at most one past the limit, and the answer says of these what it does. A source that tells
-  -- its bytes had these at its front.
+  -- Some bytes were read, at most one past the limit, and the result fits these bytes. If the bytes of the source are
+  -- known, they begin with these.
   pub read : (bytes : List ℕ) × AreBytes bytes × (length bytes ≤ max_plan_bytes + 1) ×
       Consumes (left source) (left source') bytes × Answers answer bytes (taken sink) (taken sink')
-  -- Whether anything is left behind them.
+  -- The result says whether the source has more bytes.
   pub leaves : LeavesSource answer (left source) (left source')
-  -- A failed read, too many bytes and a malformed sequence come before anything is written, and so does memory that
-  -- runs out before the bytes were read to their end.
+  -- After a failed read, too many bytes or a malformed sequence, nothing was written. If memory ran out before all
+  -- bytes were read, nothing was written either.
   pub unwritten : IsErrAnd answer IsBeforeFrames → sink' ≡ sink
   pub memory : IsErrAnd answer (λ e. cause_of e ≡ no_memory) → IsAtEnd (left source') ⊎ (sink' ≡ sink)
-  -- A fault is answered exactly where the source or the sink counted one, and counts never fall.
+  -- The call returns a fault exactly if the source or the sink counted one. Counts never fall.
   pub read_fault : IsErrAnd answer (λ e. cause_of e ≡ read_failed) →
       FaultCounted (source_faults source) (source_faults source')
   pub source_uncounted : ¬ IsErrAnd answer (λ e. cause_of e ≡ read_failed) →
@@ -84,9 +83,9 @@ pub record PerformsInTurn {S K : Type 0} (left : S → Option (List ℕ)) (sourc
   pub source_later : source_faults source ≤ source_faults source'
   pub sink_later : sink_faults sink ≤ sink_faults sink'
 
--- ---- what follows of bytes that a source tells
+-- ---- what follows if the bytes of a source are known
 
--- The answer is that of the outcome, unless a read or a write failed, or memory ran out.
+-- The result is the outcome of the bytes, unless a read or a write failed, or memory ran out.
 abbrev pub ErrorTells : Cause → SequenceError → Answer → Type 0
 ErrorTells too_long e outcome = outcome ≡ Err e
 ErrorTells refused e outcome = outcome ≡ Err e
@@ -98,25 +97,25 @@ abbrev pub Tells : Answer → Answer → Type 0
 Tells (Ok done) outcome = IsOk outcome
 Tells (Err e) outcome = ErrorTells (cause_of e) e outcome
 
--- What an answer says of all the bytes that a source tells. It follows from what the call does.
+-- What a result says of all the bytes of a source, if they are known. It follows from what the call does.
 pub record AnswersInTurn {S K : Type 0} (left : S → Option (List ℕ)) (source_faults : S → ℕ)
     (taken : K → Option (List ℕ)) (sink_faults : K → ℕ) (source source' : S) (sink sink' : K)
     (answer : Answer) : Type 0 where
-  -- Ok, a refusal, a failed write and running out of memory each say what became of the bytes and of the sink.
+  -- Each result says what happened to the bytes and the sink.
   pub answers : IfSome (left source) (λ bytes. Answers answer bytes (taken sink) (taken sink'))
-  -- A refusal exactly where it is the outcome, unless a read or a write failed or memory ran out.
+  -- The call rejects the input exactly if the outcome does, unless a read or a write failed or memory ran out.
   pub exactly : IfSome (left source) (λ bytes. (written : List ℕ) (outcome : Answer) →
       HasOutcome bytes written outcome → Tells answer outcome)
-  -- Without a fault bytes of which no entry is refused give Ok, or memory ran out.
+  -- Without a fault, input without a rejected entry gives Ok, unless memory ran out.
   pub complete : ¬ FaultCounted (source_faults source) (source_faults source') →
       ¬ FaultCounted (sink_faults sink) (sink_faults sink')
       → IfSome (left source) (λ bytes. (written : List ℕ) (done : Unit {0}) → HasOutcome bytes written (Ok done) →
       IsOk answer ⊎ IsErrAnd answer (λ e. cause_of e ≡ no_memory))
 
--- ---- words of private contracts
+-- ---- definitions for private contracts
 
--- What showing the entries of a sequence says of it and of the sink. A failed write says of the entries up to the one
--- that it was at.
+-- What the result of showing all entries says of the sequence and of the sink. After a failed write it speaks of the
+-- entries up to the one that was being written.
 abbrev pub Shows : FileValue → Answer → Option (List ℕ) → Option (List ℕ) → Type 0
 Shows f (Ok done) taken taken' = (written : List ℕ) × ((k : Kept) × Lead (beginning f) f.entries written k) ×
     Appends taken taken' written
@@ -133,7 +132,7 @@ Shows f (Err errors.ReadFault) taken taken' = ⊥
 Shows f (Err errors.TooLong) taken taken' = ⊥
 Shows f (Err (errors.Malformed at)) taken taken' = ⊥
 
--- what showing one entry says, with its number
+-- what the result of showing one entry says, with the number of the entry
 abbrev pub ShowsEntry : Kept → (index : ℕ) → EntryValue → Answer → Kept → Option (List ℕ) → Option (List ℕ) → Type 0
 ShowsEntry k index e (Ok done) k' taken taken' =
     (written : List ℕ) × TakesEntry k e written k' × Appends taken taken' written
@@ -148,7 +147,7 @@ ShowsEntry k index e (Err errors.ReadFault) k' taken taken' = ⊥
 ShowsEntry k index e (Err errors.TooLong) k' taken taken' = ⊥
 ShowsEntry k index e (Err (errors.Malformed at)) k' taken taken' = ⊥
 
--- an entry was accepted, and of the frame that is then the last one this is written, where it is shown
+-- an entry was accepted, and its frame is the last one; if the frame is shown, it is also what is written
 abbrev pub IsTaken : Kept → EntryValue → (shown : Bool) → Kept → Type 0
 IsTaken k e shown k' = (frame : Frame) × (k'.last ≡ Some frame) ×
     TakesEntry k e (if shown then frame_text k'.frames frame else []) k'

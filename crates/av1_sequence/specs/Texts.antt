@@ -1,5 +1,5 @@
--- How far bytes go along with a sequence of frames: the texts of lists of fields are compared with them, and nothing
--- here reads.
+-- How far bytes agree with a sequence of frames. The bytes are compared with the texts of lists of fields. Nothing here
+-- reads.
 use Rattle.std.specs.Prelude.{◌≡◌, ◌⊎◌, zero, suc, ℕ, ◌<◌, ◌^◌, Bool, List, [], ◌∷◌, ◌++◌, length, Ok, Err, ⊤}
 use Rattle.av1_plan.specs.Parts.{length_text, part_text, IsProperText, IsLongestText}
 use Rattle.av1_plan.specs.Spelling.{IsProper, Spells, text}
@@ -14,17 +14,17 @@ abbrev pub head_of : EntryValue → EntryHead
 head_of (coded shown f) = heads.Coded shown f.head
 head_of (again slot refresh) = heads.Again slot refresh
 
--- the text behind it: the part of a frame, behind its length
+-- the text after the head: the length of the part, and the part of a frame
 abbrev pub behind_text : EntryValue → List ℕ
 behind_text (coded shown f) = part_text f.part
 behind_text (again slot refresh) = []
 
--- the length of the part has four bytes
+-- the length of the part fits four bytes
 abbrev pub HasLength : EntryValue → Type 0
 HasLength (coded shown f) = length f.part < 2 ^ 32
 HasLength (again slot refresh) = ⊤
 
--- the text of an entry, where frames are of this version of plans: the fields of its head, and what stands behind it
+-- the text of an entry in a sequence with this version of plans: the fields of its head, and the rest of the entry
 pub record IsEntryText (version : ℕ) (e : EntryValue) (bytes : List ℕ) : Type 0 where
   pub values : List ℕ
   pub spells : Spells (entry_head version) values (head_of e)
@@ -38,8 +38,8 @@ AreEntryTexts version (e ∷ entries) bytes =
     (one : List ℕ) × IsEntryText version e one ×
     ((rest : List ℕ) × AreEntryTexts version entries rest × (bytes ≡ one ++ rest))
 
--- the text of the first fields of an entry that is not whole: fields of its head, or all of these and the length of its
--- part
+-- The text of the first fields of an entry that is not whole. These are fields of its head, or its head and the length
+-- of its part.
 abbrev pub IsBegun : (version : ℕ) → List ℕ → Type 0
 IsBegun version run =
     ((values : List ℕ) × IsProper (entry_head version) values × (run ≡ text (entry_head version) values))
@@ -47,19 +47,19 @@ IsBegun version run =
     ((values : List ℕ) × Spells (entry_head version) values (heads.Coded shown h) ×
     ((len : ℕ) × (len < 2 ^ 32) × (run ≡ text (entry_head version) values ++ length_text len)))))
 
--- the text of the first fields of n entries: no field, or those of an entry that is not whole, or a whole entry and
--- then the first fields of the others
+-- The text of the first fields of n entries. Either there is no field, or fields of an entry that is not whole, or a
+-- whole entry and then the first fields of the other entries.
 abbrev pub IsRun : (version n : ℕ) → List ℕ → Type 0
 IsRun version zero run = run ≡ []
 IsRun version (suc n) run =
     IsBegun version run ⊎ ((e : EntryValue) ×
     ((one : List ℕ) × IsEntryText version e one × ((more : List ℕ) × IsRun version n more × (run ≡ one ++ more))))
 
--- the text of the first fields of a sequence: what may stand behind its front are the first fields of its entries
+-- the text of the first fields of a sequence: fields of its front, or all of these and the first fields of its entries
 abbrev pub IsSequenceRun : List ℕ → Type 0
 IsSequenceRun = IsProperText front (λ f. IsRun f.frames.version f.count)
 
--- the bytes are the text of this sequence: all fields before the entries, and so many entries
+-- the bytes are the text of this sequence: all fields before the entries, and then its entries
 pub record IsFileText (bytes : List ℕ) (f : FileValue) : Type 0 where
   pub front_value : FrontValue
   pub values : List ℕ
@@ -70,12 +70,12 @@ pub record IsFileText (bytes : List ℕ) (f : FileValue) : Type 0 where
   pub entries : AreEntryTexts f.frames.version f.entries texts
   pub whole : bytes ≡ text front values ++ texts
 
--- Bytes that are no sequence are refused where the longest proper list of fields at their front ends.
+-- Bytes that are not a valid sequence are rejected at the end of the longest proper list of fields at their front.
 abbrev pub RefusedAtLongest : Type 0
 RefusedAtLongest = (bytes : List ℕ) (at : ℕ) → AreBytes bytes → read_file bytes ≡ Err at →
     IsLongestText IsSequenceRun bytes at
 
--- Bytes are a sequence exactly where they are its text.
+-- Bytes are a sequence exactly if they are its text.
 abbrev pub FoundAtText : Type 0
 FoundAtText = (bytes : List ℕ) (f : FileValue) → AreBytes bytes → (read_file bytes ≡ Ok f → IsFileText bytes f) ×
     (IsFileText bytes f → read_file bytes ≡ Ok f)

@@ -20,7 +20,7 @@ use av1_blocks::FilterMode;
 use av1_plan::{PlanError, Reader};
 use std::alloc::Global;
 
-/// What stands before the entries.
+/// The fields before the entries.
 #[derive(Clone, Copy)]
 pub(crate) struct FileFront {
     version: u8,
@@ -46,7 +46,7 @@ fn magic(reader: &mut Reader<'_>) -> Result<u32, PlanError>
     }
 }
 
-/// The version of plans that the frames have, by the four letters at the front.
+/// The version of plans that the frames have. The four letters at the front decide it.
 #[tactic(auto, unfolding(crate::specs::Grammar::plan_version))]
 fn plan_version(reader: &mut Reader<'_>) -> Result<u8, PlanError>
     ensures read { Gives (λ x. (x, input reader.new)) result (read plan_version (input reader.old)) }
@@ -61,7 +61,7 @@ fn plan_version(reader: &mut Reader<'_>) -> Result<u8, PlanError>
     })
 }
 
-/// What stands before the entries.
+/// The fields before the entries.
 #[tactic(auto, using(av1_plan::proofs::Formats::read_bind), unfolding(crate::specs::Grammar::front))]
 fn front(reader: &mut Reader<'_>) -> Result<FileFront, PlanError>
     ensures read { Gives (λ x. (front_value x, input reader.new)) result (read front (input reader.old)) }
@@ -112,7 +112,7 @@ fn head(reader: &mut Reader<'_>) -> Result<FrameHead, PlanError>
     })
 }
 
-/// What stands at the front of an entry that is a frame, shown or not.
+/// The fields of a frame before its part. `shown` says whether the frame is shown.
 #[tactic(auto, using(av1_plan::proofs::Formats::read_bind), unfolding(crate::specs::Grammar::coded_head))]
 fn coded_head(reader: &mut Reader<'_>, shown: bool) -> Result<EntryHead, PlanError>
     ensures read { Gives (λ x. (x, input reader.new)) result (read (coded_head shown) (input reader.old)) }
@@ -123,7 +123,7 @@ fn coded_head(reader: &mut Reader<'_>, shown: bool) -> Result<EntryHead, PlanErr
     Ok(EntryHead::Coded { shown, head })
 }
 
-/// What stands at the front of an entry that shows the frame of a slot again.
+/// The fields of an entry that shows a slot again.
 #[tactic(auto, using(av1_plan::proofs::Formats::read_bind), unfolding(crate::specs::Grammar::again_head))]
 fn again_head(reader: &mut Reader<'_>) -> Result<EntryHead, PlanError>
     ensures read { Gives (λ x. (x, input reader.new)) result (read again_head (input reader.old)) }
@@ -135,8 +135,8 @@ fn again_head(reader: &mut Reader<'_>) -> Result<EntryHead, PlanError>
     Ok(EntryHead::Again { slot, refresh })
 }
 
-/// The kind of an entry, in a sequence whose plans are of this version: 0 for a frame that isn't shown, 1 for one that
-/// is, and 2 for the frame of a slot, shown again.
+/// The kind of an entry, in a sequence with this version of plans: 0 for a frame that isn't shown, 1 for a frame that
+/// is shown, and 2 for a slot that is shown again.
 #[tactic(auto, unfolding(crate::specs::Grammar::kind))]
 fn kind(reader: &mut Reader<'_>, version: u8) -> Result<u8, PlanError>
     ensures read { Gives (λ x. (x, input reader.new)) result (read (kind version) (input reader.old)) }
@@ -149,7 +149,7 @@ fn kind(reader: &mut Reader<'_>, version: u8) -> Result<u8, PlanError>
     }
 }
 
-/// What stands at the front of an entry, in a sequence whose plans are of this version.
+/// The fields of an entry before its part, in a sequence with this version of plans.
 #[tactic(auto, using(av1_plan::proofs::Formats::read_bind), unfolding(crate::specs::Grammar::entry_head))]
 fn entry_head(reader: &mut Reader<'_>, version: u8) -> Result<EntryHead, PlanError>
     ensures read { Gives (λ x. (x, input reader.new)) result (read (entry_head version) (input reader.old)) }
@@ -164,7 +164,7 @@ fn entry_head(reader: &mut Reader<'_>, version: u8) -> Result<EntryHead, PlanErr
     }
 }
 
-/// An entry, in a sequence whose plans are of this version.
+/// An entry, in a sequence with this version of plans.
 #[tactic(auto, unfolding(crate::specs::Grammar::read_entry, crate::specs::Grammar::read_behind))]
 fn entry<'a>(reader: &mut Reader<'a>, version: u8) -> Result<Entry<'a>, PlanError>
     ensures read { Gives (λ x. (entry_value x, input reader.new)) result (read_entry version (input reader.old)) }
@@ -181,7 +181,7 @@ fn entry<'a>(reader: &mut Reader<'a>, version: u8) -> Result<Entry<'a>, PlanErro
     }
 }
 
-/// So many entries, in a sequence whose plans are of this version.
+/// The next `count` entries, in a sequence with this version of plans.
 #[tactic(auto, using(crate::proofs::ReadEntries::turns))]
 fn entries<'a>(
     alloc: Global,
@@ -202,12 +202,12 @@ fn entries<'a>(
     Ok(entries)
 }
 
-/// The sequence of frames that these bytes are, read from left to right.
+/// Reads a sequence of frames from its bytes, from left to right.
 ///
 /// # Errors
 ///
-/// `Malformed` names the start of the first field that is cut, has a value that is not admitted after the fields before
-/// it, or is left over. The part of a frame is one field. `Memory` where memory runs out.
+/// `Malformed` gives the start of the first bad field. That field is cut off, has a value that is not valid after the
+/// fields before it, or follows the end. The part of a frame is one field. `Memory` if memory runs out.
 #[tactic(auto, unfolding(crate::specs::Grammar::read_file))]
 pub fn read_sequence(alloc: Global, bytes: &[u8]) -> Result<SequenceFile<'_>, PlanError>
     requires { length bytes.now ≤ 2 ^ 26 }

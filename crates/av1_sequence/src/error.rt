@@ -1,4 +1,4 @@
-//! Why frames are refused.
+//! Why a frame or a sequence is rejected.
 
 ghost use Rattle.std.specs.Prelude.{◌≡◌};
 ghost use Rattle.av1_sequence.specs.Errors.{file_error, read_error};
@@ -9,15 +9,14 @@ use av1_blocks::OutOfMemory;
 use av1_plan::{InvalidKind, PlanError};
 use av1_streams::{ReadError, WriteFault};
 
-/// Why a frame is refused.
+/// Why a frame is rejected, or memory ran out.
 #[derive(Copy, Clone, Debug, PartialEq, Eq)]
 pub enum FrameError {
-    /// Its plan, with the reference samples of the slots that it reads, would have more than 64 MiB.
+    /// The frame's plan, with the reference samples of the slots that it reads, would have more than 64 MiB.
     TooLarge,
-    /// The field that begins at byte `at` of the part is cut, has a value that is not admitted, or is left over after
-    /// the end.
+    /// The field at byte `at` of the part is cut off, has a value that is not valid, or follows the end.
     Malformed { at: u32 },
-    /// Leaf number `leaf`, counted from 0 in coding order, is the first that is refused, and why.
+    /// Leaf number `leaf`, counted from 0 in coding order, is the first rejected leaf. `kind` is the reason.
     Invalid { leaf: u32, kind: InvalidKind },
     /// Memory ran out.
     Memory,
@@ -34,12 +33,11 @@ impl From<OutOfMemory> for FrameError {
 /// Why a frame of a sequence is rejected.
 #[derive(Copy, Clone, Debug, PartialEq, Eq)]
 pub enum FrameFault {
-    /// Its plan, with the reference samples of the slots that it reads, would have more than 64 MiB.
+    /// The frame's plan, with the reference samples of the slots that it reads, would have more than 64 MiB.
     TooLarge,
-    /// The field that begins at byte `at` of the part is cut, has a value that is not admitted, or is left over after
-    /// the end.
+    /// The field at byte `at` of the part is cut off, has a value that is not valid, or follows the end.
     Malformed { at: u32 },
-    /// Leaf number `leaf`, counted from 0 in coding order, is the first that is refused, and why.
+    /// Leaf number `leaf`, counted from 0 in coding order, is the first rejected leaf. `kind` is the reason.
     Invalid { leaf: u32, kind: InvalidKind },
 }
 
@@ -48,20 +46,20 @@ pub enum FrameFault {
 pub enum SequenceError {
     /// A read failed.
     ReadFault,
-    /// The source gave a byte past the most that a sequence has, which are as many as a plan has.
+    /// The source has more bytes than the longest sequence. The limit is 64 MiB, as for a plan.
     TooLong,
-    /// The field that begins at byte `at` is cut, has a value that is not admitted, or is left over after the end. The
-    /// part of a frame is one field.
+    /// The field at byte `at` is cut off, has a value that is not valid, or follows the end. The part of a frame is one
+    /// field.
     Malformed { at: u32 },
-    /// Entry number `frame`, counted from 0, is the first that is rejected. It is a frame, and `fault` says why. The
+    /// Entry number `frame`, counted from 0, is the first rejected entry. It is a frame, and `fault` is the reason. The
     /// frames that are shown before it were written.
     Frame { frame: u16, fault: FrameFault },
-    /// Entry number `frame`, counted from 0, is the first that is rejected. It shows a slot again that is empty. The
+    /// Entry number `frame`, counted from 0, is the first rejected entry. It shows a slot again that is empty. The
     /// frames that are shown before it were written.
     EmptySlot { frame: u16 },
-    /// A write failed. A prefix of what was to be written stands.
+    /// A write failed. The sink has a prefix of the output.
     WriteFault,
-    /// Memory ran out. Some first frames that are shown were written, each whole.
+    /// Memory ran out. The sink has the first shown frames, each whole.
     Memory,
 }
 

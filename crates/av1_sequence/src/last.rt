@@ -1,12 +1,12 @@
-//! Where the frame that was accepted last is kept.
+//! Says where a sequence keeps the last accepted frame.
 
-/// Where the frame that was accepted last is kept.
+/// The place of the frame that was accepted last.
 #[derive(Clone, Copy, Debug, PartialEq, Eq)]
 pub enum Last {
     /// No frame was accepted yet.
     Nowhere,
-    /// In no slot.
+    /// The frame is in no slot, and is kept separately.
     Apart,
-    /// With the frames that slots show, at this place.
+    /// The frame is among the frames of slots, at this place.
     At(u8),
 }

@@ -1,4 +1,4 @@
-//! The leaves that the part of a frame spells.
+//! Reads the leaves that the part of a frame spells.
 
 ghost use Rattle.std.specs.Prelude.{◌≡◌, ◌≤◌, ◌^◌, None, length, IfOk, IfErr};
 ghost use Rattle.av1_plan.specs.Values.{leaves_value};
@@ -12,7 +12,7 @@ use crate::error::FrameError;
 use av1_plan::{Header, Invalid, Leaves, PlanError, check_leaves, parse_leaves};
 use std::alloc::Global;
 
-/// What a faulty leaf is for its frame.
+/// The error of a frame for a bad leaf.
 fn refusal(invalid: Invalid) -> FrameError
     ensures { result ≡ FrameError.Invalid invalid.leaf invalid.kind }
 {
@@ -22,7 +22,7 @@ fn refusal(invalid: Invalid) -> FrameError
     }
 }
 
-/// The leaves that a part spells in a frame with this header, where they are valid.
+/// The leaves that a part spells in a frame with this header, if they are valid.
 pub fn read_leaves(alloc: Global, header: &Header, part: &[u8]) -> Result<Leaves, FrameError>
     requires short { length part.now ≤ 2 ^ 26 }
     requires frame { IsReadFrame header.now }

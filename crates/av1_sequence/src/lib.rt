@@ -1,25 +1,29 @@
 //! A sequence of frames, each predicted from those before it.
 //!
-//! A [`Sequence`] keeps eight slots between frames. A frame comes as a head, which says how it is predicted, which
-//! slots its references name and which it replaces, and as a part, which spells its leaves by the plan grammar of
-//! `av1_plan`. Its plan is that of a frame of its own, with the planes of the slots that it reads as references
-//! (`specs/Frames.antt`), and `av1_tile` reconstructs it.
+//! A [`Sequence`] keeps eight slots between frames. A frame comes as a head and a part. The head says how the frame is
+//! predicted, which slots its references name, and which slots the frame replaces. The part spells the leaves by the
+//! plan grammar of `av1_plan`. The frame's plan is the plan of a single frame whose references are the planes of the
+//! slots that it reads (`specs/Frames.antt`). `av1_tile` reconstructs it.
 //!
-//! A sequence holds all of its frames in samples of one type: a [`Sequence`] in `u16`, a [`SequenceOf`] `u8` in bytes,
-//! for depth 8.
+//! A sequence holds all of its frames in samples of one type. A [`Sequence`] uses `u16`. A [`SequenceOf`] `u8` uses
+//! bytes, for depth 8.
 //!
-//! A frame is reconstructed where it is kept: it is padded once, and moved to a place among eight; slots name places,
-//! so that a frame that replaces several is kept once. A frame that replaces none stays where it is until the next one.
+//! A frame is reconstructed in the planes that keep it. It is padded once and moved to one of eight places. Slots name
+//! places, so a frame that replaces several slots is kept once. A frame that replaces no slot is kept separately until
+//! the next frame.
 //!
-//! The frame of a slot can be shown again: it is then the last frame, and stands in the slots that are said, too.
+//! The frame of a slot can be shown again. It is then the last frame, and the call can also put it into other slots.
 //!
 //! AV1 specification: reference frame update process, reference frame loading process, output process.
 //!
-//! Promised (`specs/Outcomes.antt`): [`Sequence::frame`] accepts exactly the frames whose plan is valid and not too
-//! large, unless memory runs out; the slots that the head says are then the visible planes of the slow definition, and
-//! all others are as they were. A frame that is refused changes nothing. [`Sequence::show_again`] shows the frame of a
-//! slot exactly where the slot is filled. So after any list of calls the slots are those of the frames alone that were
-//! accepted or shown again (`specs/Calls.antt`).
+//! What the calls promise (`specs/Outcomes.antt`):
+//!
+//! - [`Sequence::frame`] accepts exactly the frames whose plan is valid and not too large, unless memory runs out. The
+//!   slots that the head replaces then have the visible planes of the slow definition, and the other slots are
+//!   unchanged. A rejected frame changes nothing.
+//! - [`Sequence::show_again`] shows the frame of a slot exactly if the slot is filled.
+//! - So after any list of calls, only accepted frames and frames that were shown again have changed the slots
+//!   (`specs/Calls.antt`).
 #![tactic(auto)]
 
 mod container;

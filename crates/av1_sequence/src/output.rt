@@ -1,7 +1,7 @@
-//! The visible planes of a frame, written row by row.
+//! Writes the visible planes of a frame, row by row.
 //!
-//! Samples of 8 bits are the bytes that are written, so a row of them is written as it stands. Others are put into a
-//! buffer, two bytes each.
+//! Rows of 8-bit samples are written directly. Rows of 16-bit samples are first put into a buffer, two bytes for each
+//! sample.
 
 ghost use Rattle.std.specs.Prelude.{◌≡◌, ◌*◌, ◌<◌, ◌≤◌, Some, length, map, take, OnOk};
 ghost use Rattle.std.specs.List.{flat_map};
@@ -20,13 +20,13 @@ use av1_plan::Header;
 use av1_streams::{Sink, WriteFault, write_bytes};
 use av1_tile::visible_row;
 
-/// The bytes of a row of the widest frame.
+/// The length of the widest frame's rows in bytes.
 pub const MOST_BYTES: usize = 2 * 2048;
 
-/// A sample that is written: one of 8 bits as one byte, and one of 16 as two, the low one first.
+/// A sample that can be written: 8 bits as one byte, and 16 bits as two, the low byte first.
 pub trait Written: Pixel {
-    /// Appends the samples of a row, or a prefix of their bytes. The buffer is for bytes that are not the samples
-    /// themselves.
+    /// Appends the samples of a row. If a write fails, the sink has a prefix of their bytes. `buffer` is scratch for
+    /// samples that are not bytes.
     fn write_row<W: Sink>(
         row: &[Self],
         buffer: &mut [u8; MOST_BYTES],
@@ -59,7 +59,7 @@ impl Written for u16 {
     }
 }
 
-// The samples at the front of the bytes, two bytes each.
+// Writes the samples to the front of the bytes, two bytes for each sample.
 fn pack(samples: &[u16], bytes: &mut [u8])
     requires room { 2 * length samples.now ≤ length bytes.old }
     ensures { take (2 * length samples.now) bytes.new ≡ flat_map (sample_bytes 16) samples.now }
@@ -70,9 +70,9 @@ fn pack(samples: &[u16], bytes: &mut [u8])
     }
 }
 
-/// Appends the visible planes of the frame that was accepted last, Y, U and V, each row by row, one byte a sample at
-/// depth 8, else two, the low one first. The first write that fails ends the call, and a prefix of the planes stands.
-/// The buffer is for the bytes of a row.
+/// Appends the visible planes of the last frame: Y, U and V, each row by row. A sample has one byte at depth 8, else
+/// two, the low byte first. The first write that fails ends the call, and the sink then has a prefix of the planes.
+/// `buffer` is scratch for a row.
 pub fn write_last<T: Written, W: Sink>(
     sequence: &SequenceOf<T>,
     buffer: &mut [u8; MOST_BYTES],
@@ -90,7 +90,7 @@ pub fn write_last<T: Written, W: Sink>(
     write_plane(sequence, 2, buffer, sink)
 }
 
-// Appends the visible rows of plane `p` of the frame that was accepted last, or a prefix of their bytes.
+// Appends the visible rows of plane `p` of the last frame. If a write fails, the sink has a prefix of their bytes.
 fn write_plane<T: Written, W: Sink>(
     sequence: &SequenceOf<T>,
     p: usize,
@@ -111,7 +111,7 @@ fn write_plane<T: Written, W: Sink>(
     }
 }
 
-// Appends the visible rows of plane `p` of a frame, or a prefix of their bytes.
+// Appends the visible rows of plane `p` of a frame. If a write fails, the sink has a prefix of their bytes.
 fn write_rows<T: Written, W: Sink>(
     header: &Header,
     plane: &Plane<T>,

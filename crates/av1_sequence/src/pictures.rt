@@ -1,7 +1,7 @@
-//! The frames that slots show.
+//! The frames of slots.
 //!
-//! A frame that replaces several slots is kept once: `places` says for each slot where its frame is kept, among eight
-//! places. A place that no slot shows is taken for the next frame.
+//! A frame that replaces several slots is kept once. `places` says at which of eight places the frame of each slot is
+//! kept. A place that no slot names is free for the next frame.
 
 ghost use Rattle.std.specs.Prelude.{[], ◌≡◌, ◌≢◌, ℕ, ◌+◌, ◌*◌, ◌%◌, ◌^◌, ◌<◌, ◌≤◌, true, false, None, Some, replicate, slice_index_or, is_some};
 ghost use Rattle.std.specs.Prelude.{length, map};
@@ -26,17 +26,17 @@ use av1_plan::Header;
 use av1_tile::{Planes, visible_row};
 use std::alloc::Global;
 
-/// How many slots there are, and how many places.
+/// The number of slots, and of places.
 const SLOTS: usize = 8;
 
-/// The frames that slots show.
+/// The frames of slots.
 #[derive(Drop)]
 pub struct Pictures<T: Pixel> {
-    /// The version, sides, depth and sampling of the frames.
+    /// The version, dimensions, depth and sampling of the frames.
     pub(crate) header: Header,
     /// The frames, padded, each at its place.
     pub(crate) fi: FrameInvariants<T>,
-    /// For each slot the place of its frame, where it is filled.
+    /// For each filled slot the place of its frame.
     pub(crate) places: [Option<u8>; SLOTS],
     pub(crate) ghost keeps: { KeepsFrames T.num header fi places },
 }
@@ -50,7 +50,7 @@ fn plane_samples(header: &Header, p: usize) -> usize
     header.plane_len(p)
 }
 
-/// How many bytes the samples of a frame are: one a sample at depth 8, else two.
+/// How many bytes the samples of a frame have: one for each sample at depth 8, else two.
 fn frame_bytes(header: &Header) -> usize
     requires { AreFrames header.now }
     ensures value { result ≡ slot_bytes header.now }
@@ -80,7 +80,7 @@ fn is_named(named: &[u8; 7], slot: usize) -> bool
     named.iter().any(|name| usize::from(*name) == slot)
 }
 
-/// Whether a frame is kept for the slot at this place.
+/// Whether a slot with this place has its frame at `place`.
 fn is_at(kept: Option<u8>, place: u8) -> bool
     ensures yes { result ≡ true → kept ≡ Some place }
     ensures no { result ≡ false → kept ≢ Some place }
@@ -91,7 +91,7 @@ fn is_at(kept: Option<u8>, place: u8) -> bool
     }
 }
 
-/// Whether a slot that the frame does not replace shows the frame at a place.
+/// Whether a slot that the frame does not replace has its frame at a place.
 fn is_shown(places: &[Option<u8>; SLOTS], refresh: u8, place: u8) -> bool
     ensures yes { result ≡ true → (s : ℕ) × ((s < 8) × (has_bit refresh s ≡ false) × (slice_index_or places.now s None ≡ Some place)) }
     ensures no { result ≡ false → (s : ℕ) → s < 8 → has_bit refresh s ≡ false → slice_index_or places.now s None ≢ Some place }
@@ -104,7 +104,8 @@ fn is_shown(places: &[Option<u8>; SLOTS], refresh: u8, place: u8) -> bool
     false
 }
 
-/// The first place that no slot shows but those that the frame replaces. There is one, since it replaces a slot.
+/// The first place that no slot needs, except slots that the frame replaces. There is one, because the frame replaces
+/// at least one slot.
 fn free_place(places: &[Option<u8>; SLOTS], refresh: u8) -> u8
     requires some { (r : ℕ) × ((r < 8) × (has_bit refresh r ≡ true)) }
     ensures below { result < 8 }
@@ -118,7 +119,7 @@ fn free_place(places: &[Option<u8>; SLOTS], refresh: u8) -> u8
     7
 }
 
-/// The places once the frame at `place` has replaced slots.
+/// The places after the frame at `place` has replaced slots.
 fn replaced(places: [Option<u8>; SLOTS], refresh: u8, place: u8) -> [Option<u8>; SLOTS]
     requires { length places ≡ 8 }
     ensures count { length result ≡ 8 }
@@ -146,7 +147,7 @@ fn places_of(places: &[Option<u8>; SLOTS], slots: &[u8; 7]) -> [u8; 7]
     named
 }
 
-/// Makes what is shown of plane `p` of a frame its visible samples, and pads it with these.
+/// Makes only the shown part of plane `p` of a frame visible, and pads the plane from it.
 fn pad_shown<T: Pixel>(header: &Header, plane: &mut Plane<T>, p: usize)
     requires frame { AreFrames header.now }
     requires stores { Stores T.num header.now p plane.old }
@@ -164,7 +165,7 @@ fn open_plane<T: Pixel>(header: &Header, plane: &mut Plane<T>, p: usize)
     plane.set_sides(header.plane_width(p), header.plane_height(p));
 }
 
-/// The planes of a frame, where there are some, for a later one: what is coded of each is visible again.
+/// The planes of a frame, if given, for a later frame. All that is coded is visible again.
 fn as_planes<T: Pixel>(
     header: &Header,
     planes: Option<(Plane<T>, Plane<T>, Plane<T>)>,
@@ -184,7 +185,7 @@ fn as_planes<T: Pixel>(
 }
 
 impl<T: Pixel> Pictures<T> {
-    /// No frames.
+    /// No frames: all slots are empty.
     pub fn new(alloc: Global, header: Header) -> Result<Pictures<T>, OutOfMemory>
         requires { AreFrames header }
         ensures header { IfOk result (λ p. p.header ≡ header) }
@@ -258,7 +259,7 @@ impl<T: Pixel> Pictures<T> {
         }
     }
 
-    /// How many bytes the reference samples of a frame with this head are.
+    /// How many bytes the reference samples of a frame with this head have.
     #[tactic(auto, using(crate::proofs::Sizes::eight_times))]
     pub fn reference_bytes(&self, head: &FrameHead) -> usize
         ensures value { result ≡ count_of (is_read head.now.slots (slots_shown T.num self.now.header self.now.fi self.now.places)) 8 * slot_bytes
@@ -268,8 +269,7 @@ impl<T: Pixel> Pictures<T> {
         self.count(head) * frame_bytes(&self.header)
     }
 
-    /// Takes over the settings of a frame with this head, and lets its references name the places of the slots that it
-    /// reads.
+    /// Takes the settings of a frame with this head. Its references then name the places of the slots that it reads.
     pub fn set_head(&mut self, head: &FrameHead)
         requires { IsHead head.now }
         ensures header { self.new.header ≡ self.old.header }
@@ -286,8 +286,8 @@ impl<T: Pixel> Pictures<T> {
         self.fi.ref_frames = places_of(&self.places, &head.slots);
     }
 
-    /// Keeps a frame, padded, at a place that no other slot shows, and says where: slots that it replaces then show it.
-    /// Gives the planes that stood at that place before, where there were some, for a later frame.
+    /// Keeps a frame, padded, at a free place, and returns the place. The slots of `refresh` then have this frame. Also
+    /// returns the planes that were at that place, if any, for a later frame.
     pub fn keep(&mut self, refresh: u8, planes: Planes<T>) -> (u8, Option<Planes<T>>)
         requires some { refresh ≢ 0 }
         requires ready { AreReady T.num self.old.header planes }
@@ -312,7 +312,7 @@ impl<T: Pixel> Pictures<T> {
         (place, as_planes(&self.header, before))
     }
 
-    /// Lets the frame at a place stand in the slots that are said, too.
+    /// Also puts the frame at a place into the slots of `refresh`.
     pub fn also_in(&mut self, refresh: u8, place: u8)
         requires kept { IsKeptAt T.num self.old.header self.old.fi place }
         ensures header { self.new.header ≡ self.old.header }

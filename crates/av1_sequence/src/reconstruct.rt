@@ -1,4 +1,4 @@
-//! From the bytes of a sequence of frames to the bytes of their planes.
+//! Reads a sequence of frames from a source and writes its planes to a sink.
 
 ghost use Rattle.std.specs.Prelude.{◌≡◌, ◌≢◌, ◌<◌, ◌≤◌, ℕ, List, Option, Err, IfOk, IfErr, IsErrAnd};
 ghost use Rattle.av1_streams.specs.Faults.{FaultCounted};
@@ -17,25 +17,26 @@ use av1_frame::Pixel;
 use av1_streams::{Sink, Source, read_plan_bytes};
 use std::alloc::Global;
 
-/// Reads a sequence of frames from the source to its end, reconstructs one frame after the other, and appends the
-/// visible planes of each that is shown to the sink as soon as it is accepted: Y, U and V, each row by row, one byte a
-/// sample at depth 8, else two, the low one first. A frame that is shown again is appended again.
+/// Reads a sequence of frames from the source to its end and reconstructs one frame after the other. Appends the
+/// visible planes of each shown frame to the sink as soon as the frame is accepted. The planes are Y, U and V, each row
+/// by row. A sample has one byte at depth 8, else two, the low byte first. A frame that is shown again is appended
+/// again.
 ///
 /// AV1 specification: output process.
 ///
 /// # Errors
 ///
-/// `ReadFault` and `TooLong` while it reads, then `Malformed`, before anything is written. `Frame` or `EmptySlot` names
-/// the first entry that is refused: the planes of the frames that are shown before it were written. `WriteFault` where
-/// a write fails, and a prefix of what was to be written stands. `Memory` may stand in place of any of them: the planes
-/// of some first frames that are shown were written, each whole.
+/// - `ReadFault` and `TooLong` while the call reads, then `Malformed`. Nothing is written before these.
+/// - `Frame` or `EmptySlot` for the first rejected entry. The planes of frames that are shown before it were written.
+/// - `WriteFault` if a write fails. The sink then has a prefix of the output.
+/// - `Memory` may replace any of them. The sink then has the planes of the first shown frames, each whole.
 pub fn reconstruct_sequence<R: Source, W: Sink>(
     alloc: Global,
     source: &mut R,
     sink: &mut W,
 ) -> Result<(), SequenceError>
     ensures does { PerformsInTurn R.left R.faults W.taken W.faults source.old source.new sink.old sink.new result }
-    // What follows for a source that tells its bytes.
+    // What follows if the bytes of the source are known.
     ensures tells { AnswersInTurn R.left R.faults W.taken W.faults source.old source.new sink.old sink.new result }
 {
     let bytes = read_plan_bytes(alloc, source)?;
@@ -47,8 +48,7 @@ pub fn reconstruct_sequence<R: Source, W: Sink>(
     }
 }
 
-/// Takes the entries of a sequence, one after the other, and writes the frame of each that is shown as soon as it is
-/// accepted.
+/// Takes the entries of a sequence, one after the other. Writes each shown frame as soon as it is accepted.
 fn show_frames<T: Written, W: Sink>(
     alloc: Global,
     file: &SequenceFile<'_>,
@@ -83,8 +83,8 @@ fn show_frames<T: Written, W: Sink>(
     Ok(())
 }
 
-/// Gives a sequence entry number `index`, and writes its frame where it is accepted and shown. The buffer is for the
-/// bytes of a row.
+/// Passes entry number `index` to the sequence, and writes its frame if it is accepted and shown. `buffer` is scratch
+/// for a row.
 fn show_entry<T: Written, W: Sink>(
     sequence: &mut SequenceOf<T>,
     index: usize,
@@ -107,7 +107,7 @@ fn show_entry<T: Written, W: Sink>(
     Ok(())
 }
 
-/// Gives a sequence entry number `index`, and says whether its frame is shown.
+/// Passes entry number `index` to the sequence, and returns whether its frame is shown.
 fn take_entry<T: Pixel>(
     sequence: &mut SequenceOf<T>,
     index: usize,
@@ -135,7 +135,7 @@ fn take_entry<T: Pixel>(
     }
 }
 
-/// The refusal of entry number `index` where the slot is empty whose frame is to be shown again.
+/// The error of entry number `index` if the slot that it shows again is empty.
 fn empty_slot(index: usize) -> SequenceError
     requires { index < 65536 }
     ensures { result ≡ SequenceError.EmptySlot index }
@@ -145,7 +145,7 @@ fn empty_slot(index: usize) -> SequenceError
     }
 }
 
-/// What a refusal of the frame of entry number `index` is for its sequence.
+/// The error of a sequence for the error of the frame with entry number `index`.
 fn frame_error(index: usize, error: FrameError) -> SequenceError
     requires { index < 65536 }
     ensures { result ≡ frame_error index error }

@@ -1,4 +1,4 @@
-//! A sequence of frames, and the slots that it keeps between them.
+//! A sequence of frames, and the slots that it keeps between frames.
 
 ghost use Rattle.std.specs.Prelude.{◌≡◌, ℕ, ◌<◌, ◌≤◌, true, Some, None, is_some, IfOk, OnErr};
 ghost use Rattle.av1_plan.specs.ReadPlans.{IsReadFrame};
@@ -21,21 +21,21 @@ use av1_tile::{Planes, WalkMemory, visible_row};
 use std::alloc::Global;
 use std::marker::Model;
 
-/// The most bytes of a plan.
+/// The greatest length of a plan in bytes.
 const MOST_BYTES: usize = 1 << 26;
 
-/// The bytes of a plan that stand before its references.
+/// The length of a plan's header in bytes.
 const HEADER_BYTES: usize = 20;
 
-/// How many samples of luma stand on every side of a frame that is kept: motion compensation of blocks with sides up to
-/// 64 reads so far.
+/// How many samples of luma are padded on each side of a kept frame. Motion compensation of blocks of up to 64 by 64
+/// reads that far.
 const PAD: usize = 80;
 
 /// A sequence of frames of any depth, with two bytes for each sample.
 pub type Sequence = SequenceOf<u16>;
 
-/// A sequence of frames of one size, depth and sampling, and the eight slots that it keeps between them, all in samples
-/// of type `T`: `u8` serves depth 8, `u16` any.
+/// A sequence of frames of one size, depth and sampling, and its eight slots. All samples have type `T`: `u8` is for
+/// depth 8, `u16` for any depth.
 #[derive(Drop)]
 pub struct SequenceOf<T: Pixel> {
     alloc: Global,
@@ -50,8 +50,7 @@ pub struct SequenceOf<T: Pixel> {
     ghost fits: { pictures.header.depth ≤ T.BITS },
 }
 
-/// Planes that a frame with this header can be reconstructed in and then kept: those that stand apart, where there are
-/// some, else new ones.
+/// Planes to reconstruct and keep a frame with this header in: the planes that are free, if any, else new ones.
 fn planes_for<T: Pixel>(
     alloc: Global,
     apart: Option<Planes<T>>,
@@ -109,9 +108,9 @@ impl<T: Pixel> SequenceOf<T> {
     ghost use Rattle.av1_sequence.specs.Output.{IsWritable};
     ghost use Rattle.av1_sequence.specs.Slots.{Frame, row_in, slot_of};
 
-    /// A sequence of frames of the second version of plans, with these sides (in samples of luma, multiples of 8 from 8
-    /// to 2048), of this depth (8, 10 or 12, and one that the samples have) and sampling (0 for 4:2:0, 1 for 4:2:2, 2
-    /// for 4:4:4), to which no frame was given yet.
+    /// A sequence without frames, for plans of version 2. `width` and `height` are in samples of luma, multiples of 8
+    /// from 8 to 2048. `depth` is 8, 10 or 12, and at most the bits of the sample type. `sampling` is 0 for 4:2:0, 1
+    /// for 4:2:2 and 2 for 4:4:4.
     pub fn new(
         alloc: Global,
         width: u16,
@@ -129,9 +128,9 @@ impl<T: Pixel> SequenceOf<T> {
         SequenceOf::with_version(alloc, 2, width, height, depth, sampling)
     }
 
-    /// A sequence of frames of this version of plans (1, 2 or 3), with these sides (in samples of luma that are shown,
-    /// from 1 to 2048, up to version 2 multiples of 8), of this depth (8, 10 or 12, and one that the samples have) and
-    /// sampling (0 for 4:2:0, 1 for 4:2:2, 2 for 4:4:4), to which no frame was given yet.
+    /// A sequence without frames, for plans of this version (1, 2 or 3). `width` and `height` are in visible samples of
+    /// luma, from 1 to 2048. Up to version 2 they are multiples of 8. `depth` is 8, 10 or 12, and at most the bits of
+    /// the sample type. `sampling` is 0 for 4:2:0, 1 for 4:2:2 and 2 for 4:4:4.
     pub fn with_version(
         alloc: Global,
         version: u8,
@@ -170,20 +169,20 @@ impl<T: Pixel> SequenceOf<T> {
         })
     }
 
-    /// A header with the version, sides, depth and sampling of the frames. What else it says is of no frame.
+    /// A header with the version, dimensions, depth and sampling of the frames. Its other fields have no meaning.
     pub fn header(&self) -> &Header
         ensures { result.now ≡ self.now.frames }
     {
         &self.pictures.header
     }
 
-    /// Takes the next frame: reconstructs the leaves that `part` spells, predicted from the slots that the head names,
-    /// and lets the frame replace the slots that the head says.
+    /// Takes the next frame: reconstructs the leaves that `part` spells, predicted from the slots that the head names.
+    /// The frame then replaces the slots of `head.refresh`.
     ///
     /// # Errors
     ///
-    /// `TooLarge` is judged first, then `Malformed`, then `Invalid`; `Memory` may stand in place of the last two. The
-    /// sequence is then as it was before.
+    /// `TooLarge` is tested first, then `Malformed`, then `Invalid`. `Memory` may replace the last two. After an error
+    /// the sequence is unchanged.
     pub fn frame(&mut self, head: &FrameHead, part: &[u8]) -> Result<(), FrameError>
         requires part { length part.now ≤ 2 ^ 26 }
         requires head { IsHead head.now }
@@ -203,10 +202,10 @@ impl<T: Pixel> SequenceOf<T> {
         self.show(&header, head, &leaves)
     }
 
-    /// Shows the frame of a slot (from 0 to 7) again: it is then the last one, and stands in the slots that `refresh`
-    /// says, too (bit s is slot s). False, and all stays as it is, where the slot is empty.
+    /// Shows the frame of a slot (0 to 7) again. The frame is then the last one, and the slots of `refresh` also hold
+    /// it (bit s is slot s). If the slot is empty, the call returns false and changes nothing.
     ///
-    /// AV1 specification: reference frame loading process, of which `refresh` is 255 for a key frame and else 0.
+    /// AV1 specification: reference frame loading process. There `refresh` is 255 for a key frame, else 0.
     pub fn show_again(&mut self, slot: usize, refresh: u8) -> bool
         requires slot { slot < 8 }
         ensures shown { result ≡ true → (frame : Frame) × (slot_of self.old.slots slot ≡ Some frame) × (self.new ≡ shown_again self.old refresh frame) }
@@ -222,7 +221,7 @@ impl<T: Pixel> SequenceOf<T> {
         }
     }
 
-    // Reconstructs the leaves of a frame, and keeps it.
+    // Reconstructs the leaves of a frame, and keeps the frame.
     fn show(&mut self, header: &Header, head: &FrameHead, leaves: &Leaves) -> Result<(), FrameError>
         requires head { IsHead head.now }
         requires header { header.now ≡ frame_header self.old.frames self.old.slots head.now }
@@ -248,8 +247,8 @@ impl<T: Pixel> SequenceOf<T> {
         Ok(())
     }
 
-    /// Plane `p` (0 for Y, 1 for U and 2 for V) of the frame that was accepted or shown again last, wherever it is
-    /// kept. None where no frame was accepted yet.
+    /// Plane `p` (0 for Y, 1 for U and 2 for V) of the last frame that was accepted or shown again. `None` if there was
+    /// none yet.
     pub(crate) fn last_plane(&self, p: usize) -> Option<&Plane<T>>
         requires plane { p < 3 }
         ensures shown { option_map (λ plane. plane_shown T.num self.now.frames p plane.now) result ≡
@@ -267,8 +266,8 @@ impl<T: Pixel> SequenceOf<T> {
         }
     }
 
-    /// Row `y` of what is shown of plane `p` (0 for Y, 1 for U and 2 for V) of the frame that was accepted or shown
-    /// again last. None where no frame was accepted yet.
+    /// The visible samples of row `y` of plane `p` (0 for Y, 1 for U and 2 for V). The frame is the last one that was
+    /// accepted or shown again. `None` if there was none yet.
     pub fn last_row(&self, p: usize, y: usize) -> Option<&[T]>
         requires plane { p < 3 }
         requires in_plane { y < shown_rows self.now.frames p }
@@ -281,7 +280,7 @@ impl<T: Pixel> SequenceOf<T> {
         }
     }
 
-    /// Row `y` of what is shown of plane `p` of the frame in a slot. None where the slot is empty.
+    /// The visible samples of row `y` of plane `p` of the frame in a slot. `None` if the slot is empty.
     pub fn slot_row(&self, slot: usize, p: usize, y: usize) -> Option<&[T]>
         requires slot { slot < 8 }
         requires plane { p < 3 }

@@ -1,4 +1,4 @@
--- Where the columns or rows of tiles begin and end.
+-- Valid bounds of the columns and rows of tiles, and grids that were read.
 use Rattle.std.specs.Prelude.{◌≡◌, ℕ, ◌+◌, ◌-◌, ◌%◌, ◌<◌, ◌≤◌, ◌^◌, List, length, slice_index}
 use Rattle.std.specs.List.{All}
 use Rattle.av1_plan.specs.ReadPlans.{IsReadFrame, AreStoredSlots}
@@ -7,8 +7,8 @@ use Rattle.av1_tiles.specs.declared.file.TileFile.{TileFile}
 use Rattle.av1_tiles.specs.File.{front_value}
 use Rattle.av1_tiles.specs.Grammar.{count_tiles}
 
--- The bounds of at most 32 columns or rows of a frame with this side: they rise from 0 to the side, and each but the
--- last is a multiple of 64.
+-- The bounds of at most 32 columns or rows of a frame with this width or height. They rise from 0 to it, and each
+-- except the last is a multiple of 64.
 pub record AreBounds (side : ℕ) (bounds : List ℕ) : Type 0 where
   pub some : 2 ≤ length bounds
   pub few : length bounds ≤ 33
@@ -18,7 +18,7 @@ pub record AreBounds (side : ℕ) (bounds : List ℕ) : Type 0 where
   pub whole : (k : ℕ) → k + 1 < length bounds → slice_index bounds k % 64 ≡ 0
   pub rising : (k : ℕ) → k + 1 < length bounds → slice_index bounds k < slice_index bounds (k + 1)
 
--- what stands before the parts, where it was read
+-- the fields before the parts, after they were read
 pub record IsReadFront (f : Front) : Type 0 where
   pub frame : IsReadFrame f.header
   pub version : 2 ≤ f.header.version

@@ -1,4 +1,4 @@
--- What an error of a lower call is for the whole path.
+-- The error of the whole path for each error of a lower call.
 use Rattle.std.specs.Prelude.{ℕ}
 use Rattle.av1_plan.specs.declared.error.PlanError.{PlanError}
 use Rattle.av1_plan.specs.declared.error.PlanError.TheVariants as plan_errors
@@ -15,7 +15,7 @@ read_error read_errors.ReadFault = errors.ReadFault
 read_error read_errors.TooLong = errors.TooLong
 read_error read_errors.Memory = errors.Memory
 
--- an error of reading the grid that they are
+-- an error of reading the grid from its bytes
 abbrev pub file_error : PlanError → TilesError
 file_error (plan_errors.Malformed at) = errors.Malformed at
 file_error plan_errors.Memory = errors.Memory

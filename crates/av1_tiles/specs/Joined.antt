@@ -1,4 +1,4 @@
--- The frame that its tiles come to.
+-- The frame of a grid of tiles.
 use Rattle.std.specs.Prelude.{◌≡◌, ℕ, ◌+◌, ◌<◌, ◌≤◌, List}
 use Rattle.av1_lists.specs.Lists.{by_index}
 use Rattle.av1_frame.specs.Areas.{VisibleArea}
@@ -17,11 +17,11 @@ use Rattle.av1_tiles.specs.Grammar.{FrontValue, FileValue, count_tiles}
 use Rattle.av1_tiles.specs.Tiles.{tile_area, tile_header, tile_motion, tile_walk, corner_column, corner_row}
 use Rattle.av1_tiles.specs.Validity.{AreTiles}
 
--- the rectangle of a plane from column x of row y on that has the sides of what is shown of plane p of a frame
+-- the rectangle at column x of row y that has the visible dimensions of plane p of a frame
 abbrev pub placed : Header → (p x y : ℕ) → VisibleArea
 placed h p x y = record { x = x; y = y; width = shown_columns h p; height = shown_rows h p }
 
--- row y of what is shown of plane p of a frame
+-- the visible samples of row y of plane p of a frame
 abbrev pub row_in : {T : Type 0} → (T → ℕ) → Header → Planes T → (p y : ℕ) → List ℕ
 row_in num h planes p y = by_index (shown_columns h p) (λ x. samples_of num planes (component p) x y)
 
@@ -29,21 +29,21 @@ row_in num h planes p y = by_index (shown_columns h p) (λ x. samples_of num pla
 abbrev pub tile_rectangle : Header → TileArea → (p : ℕ) → VisibleArea
 tile_rectangle h a p = placed (tile_header h a) p (corner_column h a p) (corner_row h a p)
 
--- the sides of tile i in plane p
+-- the dimensions of tile i in plane p
 abbrev pub tile_columns : FrontValue → (i p : ℕ) → ℕ
 tile_columns f i p = shown_columns (tile_header f.header (tile_area f i)) p
 
 abbrev pub tile_rows : FrontValue → (i p : ℕ) → ℕ
 tile_rows f i p = shown_rows (tile_header f.header (tile_area f i)) p
 
--- at the samples of tile i the frame is what the tile comes to, counted from the tile's corner in each plane
+-- at the samples of tile i, the frame has the samples of the tile's plan, counted from the tile's corner in each plane
 abbrev pub ShowsTile : FrontValue → (i : ℕ) → PlanValue → (Component → ℕ → ℕ → ℕ) → Type 0
 ShowsTile f i plan frame =
     (component : Component) (x y : ℕ) → x < tile_columns f i (number component) → y < tile_rows f i (number component)
     → frame component (corner_column f.header (tile_area f i) (number component) + x)
     (corner_row f.header (tile_area f i) (number component) + y) ≡ sample_of (tile_walk f i plan component x y)
 
--- the joined planes: each sample is that of its tile, less the tile's corner
+-- the joined planes: each tile shows its own plan
 abbrev pub IsJoined : FileValue → (ℕ → PlanValue) → (Component → ℕ → ℕ → ℕ) → Type 0
 IsJoined f plans frame = (i : ℕ) → i < count_tiles f.front → ShowsTile f.front i (plans i) frame
 
@@ -51,8 +51,8 @@ IsJoined f plans frame = (i : ℕ) → i < count_tiles f.front → ShowsTile f.f
 abbrev pub ComesTo : FileValue → (Component → ℕ → ℕ → ℕ) → Type 0
 ComesTo f frame = (plans : ℕ → PlanValue) × AreTiles f plans × IsJoined f plans frame
 
--- Isolation: where tile i of two grids has the same plan and the same corners, and is predicted from the same, their
--- joined planes agree at each sample of it.
+-- Isolation: take tile i of two grids that has the same plan and the same corners in both, and is predicted from the
+-- same samples. Then the joined planes of both grids agree at each sample of the tile.
 abbrev pub TilesAreIsolated : Type 0
 TilesAreIsolated =
     (f g : FileValue) (plans_f plans_g : ℕ → PlanValue) (frame_f frame_g : Component → ℕ → ℕ → ℕ) (i : ℕ)
@@ -71,7 +71,7 @@ TilesAreIsolated =
     let row = corner_row f.front.header (tile_area f.front i) (number component) + y in
     frame_f component column row ≡ frame_g component column row
 
--- Up to the second version of plans tiles are predicted from their plans alone, so that there the same plan is enough.
+-- Up to version 2 of plans, tiles are predicted from nothing but their plans. So there the same plan is enough.
 abbrev pub PlansAreAll : Type 0
 PlansAreAll =
     (f : FrontValue) (i : ℕ) (plan : PlanValue) → f.header.version ≤ 2 →

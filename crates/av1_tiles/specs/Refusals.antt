@@ -1,4 +1,4 @@
--- Why the bytes of a grid of tiles are refused.
+-- Why the bytes of a grid of tiles are rejected.
 use Rattle.std.specs.Prelude.{◌≡◌, ℕ, ◌<◌, ◌≤◌, List, length, Ok, Err, ⊤}
 use Rattle.av1_plan.specs.Plan.{PlanValue}
 use Rattle.av1_streams.specs.Streams.{AreBytes, max_plan_bytes}
@@ -9,19 +9,19 @@ use Rattle.av1_tiles.specs.declared.error.TilesError.TheVariants.{Memory}
 use Rattle.av1_tiles.specs.Grammar.{FileValue, count_tiles, read_file}
 use Rattle.av1_tiles.specs.Validity.{IsTile, IsRefusedTile}
 
--- bytes that are this grid, no longer than a plan may be
+-- the bytes are this grid, and are no longer than a plan may be
 pub record AreGrid (bytes : List ℕ) (f : FileValue) : Type 0 where
   pub fits : AreBytes bytes
   pub short : length bytes ≤ max_plan_bytes
   pub read : read_file bytes ≡ Ok f
 
--- tile i is the first that is refused, and why
+-- tile i is the first rejected tile, for this reason
 pub record IsFirstRefused (f : FileValue) (i : ℕ) (fault : PlanFault) : Type 0 where
   pub within : i < count_tiles f.front
   pub before : (k : ℕ) → k < i → (plan : PlanValue) × IsTile f k plan
   pub refused : IsRefusedTile f i fault
 
--- why the tiles of a grid are refused; running out of memory says nothing
+-- why the tiles of a grid are rejected; running out of memory says nothing
 abbrev pub RefusesTiles : FileValue → TilesError → Type 0
 RefusesTiles f (Tile i fault) = IsFirstRefused f i fault
 RefusesTiles f Memory = ⊤
@@ -30,8 +30,7 @@ RefusesTiles f TooLong = ⊥
 RefusesTiles f (Malformed at) = ⊥
 RefusesTiles f WriteFault = ⊥
 
--- Why bytes are refused: they are too long, or no grid of tiles, or a grid of which this tile is the first that is
--- refused.
+-- Why bytes are rejected: they are too long, or not a valid grid of tiles, or this tile is the first rejected tile.
 abbrev pub AreRefusedFor : List ℕ → TilesError → Type 0
 AreRefusedFor bytes TooLong = max_plan_bytes < length bytes
 AreRefusedFor bytes (Malformed at) = (length bytes ≤ max_plan_bytes) × (read_file bytes ≡ Err at)

@@ -1,4 +1,4 @@
--- What the call does that reads a grid of tiles and writes the planes that it comes to.
+-- The task of the call that reads a grid of tiles and writes the planes of its frame.
 use Rattle.std.specs.Prelude.{ℕ, List, Result, Ok, Err, ⊤}
 use Rattle.av1_streams.specs.Streams.{max_plan_bytes}
 use Rattle.av1_streams.specs.Tasks.{Cause, read_failed, too_long, refused, write_failed, no_memory, Task}
@@ -9,7 +9,7 @@ use Rattle.av1_tiles.specs.declared.joined.Frame.{Frame}
 use Rattle.av1_tiles.specs.Frames.{IsFrame, frame_bytes}
 use Rattle.av1_tiles.specs.Outcomes.{HasOutcome}
 
--- what an error blames
+-- the cause of an error
 abbrev pub cause_of : TilesError → Cause
 cause_of ReadFault = read_failed
 cause_of TooLong = too_long
@@ -18,7 +18,7 @@ cause_of (Tile i fault) = refused
 cause_of WriteFault = write_failed
 cause_of Memory = no_memory
 
--- grids of tiles are read, no longer than plans are, and the bytes of their joined planes are written
+-- the task: read a grid of tiles, no longer than a plan may be, and write the bytes of its joined planes
 abbrev pub tiles_task : Task (List ℕ) (Unit {0}) TilesError
 tiles_task = record {
   limit = max_plan_bytes;

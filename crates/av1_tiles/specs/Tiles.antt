@@ -1,5 +1,5 @@
--- The plan of each tile: the tile's sides, its rectangle of each reference plane, and the leaves that its part spells;
--- and what these are predicted from.
+-- The plan of each tile: the tile's dimensions, its rectangle of each reference plane, and the leaves that its part
+-- spells. And what the leaves are predicted from.
 use Rattle.std.specs.Prelude.{ℕ, ◌+◌, ◌*◌, ◌-◌, ◌/◌, ◌%◌, ◌^◌, ◌≤◌, List, [], ◌∷◌, length, take, drop, map, Option}
 use Rattle.std.specs.Prelude.{option_map, slice_index, slice_index_or, if◌then◌else◌}
 use Rattle.std.specs.List.{flat_map, range_with_len}
@@ -17,11 +17,11 @@ use Rattle.av1_tile.specs.Reference.{Scene, walk_of}
 use Rattle.av1_tiles.specs.declared.area.TileArea.{TileArea}
 use Rattle.av1_tiles.specs.Grammar.{FrontValue, FileValue}
 
--- how many tiles stand side by side
+-- how many tiles are in a row of tiles
 abbrev pub across : FrontValue → ℕ
 across f = length f.columns - 1
 
--- the rectangle between the bounds from column k and row r on
+-- the rectangle from column k and row r of the bounds to the next bounds
 abbrev pub area_between : (columns rows : List ℕ) → (k r : ℕ) → TileArea
 area_between columns rows k r = record {
   x = slice_index columns k;
@@ -30,11 +30,11 @@ area_between columns rows k r = record {
   height = slice_index rows (r + 1) - slice_index rows r;
 }
 
--- tile i's rectangle of the frame, the tiles counted in raster order
+-- the rectangle of tile i in the frame; tiles are counted in raster order
 unfoldable pub tile_area : FrontValue → ℕ → TileArea
 tile_area f i = area_between f.columns f.rows (i % across f) (i / across f)
 
--- a tile as a frame of its own, of which these sides are shown
+-- the header of a tile as a frame of its own, with these visible dimensions
 abbrev pub tile_header : Header → TileArea → Header
 tile_header h a = record {
   version = h.version;
@@ -48,7 +48,7 @@ tile_header h a = record {
   mask = h.mask;
 }
 
--- a rectangle of what is shown of the frame, with which a tile is a frame of its own
+-- a rectangle of the visible frame that makes a tile a valid frame of its own
 pub record IsTileArea (h : Header) (a : TileArea) : Type 0 where
   pub columns : a.x + a.width ≤ h.width
   pub rows : a.y + a.height ≤ h.height
@@ -61,7 +61,7 @@ corner_column h a p = a.x / 2 ^ xdec h p
 abbrev pub corner_row : Header → TileArea → ℕ → ℕ
 corner_row h a p = a.y / 2 ^ ydec h p
 
--- the samples of a rectangle, row by row, out of those of a plane that has rows of `stride` samples
+-- the samples of a rectangle, row by row, from a plane whose rows have `stride` samples
 unfoldable pub rectangle : (stride x y width height : ℕ) → List ℕ → List ℕ
 rectangle stride x y width height samples =
     flat_map (λ row. take width (drop ((y + row) * stride + x) samples)) (range_with_len 0 height)
@@ -72,7 +72,7 @@ tile_plane h a p samples =
     rectangle (shown_columns h p) (corner_column h a p) (corner_row h a p) (shown_columns (tile_header h a) p)
     (shown_rows (tile_header h a) p) samples
 
--- and of its three planes
+-- a tile's rectangle of the three planes of a reference
 abbrev pub tile_planes : Header → TileArea → List (List ℕ) → List (List ℕ)
 tile_planes h a planes = tile_plane h a 0 (slice_index_or planes 0 []) ∷ tile_plane h a 1 (slice_index_or planes 1 []) ∷
     tile_plane h a 2 (slice_index_or planes 2 []) ∷ []
@@ -92,9 +92,9 @@ part_of f i = slice_index_or f.parts i []
 
 -- ---- what a tile is predicted from
 
--- What a motion predicts of tile i. In the third version of plans it is what it would predict in the
--- frame: motion reads the whole of each reference from the tile's place there on, as AV1's does. Before it motion reads
--- the references of the tile's own plan, which are the tile's rectangle.
+-- What a motion predicts in tile i. In version 3 of plans, it is what the motion would predict in the frame: motion
+-- reads the whole of each reference from the tile's position on, as AV1's does. In earlier versions motion reads the
+-- references of the tile's own plan, which are the tile's rectangle.
 abbrev pub tile_motion : FrontValue → ℕ → PlanValue → (p : ℕ) → Motion → VisibleArea → (r c : ℕ) → ℕ
 tile_motion f i plan p motion a =
     let h = f.header in
@@ -102,10 +102,10 @@ tile_motion f i plan p motion a =
     let in_frame = shifted (corner_column h t p) (corner_row h t p) a in
     if follows_av1 h then plan_motion (frame_with h f.references) p motion in_frame else plan_motion plan p motion a
 
--- tile i as it is walked
+-- tile i with its header and its motion, as the walk takes it
 abbrev pub tile_scene : FrontValue → ℕ → PlanValue → Scene
 tile_scene f i plan = record { header = plan.header; motion = tile_motion f i plan }
 
--- the samples that tile i comes to
+-- the samples of tile i
 unfoldable pub tile_walk : FrontValue → ℕ → PlanValue → Canvas
 tile_walk f i plan = walk_of (tile_scene f i plan) plan.leaves

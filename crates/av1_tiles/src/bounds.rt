@@ -1,4 +1,4 @@
-//! Where the columns and the rows of tiles begin.
+//! Reads where the columns and the rows of tiles begin.
 
 ghost use Rattle.av1_plan.specs.Format.{read_field, read, add};
 ghost use Rattle.av1_plan.specs.Reading.{Gives, input, Moves};
@@ -7,7 +7,7 @@ ghost use Rattle.av1_tiles.specs.Grammar.{start_after, starts, bounds};
 use av1_plan::{PlanError, Reader};
 use std::alloc::Global;
 
-/// The start of a column or row of tiles, behind the one before.
+/// The start of a column or row of tiles, which is after the start before it.
 #[tactic(auto, using(av1_plan::proofs::Narrow::narrow))]
 fn start(reader: &mut Reader<'_>, side: u16, previous: u16) -> Result<u16, PlanError>
     ensures read { Gives (λ x. (x, input reader.new)) result (read_field (start_after side previous) (input reader.old)) }
@@ -22,7 +22,7 @@ fn start(reader: &mut Reader<'_>, side: u16, previous: u16) -> Result<u16, PlanE
     }
 }
 
-/// So many starts behind the one before, and then the end.
+/// The next `count` starts after the start before them, and then the end.
 #[tactic(auto, using(crate::proofs::Starts::reading))]
 fn starts(
     reader: &mut Reader<'_>,
@@ -43,7 +43,7 @@ fn starts(
     starts(reader, into, side, start, count - 1)
 }
 
-/// Where the columns or rows of tiles begin, and the side of the frame behind them.
+/// The starts of the columns or rows of tiles, and then the width or height of the frame.
 #[tactic(auto, using(crate::proofs::Starts::reading))]
 pub fn bounds(alloc: Global, reader: &mut Reader<'_>, side: u16) -> Result<Vec<u16>, PlanError>
     ensures read { Gives (λ x. (x.items, input reader.new)) result (read (bounds side) (input reader.old)) }

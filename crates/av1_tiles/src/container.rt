@@ -1,4 +1,4 @@
-//! Reading a grid of tiles from bytes.
+//! Reads a grid of tiles from bytes.
 
 ghost use Rattle.std.specs.Prelude.{◌≡◌, ◌≤◌, ◌^◌, length, map, [], IfOk, vec_len, All};
 ghost use Rattle.av1_plan.specs.Format.{four, read_field, read};
@@ -28,7 +28,7 @@ fn magic(reader: &mut Reader<'_>) -> Result<u32, PlanError>
     }
 }
 
-/// The version of plans that the tiles have, by the four letters at the front.
+/// The version of plans that the tiles have. The four letters at the front decide it.
 #[tactic(auto, unfolding(crate::specs::Grammar::plan_version))]
 fn plan_version(reader: &mut Reader<'_>) -> Result<u8, PlanError>
     ensures read { Gives (λ x. (x, input reader.new)) result (read plan_version (input reader.old)) }
@@ -42,7 +42,7 @@ fn plan_version(reader: &mut Reader<'_>) -> Result<u8, PlanError>
     })
 }
 
-/// What stands before the parts of the tiles.
+/// The fields before the parts of the tiles.
 #[tactic(auto, using(av1_plan::proofs::Formats::read_bind), unfolding(crate::specs::Grammar::front))]
 fn front(alloc: Global, reader: &mut Reader<'_>) -> Result<Front, PlanError>
     ensures read { Gives (λ x. (front_value x, input reader.new)) result (read front (input reader.old)) }
@@ -62,7 +62,7 @@ fn front(alloc: Global, reader: &mut Reader<'_>) -> Result<Front, PlanError>
     })
 }
 
-/// The parts of so many tiles.
+/// The parts of `count` tiles.
 #[tactic(auto, using(crate::proofs::Parts::turns))]
 fn parts<'a>(
     alloc: Global,
@@ -82,12 +82,12 @@ fn parts<'a>(
     Ok(parts)
 }
 
-/// The grid of tiles that these bytes are, read from left to right.
+/// Reads a grid of tiles from its bytes, from left to right.
 ///
 /// # Errors
 ///
-/// `Malformed` names the start of the first field that is cut, has a value that is not admitted after the fields before
-/// it, or is left over. A tile's part is one field. `Memory` where memory runs out.
+/// `Malformed` gives the start of the first bad field. That field is cut off, has a value that is not valid after the
+/// fields before it, or follows the end. A tile's part is one field. `Memory` if memory runs out.
 #[tactic(auto, unfolding(crate::specs::Grammar::read_file))]
 pub fn read_tiles(alloc: Global, bytes: &[u8]) -> Result<TileFile<'_>, PlanError>
     requires { length bytes.now ≤ 2 ^ 26 }

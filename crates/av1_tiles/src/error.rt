@@ -1,4 +1,4 @@
-//! Why a grid of tiles is refused.
+//! Why a tile or a grid of tiles is rejected.
 
 ghost use Rattle.std.specs.Prelude.{◌≡◌};
 ghost use Rattle.av1_tiles.specs.Errors.{read_error, file_error};
@@ -13,7 +13,7 @@ use av1_streams::{ReadError, WriteFault};
 /// Why a tile has no valid plan.
 #[derive(Copy, Clone, Debug, PartialEq, Eq)]
 pub enum TileError {
-    /// Its part is refused.
+    /// The tile's part is rejected.
     Refused { fault: TileFault },
     /// Memory ran out.
     Memory,
@@ -32,16 +32,16 @@ impl From<OutOfMemory> for TileError {
 pub enum TilesError {
     /// A read failed.
     ReadFault,
-    /// The source gave a byte past the most that a grid of tiles has, which are as many as a plan has.
+    /// The source has more bytes than the longest grid of tiles. The limit is 64 MiB, as for a plan.
     TooLong,
-    /// The field that begins at byte `at` is cut, has a value that is not admitted, or is left over after the end. A
-    /// tile's part is one field.
+    /// The field at byte `at` is cut off, has a value that is not valid, or follows the end. A tile's part is one
+    /// field.
     Malformed { at: u32 },
-    /// Tile number `tile`, counted from 0 in raster order, is the first that is refused, and why.
+    /// Tile number `tile`, counted from 0 in raster order, is the first rejected tile, for this reason.
     Tile { tile: u16, fault: TileFault },
     /// A write failed. A prefix of the planes was written.
     WriteFault,
-    /// Memory ran out, before the first written byte.
+    /// Memory ran out before the first byte was written.
     Memory,
 }
 

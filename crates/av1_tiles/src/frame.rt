@@ -1,4 +1,4 @@
-//! The planes of a frame, put together of those of its tiles.
+//! Joins the planes of tiles to the planes of their frame.
 
 ghost use Rattle.std.specs.Prelude.{◌≡◌, ◌<◌, ◌≤◌, length, slice_index, ◌≢◌, ℕ, None, OnOk, OnErr, IfOk, IfErr};
 ghost use Rattle.av1_frame.specs.Planes.{InPlane, painted_plane};
@@ -32,7 +32,7 @@ use av1_plan::{Header, Plan};
 use av1_tile::{Planes, TileReferences, WalkMemory, frame_invariants};
 use std::alloc::Global;
 
-/// A tile that was reconstructed: its settings as a frame of its own, and its planes.
+/// A reconstructed tile: its settings as a frame of its own, and its planes.
 #[derive(Drop)]
 pub struct TilePicture<T: Pixel> {
     /// The settings.
@@ -41,7 +41,7 @@ pub struct TilePicture<T: Pixel> {
     pub planes: Planes<T>,
 }
 
-/// The first samples of the row become the visible row `y` of plane `p` of the tile, which has `width` columns.
+/// Copies the visible row `y` of plane `p` of the tile to the front of `row`. The tile has `width` columns.
 fn copy_tile_row<T: Pixel>(row: &mut [T], tile: &TilePicture<T>, p: usize, y: usize, width: usize)
     requires tile { AreFrame tile.now.header tile.now.planes }
     requires plane { p < 3 }
@@ -53,7 +53,7 @@ fn copy_tile_row<T: Pixel>(row: &mut [T], tile: &TilePicture<T>, p: usize, y: us
     copy_row(row, tile.planes.row(&tile.header, p, y), width);
 }
 
-/// The first rows of the region become those of the visible plane `p` of the tile.
+/// Copies the visible plane `p` of the tile to the first rows of the region.
 #[tactic(auto, using(av1_frame::proofs::Fits::row_end_le, av1_frame::proofs::Regions::region_painting))]
 fn copy_rows<T: Pixel>(
     output: &mut PlaneRegionMut<'_, T>,
@@ -77,7 +77,7 @@ fn copy_rows<T: Pixel>(
     }
 }
 
-/// The rectangle from column `x` of row `y` of a plane on becomes the visible plane `p` of the tile.
+/// Copies the visible plane `p` of the tile to the rectangle of `plane` at column `x` of row `y`.
 fn place_plane<T: Pixel>(plane: &mut Plane<T>, tile: &TilePicture<T>, p: usize, x: usize, y: usize)
     requires tile { AreFrame tile.now.header tile.now.planes }
     requires plane { p < 3 }
@@ -96,7 +96,7 @@ fn place_plane<T: Pixel>(plane: &mut Plane<T>, tile: &TilePicture<T>, p: usize, 
     );
 }
 
-/// The column and the row of plane `p` at which a tile begins.
+/// The column and the row of plane `p` at which a tile begins, in samples of the plane.
 fn corner(header: &Header, area: TileArea, p: usize) -> (usize, usize)
     ensures column { result.0 ≡ corner_column header.now area p }
     ensures row { result.1 ≡ corner_row header.now area p }
@@ -107,7 +107,7 @@ fn corner(header: &Header, area: TileArea, p: usize) -> (usize, usize)
     )
 }
 
-/// A tile's rectangle of plane `p` of its frame becomes the visible plane `p` of the tile.
+/// Copies the visible plane `p` of the tile to the tile's rectangle of its frame's plane.
 fn place_in<T: Pixel>(
     plane: &mut Plane<T>,
     header: &Header,
@@ -129,7 +129,7 @@ fn place_in<T: Pixel>(
     place_plane(plane, tile, p, x, y);
 }
 
-/// A tile's rectangle of each plane of its frame becomes that of the tile's own.
+/// Copies the visible planes of the tile to the tile's rectangles of its frame's planes.
 pub fn place_tile<T: Pixel>(
     planes: &mut Planes<T>,
     header: &Header,
@@ -151,7 +151,7 @@ pub fn place_tile<T: Pixel>(
     place_in(&mut planes.v, header, area, 2, tile);
 }
 
-/// The picture that a valid plan comes to, reconstructed in this memory. An error is running out of memory.
+/// Reconstructs a valid plan in this memory, and returns its picture. The error is that memory ran out.
 pub fn reconstruct_alone<T: Pixel>(
     alloc: Global,
     plan: &Plan,
@@ -172,7 +172,7 @@ pub fn reconstruct_alone<T: Pixel>(
     Ok(TilePicture { header, planes })
 }
 
-/// The references of a tile that motion reads as a whole, from the tile's place in its frame on.
+/// The references for a tile whose motion reads whole planes, with the position of the tile in its frame.
 fn references_of<'a, T>(
     fi: &'a FrameInvariants<T>,
     header: &Header,
@@ -207,8 +207,8 @@ fn rect_in(header: &Header, area: TileArea, p: usize) -> TileRect
     }
 }
 
-/// The picture that a tile with this valid plan comes to, reconstructed in this memory, where motion reads the
-/// references of its frame. An error is running out of memory.
+/// Reconstructs a tile with this valid plan in this memory, and returns its picture. Motion reads the references of the
+/// whole frame. The error is that memory ran out.
 fn reconstruct_in_frame<T: Pixel>(
     alloc: Global,
     plan: &Plan,
@@ -231,8 +231,8 @@ fn reconstruct_in_frame<T: Pixel>(
     Ok(TilePicture { header, planes })
 }
 
-/// The picture that tile number `index` comes to, with its valid plan, reconstructed in this memory: `seen` has the
-/// references of the whole frame where motion reads these. An error is running out of memory.
+/// Reconstructs tile number `index` with its valid plan in this memory, and returns its picture. `seen` has the
+/// references of the whole frame if motion reads these. The error is that memory ran out.
 fn reconstruct_picture<T: Pixel>(
     alloc: Global,
     plan: &Plan,
@@ -263,8 +263,8 @@ fn reconstruct_picture<T: Pixel>(
     }
 }
 
-/// Reconstructs one tile in this memory, and puts it into the planes of its frame. `seen` has the references of the
-/// whole frame where motion reads these. At an error the planes are as they were before.
+/// Reconstructs one tile in this memory, and copies it to the planes of its frame. `seen` has the references of the
+/// whole frame if motion reads these. After an error the planes are unchanged.
 pub fn reconstruct_in<T: Pixel>(
     alloc: Global,
     planes: &mut Planes<T>,
@@ -279,7 +279,7 @@ pub fn reconstruct_in<T: Pixel>(
     requires seen { SeesFront T.num file.now.front seen.now }
     requires planes { AreFrame file.now.front.header planes.old }
     requires room { HasRoomFor file.now.front.header memory.old }
-    // Its own samples are those of its plan, and those of all other tiles stay.
+    // The tile's samples are those of its plan, and the samples of all other tiles are unchanged.
     ensures done { OnOk result ((plan : PlanValue) × IsTile (file_value file.now) index plan ×
         ShowsTile (front_value file.now.front) index plan (samples_of T.num planes.new)
         × ((other : ℕ) (plan : PlanValue) → other < count_tiles (front_value file.now.front) → other ≢ index

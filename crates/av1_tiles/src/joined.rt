@@ -1,4 +1,4 @@
-//! The frame that the tiles of a grid come to.
+//! Reconstructs the frame of a grid of tiles.
 
 ghost use Rattle.std.specs.Prelude.{◌≡◌, ◌≤◌, ◌<◌, IfOk, IfErr};
 ghost use Rattle.av1_tile.specs.Walk.{AreFrame, samples_of};
@@ -19,16 +19,16 @@ use av1_plan::Header;
 use av1_tile::{Planes, WalkMemory, stored_references};
 use std::alloc::Global;
 
-/// The planes of a frame, in samples as narrow as its depth allows.
+/// The planes of a frame, in the narrowest samples that its depth allows.
 #[derive(Drop)]
 pub enum FrameSamples {
-    /// One byte a sample, at depth 8.
+    /// One byte for each sample, at depth 8.
     Bytes(Planes<u8>),
-    /// Two bytes a sample, at depths 10 and 12.
+    /// Two bytes for each sample, at depths 10 and 12.
     Words(Planes<u16>),
 }
 
-/// The frame that the tiles of a grid come to.
+/// The frame of a grid of tiles.
 #[derive(Drop)]
 pub struct Frame {
     /// Its settings.
@@ -37,7 +37,7 @@ pub struct Frame {
     pub samples: FrameSamples,
 }
 
-/// What an error of tile number `tile` is for its grid, which has fewer than 65,536 tiles.
+/// The error of a grid for the error of tile number `tile`. The grid has fewer than 65,536 tiles.
 fn tile_error(tile: usize, error: TileError) -> TilesError
     requires { tile < 65536 }
     ensures { result ≡ tile_error tile error }
@@ -51,7 +51,7 @@ fn tile_error(tile: usize, error: TileError) -> TilesError
     }
 }
 
-/// The references of the whole frame, where the motion of its tiles reads these. An error is running out of memory.
+/// The references of the whole frame, if the motion of its tiles reads these. The error is that memory ran out.
 fn seen_references<T: Pixel>(
     alloc: Global,
     front: &Front,
@@ -67,13 +67,13 @@ fn seen_references<T: Pixel>(
     Ok(Some(fi))
 }
 
-/// The planes that the tiles of a grid come to: each tile is reconstructed from its own part, one after the other in
-/// raster order, and put into its rectangle of each plane. The planes of the frame, and the memory that tiles are
-/// reconstructed in, are taken once for all of them.
+/// Reconstructs the tiles of a grid, each from its own part, one after the other in raster order. Returns the planes of
+/// the frame with each tile in its rectangle. The planes of the frame, and the memory to reconstruct tiles in, are
+/// allocated once.
 ///
 /// # Errors
 ///
-/// `Tile` names the first tile that is refused, and why. `Memory` where memory runs out.
+/// `Tile` gives the first rejected tile and the reason. `Memory` if memory runs out.
 pub fn join_tiles<T: Pixel>(alloc: Global, file: &TileFile<'_>) -> Result<Planes<T>, TilesError>
     requires read { IsReadFile file.now }
     requires depth { file.now.front.header.depth ≤ T.BITS }
@@ -92,11 +92,11 @@ pub fn join_tiles<T: Pixel>(alloc: Global, file: &TileFile<'_>) -> Result<Planes
     Ok(planes)
 }
 
-/// The frame that the tiles of a grid come to.
+/// Reconstructs the frame of a grid of tiles.
 ///
 /// # Errors
 ///
-/// As of [`join_tiles`].
+/// The errors of [`join_tiles`].
 pub fn join_frame(alloc: Global, file: &TileFile<'_>) -> Result<Frame, TilesError>
     requires read { IsReadFile file.now }
     ensures frame { IfOk result (λ frame. IsFrame frame) }

@@ -1,23 +1,29 @@
-//! A grid of tiles, none of which reads another: its format, the plan of each tile, and the frame that they come to.
+//! Grids of tiles that don't read each other: the format, the plan of each tile, and the frame of all tiles.
 //!
 //! The format has the settings and the reference samples of a frame, where its tiles begin, and a part for each tile. A
-//! tile's plan has the tile's sides, its rectangle of each reference, and the leaves that its part spells by the plan
-//! grammar, so that a tile is reconstructed as a frame of its own, and its planes are put into those of the frame. In
-//! plans of the third version its motion reads the whole of each reference all the same, from the tile's place in the
-//! frame on, as AV1's does (`tile_motion`); before it its rectangle of them alone.
-//! [`reconstruct_tiles`] is the whole path: it reads a source to its end, reads the grid, reconstructs its tiles one
-//! after the other in raster order, and writes the planes of the frame, Y, U and V row by row.
+//! tile's plan has the tile's dimensions, the tile's rectangle of each reference, and the leaves that its part spells
+//! by the plan grammar. So a tile is reconstructed as a frame of its own, and its planes are copied to those of the
+//! frame. In plans of version 3, motion still reads the whole of each reference, from the tile's position in the frame
+//! on, as AV1's does (`tile_motion`). In earlier versions motion only reads the tile's rectangle.
 //!
-//! It stands on `av1_plan` for the fields of plans, on `av1_tile` for the samples and the references of a tile, on
-//! `av1_streams` for sources and sinks, and on `av1_recon` for the writing of planes.
+//! [`reconstruct_tiles`] is the whole path. It reads a source to its end, reads the grid, and reconstructs its tiles
+//! one after the other in raster order. Then it writes the planes of the frame: Y, U and V, row by row.
 //!
-//! Promised: the outcome of bytes is one definition, `HasOutcome` (`specs/Outcomes.antt`), and each answer of
-//! [`reconstruct_tiles`] is read off it: Ok only where the bytes are a grid of valid tiles, and then exactly the bytes
-//! of the joined planes were appended; a refusal only where it is the outcome of the bytes, of the container before its
-//! tiles and of the first faulty tile before the others, and always there unless a read failed or memory ran out.
-//! [`read_tiles`] gives the grid that bytes are, or names the first field at fault; [`read_tile`] gives a tile's valid
-//! plan, or why there is none; [`place_tile`] writes a tile's planes into the tile's rectangle of each plane, and
-//! nothing else. The planes of the frame and the memory that tiles are reconstructed in are taken once.
+//! This crate uses `av1_plan` for the fields of plans, and `av1_tile` for the samples and the references of a tile. It
+//! uses `av1_streams` for sources and sinks, and `av1_recon` to write planes.
+//!
+//! What the calls promise:
+//!
+//! - One definition, `HasOutcome` (`specs/Outcomes.antt`), gives the outcome of bytes. It decides each result of
+//!   [`reconstruct_tiles`].
+//! - The result is Ok only if the bytes are a grid of valid tiles. Exactly the bytes of the joined planes were then
+//!   appended.
+//! - The call rejects bytes only if that is their outcome, and always then, unless a read fails or memory runs out. The
+//!   container is tested before its tiles, and the first bad tile counts.
+//! - [`read_tiles`] returns the grid that bytes spell, or the first bad field.
+//! - [`read_tile`] returns a tile's valid plan, or why there is none.
+//! - [`place_tile`] writes a tile's planes to the tile's rectangle of each plane, and nothing else.
+//! - The planes of the frame and the memory to reconstruct tiles in are allocated once.
 #![tactic(auto)]
 
 mod area;

@@ -1,4 +1,4 @@
-//! From the bytes of a grid of tiles to the bytes of its planes.
+//! Reads a grid of tiles from a source and writes the planes of its frame to a sink.
 
 ghost use Rattle.std.specs.Prelude.{◌≢◌, ◌≤◌, Ok, IfOk, IfErr, OnOk, length};
 ghost use Rattle.std.specs.Io.KnownBytes.{Appends};
@@ -18,14 +18,14 @@ use av1_recon::write_frame;
 use av1_streams::{Sink, Source, WriteFault, read_plan_bytes};
 use std::alloc::Global;
 
-/// Reads a grid of tiles from the source to its end, reconstructs each tile by itself, and appends the visible planes
-/// of the frame that they come to to the sink: Y, U and V, each row by row, one byte a sample at depth 8, else two, the
-/// low one first.
+/// Reads a grid of tiles from the source to its end, and reconstructs each tile separately. Then appends the visible
+/// planes of their frame to the sink. The planes are Y, U and V, each row by row. A sample has one byte at depth 8,
+/// else two, the low byte first.
 ///
 /// # Errors
 ///
-/// `ReadFault` and `TooLong` while it reads, then `Malformed`, then `Tile`, then `WriteFault`. `Memory` may stand in
-/// place of any of them, before the first written byte: every tile is read, checked and reconstructed before anything
+/// `ReadFault` and `TooLong` while the call reads, then `Malformed`, then `Tile`, then `WriteFault`. `Memory` may
+/// replace any of them, before the first byte is written. Every tile is read, checked and reconstructed before anything
 /// is written.
 pub fn reconstruct_tiles<R: Source, W: Sink>(
     alloc: Global,
@@ -38,7 +38,7 @@ pub fn reconstruct_tiles<R: Source, W: Sink>(
     write_joined(&frame, sink)
 }
 
-// The frame that the grid of tiles of a source comes to.
+// Reads a grid of tiles from a source, and reconstructs its frame.
 fn read_joined<R: Source>(alloc: Global, source: &mut R) -> Result<Frame, TilesError>
     ensures { Reads max_plan_bytes cause_of HoldFrame R.left R.faults source.old source.new result }
 {
@@ -46,7 +46,7 @@ fn read_joined<R: Source>(alloc: Global, source: &mut R) -> Result<Frame, TilesE
     frame_of_bytes(alloc, &bytes)
 }
 
-// The frame that the grid of tiles comes to that these bytes are.
+// Reconstructs the frame of a grid of tiles from its bytes.
 fn frame_of_bytes(alloc: Global, bytes: &[u8]) -> Result<Frame, TilesError>
     requires short { length bytes.now ≤ max_plan_bytes }
     ensures found { IfOk result (λ frame. HasOutcome bytes.now (Ok (frame_bytes frame))) }
@@ -57,7 +57,7 @@ fn frame_of_bytes(alloc: Global, bytes: &[u8]) -> Result<Frame, TilesError>
     join_frame(alloc, &file)
 }
 
-// Appends the visible planes of a frame, or a prefix of their bytes.
+// Appends the visible planes of a frame. If a write fails, the sink has a prefix of their bytes.
 fn write_joined<W: Sink>(frame: &Frame, sink: &mut W) -> Result<(), TilesError>
     requires frame { IsFrame frame.now }
     ensures { WritesBytes cause_of W.taken W.faults sink.old sink.new (frame_bytes frame.now) result }
@@ -66,7 +66,7 @@ fn write_joined<W: Sink>(frame: &Frame, sink: &mut W) -> Result<(), TilesError>
     Ok(())
 }
 
-// Appends them in samples of their type.
+// Appends the visible planes of a frame, in samples of their type.
 fn write_samples<W: Sink>(frame: &Frame, sink: &mut W) -> Result<(), WriteFault>
     requires frame { IsFrame frame.now }
     ensures whole { OnOk result (Appends (W.taken sink.old) (W.taken sink.new) (frame_bytes frame.now)) }

@@ -20,7 +20,7 @@ use crate::file::{Front, TileFile};
 use av1_plan::{Header, Plan, PlanError, SlotPlanes, check_plan, parse_plan_behind};
 use std::alloc::{AllocError, Global};
 
-/// The rectangle between the bounds from a column and a row of tiles on.
+/// The rectangle between the bounds at a column and a row of tiles and the next bounds.
 fn area_between(
     header: &Header,
     columns: &[u16],
@@ -46,7 +46,7 @@ fn area_between(
     }
 }
 
-/// Tile number `index` of a grid, in raster order: its rectangle of the frame.
+/// The rectangle of tile number `index` of a grid, in raster order.
 #[tactic(auto, unfolding(crate::specs::Tiles::tile_area))]
 pub fn tile_area(front: &Front, index: usize) -> TileArea
     requires read { IsReadFront front.now }
@@ -64,7 +64,7 @@ pub fn tile_area(front: &Front, index: usize) -> TileArea
     )
 }
 
-/// A tile as a frame of its own.
+/// The header of a tile as a frame of its own.
 fn tile_header(header: &Header, area: TileArea) -> Header
     requires area { IsTileArea header.now area }
     ensures { result ≡ tile_header header.now area }
@@ -82,7 +82,7 @@ fn tile_header(header: &Header, area: TileArea) -> Header
     }
 }
 
-/// The samples of a rectangle, row by row, out of those of a plane that has rows of `stride` samples.
+/// The samples of a rectangle, row by row, from a plane whose rows have `stride` samples.
 #[tactic(auto, using(crate::proofs::Rectangles::rows_more, crate::proofs::Rectangles::row_ends), unfolding(crate::specs::Tiles::rectangle))]
 fn rectangle(
     alloc: Global,
@@ -132,7 +132,7 @@ fn tile_plane(
     )
 }
 
-/// A tile's rectangle of each plane of a slot, where it carries planes.
+/// A tile's rectangle of each plane of a slot, if the slot carries planes.
 fn tile_slot(
     alloc: Global,
     header: &Header,
@@ -179,13 +179,13 @@ fn tile_references(
     Ok(cut)
 }
 
-/// The plan of tile number `index`, in raster order: the tile's sides, its rectangle of each reference plane, and the
-/// leaves that its part spells.
+/// Reads the plan of tile number `index`, in raster order: the tile's dimensions, its rectangle of each reference
+/// plane, and the leaves that its part spells.
 ///
 /// # Errors
 ///
-/// `Malformed` names the start of the first field of the tile's part that is cut, not admitted or left over, counted
-/// from the part's first byte. `Memory` where memory runs out.
+/// `Malformed` gives the start of the first field of the tile's part that is cut off, not valid or left over. It is
+/// counted from the part's first byte. `Memory` if memory runs out.
 pub fn parse_tile(alloc: Global, file: &TileFile<'_>, index: usize) -> Result<Plan, PlanError>
     requires read { IsReadFile file.now }
     requires tile { index < count_tiles (front_value file.now.front) }
@@ -201,12 +201,12 @@ pub fn parse_tile(alloc: Global, file: &TileFile<'_>, index: usize) -> Result<Pl
     parse_plan_behind(alloc, header, references, file.parts[index])
 }
 
-/// The plan of tile number `index`, where it is valid.
+/// Reads the plan of tile number `index`, and checks it.
 ///
 /// # Errors
 ///
-/// `Refused` with `Malformed` where the tile's part spells no plan, as for [`parse_tile`], then with `Invalid` where a
-/// leaf of the plan is faulty. `Memory` where memory runs out.
+/// `Refused` with `Malformed` if the tile's part does not spell a plan, as for [`parse_tile`]. Then `Refused` with
+/// `Invalid` if a leaf of the plan is bad. `Memory` if memory runs out.
 pub fn read_tile(alloc: Global, file: &TileFile<'_>, index: usize) -> Result<Plan, TileError>
     requires read { IsReadFile file.now }
     requires tile { index < count_tiles (front_value file.now.front) }

@@ -1,4 +1,4 @@
--- The exit status and the line of each answer.
+-- The exit status and the line of each result.
 use Rattle.std.specs.Prelude.{ℕ, zero, suc, List, ◌++◌, codes, decimal}
 use Rattle.av1_recon.specs.Answers.{malformed_text, invalid_text, refusal_text}
 use Rattle.av1_sequence.specs.declared.error.FrameFault.{FrameFault}
@@ -8,7 +8,7 @@ use Rattle.av1_sequence.specs.declared.error.SequenceError.TheVariants as sequen
 use Rattle.av1_tiles.specs.declared.error.TilesError.{TilesError}
 use Rattle.av1_tiles.specs.declared.error.TilesError.TheVariants as tiles_errors
 
--- the line for words that are no tool's name
+-- the line for arguments that are not a tool's name
 abbrev pub usage : List ℕ
 usage = codes "usage: tools tiles | trace | sequence | bare\n"
 
@@ -41,7 +41,7 @@ sequence_line sequence_errors.Memory = codes "out of memory\n"
 
 -- ---- traces
 
--- the exit status where there are no differences, or some
+-- the exit status without differences, and with some
 abbrev pub trace_done : ℕ → ℕ
 trace_done zero = 0
 trace_done (suc n) = 7

@@ -1,4 +1,4 @@
--- The words after the program's name.
+-- The command line's arguments.
 use Rattle.std.specs.Prelude.{ℕ, List, [], ◌∷◌, Option, Some, None, bytes_eq, codes, if◌then◌else◌}
 use Rattle.av1_toolbox.specs.declared.tool.Tool.{Tool}
 use Rattle.av1_toolbox.specs.declared.tool.Tool.TheVariants.{Tiles, Trace, Sequence, Bare}
@@ -16,7 +16,7 @@ named name =
     then Some Bare
     else None
 
--- what the words ask for, each word given by its bytes; None where they are no tool's name
+-- the tool of the arguments, each given by its bytes; None if they are not a tool's name
 abbrev pub tool_of : List (List ℕ) → Option Tool
 tool_of [] = None
 tool_of (word ∷ []) = named word

@@ -1,4 +1,4 @@
-//! The exit status and the line of each answer.
+//! The exit status and the line of each result.
 ghost use Rattle.std.specs.Prelude.{◌≡◌};
 ghost use Rattle.av1_recon.specs.Answers.{HasLine};
 ghost use Rattle.av1_recon.specs.Ends.{answer_line as line_of, answer_status as status_of, written};
@@ -41,7 +41,7 @@ fn tiles_line(error: TilesError) -> Line
     }
 }
 
-/// Writes the line of an answer of `reconstruct_tiles`, if it has one, and gives its exit status.
+/// Writes the line for a result of `reconstruct_tiles`, if it has one, and returns its exit status.
 pub fn report_tiles<E: Sink>(answer: Result<(), TilesError>, err: &mut E) -> u8
     ensures status { result ≡ status_of tiles_cause written answer }
     ensures line { HasLine E.taken E.faults err.old err.new (line_of tiles_line answer) }
@@ -58,7 +58,7 @@ pub fn report_tiles<E: Sink>(answer: Result<(), TilesError>, err: &mut E) -> u8
     }
 }
 
-/// Writes the line of an answer of `check_trace`, if it has one, and gives its exit status.
+/// Writes the line for a result of `check_trace`, if it has one, and returns its exit status.
 pub fn report_trace<E: Sink>(answer: Result<u32, TraceError>, err: &mut E) -> u8
     ensures status { result ≡ status_of trace_cause trace_done answer }
     ensures line { HasLine E.taken E.faults err.old err.new (line_of trace_line answer) }
@@ -86,7 +86,7 @@ fn frame_line(frame: u16, fault: FrameFault) -> Line
     line
 }
 
-// The line for an entry of a sequence that shows the frame of an empty slot.
+// The line for an entry of a sequence that shows an empty slot again.
 fn empty_slot_line(frame: u16) -> Line
     ensures { result ≡ sequence_line (SequenceError.EmptySlot frame) }
 {
@@ -111,7 +111,7 @@ fn sequence_line(error: SequenceError) -> Line
     }
 }
 
-/// Writes the line of an answer of `reconstruct_sequence`, if it has one, and gives its exit status.
+/// Writes the line for a result of `reconstruct_sequence`, if it has one, and returns its exit status.
 pub fn report_sequence<E: Sink>(answer: Result<(), SequenceError>, err: &mut E) -> u8
     ensures status { result ≡ status_of sequence_cause written answer }
     ensures line { HasLine E.taken E.faults err.old err.new (line_of sequence_line answer) }

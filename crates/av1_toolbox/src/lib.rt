@@ -1,16 +1,20 @@
-//! Tools round plans, each by its name, over any source and sinks: `tiles` reconstructs a grid of tiles, `trace`
-//! compares the planes of another encoder with a plan, `sequence` reconstructs frames that are predicted from those
-//! before them, and `bare` writes a plan without its coefficients.
+//! Tools for plans, each with a name, over any source and sinks:
 //!
-//! [`run_tools`] is all that the program `av1_tools` does with the words of its command line, so that other programs
-//! can run the tools over memory. [`report_sequence`] and [`report_tiles`] give the statuses and the lines of two of
-//! them, for programs that do something else with such files.
+//! - `tiles` reconstructs a grid of tiles.
+//! - `trace` compares the planes of another encoder with a plan.
+//! - `sequence` reconstructs frames that are predicted from earlier frames.
+//! - `bare` writes a plan without its coefficients.
 //!
-//! It stands on `av1_tiles`, `av1_trace`, `av1_sequence` and `av1_planwrite` for what the tools do, and on `av1_recon`
-//! for the lines and statuses of programs.
+//! [`run_tools`] is all that the program `av1_tools` does with its arguments. So other programs can run the tools over
+//! memory. [`report_sequence`] and [`report_tiles`] give the statuses and the lines of two tools, for programs that do
+//! something else with such files.
 //!
-//! Promised: what the call of each tool promises, of the source, the output and the status, with the line of each
-//! answer; and what each status says of the bytes and of the output (`specs/Ends.antt`, `specs/EndsInTurn.antt`).
+//! This crate uses `av1_tiles`, `av1_trace`, `av1_sequence` and `av1_planwrite` for the tools, and `av1_recon` for the
+//! lines and statuses of programs.
+//!
+//! What it promises: each tool keeps the contract of its call, for the source, the output and the status, with the line
+//! of each result. And each status says something of the bytes and of the output (`specs/Ends.antt`,
+//! `specs/EndsInTurn.antt`).
 #![tactic(auto)]
 
 mod answer;

@@ -27,30 +27,36 @@ use av1_tiles::reconstruct_tiles;
 use av1_trace::check_trace;
 use std::alloc::Global;
 
-// The status where the words are no tool's name.
+// The status if the arguments are not a tool's name.
 const NO_TOOL: u8 = 1;
 
-/// Does what the one word after the program's name asks for, and gives the exit status. `tiles` reads a grid of tiles
-/// from `source` and writes the planes of its frame to `out`; `trace` reads a plan and another encoder's planes, and
-/// writes a line on each leaf and plane that differs, or `same`; `sequence` reads a sequence of frames and writes the
-/// planes of each that is shown as soon as it is accepted; `bare` reads a plan and writes it without its coefficients.
-/// All other words are no tool's name.
+/// Runs the tool with the name in the only argument, and returns the exit status.
 ///
-/// | status | where | line on `err` |
+/// - `tiles` reads a grid of tiles from `source` and writes the planes of its frame to `out`.
+/// - `trace` reads a plan and its planes from another encoder. It writes a line on each leaf and plane that differs, or
+///   `same`.
+/// - `sequence` reads a sequence of frames and writes the planes of each shown frame as soon as it is accepted.
+/// - `bare` reads a plan and writes it without its coefficients.
+///
+/// | status | if | line on `err` |
 /// |---|---|---|
 /// | 0 | the planes or the plan were written; the planes of a trace are the plan's | none |
-/// | 1 | the words are no tool's name | `usage: tools tiles \| trace \| sequence \| bare` |
-/// | 2 | the bytes are refused | `too long`, `malformed at N`; or what the tool says of a part, below |
+/// | 1 | the arguments are not a tool's name | `usage: tools tiles \| trace \| sequence \| bare` |
+/// | 2 | the bytes are rejected | `too long`, `malformed at N`; or a line on a part, below |
 /// | 3 | memory ran out | `out of memory` |
 /// | 4 | a read failed | `read fault` |
 /// | 5 | a write failed | `write fault` |
 /// | 7 | planes of a trace differ | none |
 ///
-/// Of a part that is refused, `bare` says `invalid leaf N: K`; `tiles` `tile T malformed at N` and `tile T invalid leaf
-/// N: K`; `trace` `plan malformed at N` and `plan invalid leaf N: K`; `sequence` `frame F too large`, `frame F
-/// malformed at N`, `frame F invalid leaf N: K` and `frame F empty slot`. K is as in [`av1_recon::run`]. Of a sequence
-/// the planes that are shown before the entry that is refused stand on `out`. Where a write to `err` failed a prefix of
-/// the line stands, and the status stays.
+/// If a part is rejected, the tool writes one of these lines, with K as in [`av1_recon::run`]:
+///
+/// - `bare`: `invalid leaf N: K`
+/// - `tiles`: `tile T malformed at N`, `tile T invalid leaf N: K`
+/// - `trace`: `plan malformed at N`, `plan invalid leaf N: K`
+/// - `sequence`: `frame F too large`, `frame F malformed at N`, `frame F invalid leaf N: K`, `frame F empty slot`
+///
+/// If an entry of a sequence is rejected, `out` has the planes that are shown before it. If a write to `err` fails,
+/// `err` has a prefix of the line, and the status is the same.
 pub fn run_tools<R: Source, W: Sink, E: Sink>(
     alloc: Global,
     words: &[String],

@@ -2,7 +2,7 @@
 ghost use Rattle.std.specs.Prelude.{◌≡◌, map, string_bytes};
 ghost use Rattle.av1_toolbox.specs.Tools.{named, tool_of};
 
-/// What is done with the bytes that are read.
+/// What a tool does with the bytes that it reads.
 #[derive(Clone, Copy, Debug, PartialEq, Eq)]
 pub enum Tool {
     /// Reconstructs a grid of tiles.
@@ -11,12 +11,12 @@ pub enum Tool {
     Trace,
     /// Reconstructs a sequence of frames, each predicted from those before it.
     Sequence,
-    /// Writes a plan without its coefficients: that of its predictions alone.
+    /// Writes a plan without its coefficients: only its predictions.
     Bare,
 }
 
 impl Tool {
-    /// The tool that the words after the program's name ask for: there is one word, and it is the tool's name.
+    /// The tool of the arguments. There has to be one argument, and it has to be a tool's name.
     pub fn from_words(words: &[String]) -> Option<Tool>
         ensures { result ≡ tool_of (map string_bytes words.now) }
     {

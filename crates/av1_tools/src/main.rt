@@ -1,9 +1,9 @@
-//! Tools round plans, each by its name: `tiles` reconstructs a grid of tiles, `trace` compares the planes of
-//! another encoder with a plan, `sequence` reconstructs frames that are predicted from those before them, and `bare`
-//! writes a plan without its coefficients.
+//! Tools for plans, each with a name: `tiles` reconstructs a grid of tiles, and `trace` compares the planes of another
+//! encoder with a plan. `sequence` reconstructs frames that are predicted from earlier frames, and `bare` writes a plan
+//! without its coefficients.
 //!
-//! All that the program does is `av1_toolbox::run_tools`; here are its real source and sinks. The words of its command
-//! line, the flush of its output and its exit status are `av1_recon::run_on_words`.
+//! `av1_toolbox::run_tools` is all that the program does. This file connects it to the real source and sinks.
+//! `av1_recon::run_on_words` reads the arguments, flushes the output and sets the exit status.
 #![tactic(auto)]
 
 use av1_recon::{ReadSource, WriteSink, run_on_words};

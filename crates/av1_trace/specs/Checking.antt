@@ -1,4 +1,4 @@
--- What a call does that reads a trace from a source to its end and writes its differences to a sink.
+-- The task of the call that reads a trace from a source to its end and writes its differences to a sink.
 use Rattle.std.specs.Prelude.{◌≡◌, ℕ, ◌≤◌, List, length, Option, Result, Ok, Err, Vec}
 use Rattle.std.specs.declared.alloc.Global.{Global}
 use Rattle.av1_plan.specs.Plan.{PlanValue}
@@ -12,11 +12,11 @@ use Rattle.av1_trace.specs.DifferenceLines.{difference_lines}
 use Rattle.av1_trace.specs.Differences.{differences}
 use Rattle.av1_trace.specs.Traces.{AreRefusedFor, IsTrace, max_trace_bytes}
 
--- the differences of a trace, or why bytes are refused
+-- the differences of a trace, or why the bytes are rejected
 abbrev pub Outcome : Type 0
 Outcome = Result (List Difference) TraceError
 
--- these are the differences of the trace that the bytes are
+-- the bytes are a trace with these differences
 abbrev pub AreDifferences : List ℕ → List Difference → Type 0
 AreDifferences bytes list =
     (length bytes ≤ max_trace_bytes) ×
@@ -27,7 +27,7 @@ abbrev pub HasOutcome : List ℕ → Outcome → Type 0
 HasOutcome bytes (Ok list) = AreDifferences bytes list
 HasOutcome bytes (Err e) = AreRefusedFor bytes e
 
--- what an error blames
+-- the cause of an error
 abbrev pub cause : TraceError → Cause
 cause ReadFault = read_failed
 cause TooLong = too_long
@@ -36,7 +36,7 @@ cause (Plan fault) = refused
 cause WriteFault = write_failed
 cause Memory = no_memory
 
--- what a call is to do that checks a trace: it writes the lines of its differences, and answers how many there are
+-- the task: read a trace, write the lines of its differences, and return their number
 abbrev pub trace_task : Task (List Difference) ℕ TraceError
 trace_task = record {
   limit = max_trace_bytes;
@@ -53,7 +53,7 @@ Checks left source_faults taken sink_faults source source' sink sink' answer =
 
 -- ---- the half that reads
 
--- what is found in bytes: the differences of the trace that they are, or why they are refused
+-- what is read from bytes: the differences of the trace, or why the bytes are rejected
 abbrev pub IsFound : List ℕ → Result (Vec Difference Global) TraceError → Type 0
 IsFound bytes (Ok list) = AreDifferences bytes list.items
 IsFound bytes (Err e) = AreRefusedFor bytes e

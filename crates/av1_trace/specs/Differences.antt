@@ -1,4 +1,4 @@
--- Where the samples that bytes give are not those that a plan comes to.
+-- The differences between the samples of some bytes and the samples of a plan.
 use Rattle.std.specs.Prelude.{ℕ, ◌+◌, ◌-◌, ◌==◌, not, min, Bool, List, [], ◌∷◌, ◌++◌, map, find, Option, Some, None}
 use Rattle.std.specs.Prelude.{if◌then◌else◌}
 use Rattle.std.specs.List.{flat_map, range_with_len}
@@ -11,19 +11,19 @@ use Rattle.av1_plan.specs.Plan.{LeafValue, PlanValue}
 use Rattle.av1_trace.specs.declared.entry.Difference.{Difference}
 use Rattle.av1_trace.specs.Samples.{given, defined}
 
--- ---- places that are shown
+-- ---- visible places
 
 -- a place in a plane
 pub record Place : Type 0 where
   pub x : ℕ
   pub y : ℕ
 
--- the places of rows of so many columns, in raster order: from column x and row y on
+-- the places of a rectangle in raster order, from column x of row y on
 abbrev pub raster : (x columns y rows : ℕ) → List Place
 raster x columns y rows =
     flat_map (λ r. map (λ c. record { x = c; y = r }) (range_with_len x columns)) (range_with_len y rows)
 
--- the places of a rectangle of plane p that are shown, in raster order: none where it lies past what is shown
+-- the visible places of a rectangle of plane p, in raster order: none if it lies outside the visible plane
 unfoldable pub visible_places : Header → (p : ℕ) → PlaneArea → List Place
 visible_places h p a =
     raster a.x (min (a.x + block_width a.size) (shown_columns h p) - a.x) a.y
@@ -31,11 +31,11 @@ visible_places h p a =
 
 -- ---- differences
 
--- the given sample is not the one that the plan comes to
+-- the given sample differs from the sample of the plan
 abbrev pub is_other : PlanValue → List ℕ → (p : ℕ) → Place → Bool
 is_other plan bytes p place = not (given plan.header bytes p place.x place.y == defined plan p place.x place.y)
 
--- what is said of leaf n at a place of plane p
+-- the difference of leaf n at a place of plane p
 abbrev pub difference_at : PlanValue → List ℕ → (n p : ℕ) → Place → Difference
 difference_at plan bytes n p place = record {
   leaf = n;
@@ -56,19 +56,19 @@ abbrev pub entries : Option Difference → List Difference
 entries None = []
 entries (Some difference) = difference ∷ []
 
--- the entry of leaf n in plane p, where it covers a part of that and a visible sample of its rectangle differs: the
--- first in raster order
+-- The entry of leaf n in plane p. There is one if the leaf covers a part of the plane and a visible sample of its
+-- rectangle differs. It is the first such sample in raster order.
 unfoldable pub plane_differences : PlanValue → List ℕ → (n : ℕ) → LeafValue → (p : ℕ) → List Difference
 plane_differences plan bytes n l p =
     if covers_plane plan.header l.x l.y l.size p
     then entries (first_difference plan bytes n p (plane_area plan.header l.x l.y l.size l.tx_size p)) else []
 
--- those of leaf n: in Y, then in U, then in V
+-- the differences of leaf n: in Y, then in U, then in V
 abbrev pub leaf_differences : PlanValue → List ℕ → (n : ℕ) → LeafValue → List Difference
 leaf_differences plan bytes n l = plane_differences plan bytes n l 0 ++ plane_differences plan bytes n l 1
     ++ plane_differences plan bytes n l 2
 
--- those of leaves, of which the first has number n
+-- the differences of leaves; the first leaf has number n
 abbrev pub leaves_differences : PlanValue → List ℕ → (n : ℕ) → List LeafValue → List Difference
 leaves_differences plan bytes n [] = []
 leaves_differences plan bytes n (l ∷ leaves) =

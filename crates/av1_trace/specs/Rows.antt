@@ -1,4 +1,4 @@
--- A row of a plane, given and defined.
+-- A row of a plane: given samples and samples of the plan.
 use Rattle.std.specs.Prelude.{◌≡◌, ◌≢◌, ◌<◌, ◌≤◌, ℕ, List}
 use Rattle.av1_plan.specs.Plan.{PlanValue}
 use Rattle.av1_trace.specs.declared.comparison.Other.{Other}
@@ -9,7 +9,7 @@ abbrev pub AgreeFrom : PlanValue → List ℕ → (p y left right : ℕ) → Typ
 AgreeFrom plan bytes p y left right = (x : ℕ) → left ≤ x → x < right →
     given plan.header bytes p x y ≡ defined plan p x y
 
--- the first sample there that does not, with both values
+-- the first sample there that differs, with both values
 pub record IsOther (plan : PlanValue) (bytes : List ℕ) (p y left right : ℕ) (other : Other) : Type 0 where
   pub from : left ≤ other.column
   pub before : other.column < right

@@ -1,4 +1,4 @@
--- What an error of a lower call is for a trace.
+-- The error of a trace for each error of a lower call.
 use Rattle.av1_plan.specs.declared.error.PlanError.{PlanError}
 use Rattle.av1_plan.specs.declared.error.PlanError.TheVariants as plan_errors
 use Rattle.av1_plan.specs.declared.error.Invalid.{Invalid}
@@ -19,6 +19,6 @@ abbrev pub plan_error : PlanError → TraceError
 plan_error (plan_errors.Malformed at) = errors.Plan (faults.Malformed at)
 plan_error plan_errors.Memory = errors.Memory
 
--- the first faulty leaf of the plan and its first reason
+-- the first bad leaf of the plan, and the first reason
 abbrev pub invalid_error : Invalid → TraceError
 invalid_error fault = errors.Plan (faults.Invalid fault.leaf fault.kind)

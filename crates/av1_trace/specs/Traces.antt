@@ -1,4 +1,4 @@
--- Which bytes are a trace, what is written of one, and why bytes are refused.
+-- Which bytes are a trace, and why other bytes are rejected.
 use Rattle.std.specs.Prelude.{◌≡◌, ℕ, ◌+◌, ◌<◌, ◌≤◌, ◌^◌, List, ◌++◌, length, codes, Some, None}
 use Rattle.std.specs.Int.{to_le_bytes, w32}
 use Rattle.av1_plan.specs.Grammar.{plan as grammar}
@@ -13,7 +13,7 @@ use Rattle.av1_trace.specs.declared.error.TraceError.TheVariants.{ReadFault, Too
 use Rattle.av1_trace.specs.declared.error.TraceError.TheVariants.{Memory}
 use Rattle.av1_trace.specs.Samples.{planes_len}
 
--- the most bytes that a trace has: 128 MiB
+-- the greatest length of a trace in bytes: 128 MiB
 abbrev pub max_trace_bytes : ℕ
 max_trace_bytes = 2 ^ 27
 
@@ -23,12 +23,11 @@ max_trace_bytes = 2 ^ 27
 abbrev pub letters : List ℕ
 letters = codes "RTR1"
 
--- what stands before the planes: the letters, the length of the plan in four bytes, the low one first, and the plan
+-- the bytes before the planes: the letters, the length of the plan in four bytes, the low byte first, and the plan
 abbrev pub front_of : List ℕ → List ℕ
 front_of plan = letters ++ to_le_bytes w32 (length plan) ++ plan
 
--- the bytes begin with the fields up to a plan of this many bytes, which is no longer than a plan may be, and these
--- parts follow
+-- The bytes are the fields before a plan, the plan and its planes. The plan is no longer than a plan may be.
 pub record HasParts (bytes plan planes : List ℕ) : Type 0 where
   pub short : length plan ≤ max_plan_bytes
   pub are : bytes ≡ front_of plan ++ planes
@@ -45,14 +44,15 @@ pub record IsTrace (bytes : List ℕ) (value : PlanValue) (planes : List ℕ) : 
   pub spelled : IsValidPlan plan value
   pub whole : length planes ≡ planes_len value.header
 
--- ---- why bytes are refused
+-- ---- why bytes are rejected
 
--- the bytes begin so
+-- the bytes begin with this front
 abbrev pub Begin : List ℕ → List ℕ → Type 0
 Begin bytes front = (rest : List ℕ) × (bytes ≡ front ++ rest)
 
--- The first field that is cut, not admitted or left over begins at `at`: the letters; the length, which is one that a
--- plan may have; the plan; or the planes, behind a valid plan, where they are cut, and what is left over behind them.
+-- The first field that is cut off, not valid or left over begins at `at`. It is the letters, or the length, which has
+-- to be one that a plan may have, or the plan. Or the plan is valid, and it is the planes, which are cut off, or what
+-- is left over after them.
 pub data IsMalformedAt (bytes : List ℕ) (at : ℕ) : Type 0 where
   no_letters : at ≡ 0 → ¬ Begin bytes letters → IsMalformedAt bytes at
   no_length : at ≡ 4 → Begin bytes letters →
@@ -64,18 +64,18 @@ pub data IsMalformedAt (bytes : List ℕ) (at : ℕ) : Type 0 where
   left_over : (plan planes : List ℕ) (value : PlanValue) → HasParts bytes plan planes → IsValidPlan plan value →
       planes_len value.header < length planes → at ≡ 8 + length plan + planes_len value.header → IsMalformedAt bytes at
 
--- the plan is refused for this
+-- the plan is rejected for this reason
 abbrev pub IsFaultOf : List ℕ → PlanFault → Type 0
 IsFaultOf plan (faults.Malformed at) = AreRefused grammar plan at
 IsFaultOf plan (faults.Invalid leaf kind) = (value : PlanValue) × AreText grammar plan value ×
     (first_fault value ≡ Some (record { leaf = leaf; kind = kind }))
 
--- the answers that refuse a plan
+-- the error is that the plan is rejected, for this reason
 abbrev pub IsPlanFault : List ℕ → TraceError → Type 0
 IsPlanFault plan (Plan fault) = IsFaultOf plan fault
 IsPlanFault plan e = ⊥
 
--- why bytes are refused
+-- why bytes are rejected
 abbrev pub AreRefusedFor : List ℕ → TraceError → Type 0
 AreRefusedFor bytes TooLong = max_trace_bytes < length bytes
 AreRefusedFor bytes (Malformed at) = (length bytes ≤ max_trace_bytes) × IsMalformedAt bytes at

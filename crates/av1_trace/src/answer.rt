@@ -34,9 +34,9 @@ fn error_line(error: TraceError) -> Line
     }
 }
 
-/// Writes the line of an error, and gives its exit status: 2 where the bytes are refused, 3 where memory ran out, 4
-/// where a read failed, 5 where a write did. Where a write to `err` failed a prefix of the line stands, and the status
-/// stays.
+/// Writes the line of an error, and returns its exit status: 2 if the bytes are rejected, 3 if memory ran out, 4 if a
+/// read failed, 5 if a write failed. If a write to `err` fails, `err` has a prefix of the line, and the status is the
+/// same.
 pub fn report_error<E: Sink>(error: TraceError, err: &mut E) -> u8
     ensures status { result ≡ error_status (cause error) }
     ensures line { HasLine E.taken E.faults err.old err.new (error_line error) }

@@ -1,4 +1,4 @@
-//! The samples of each leaf, given and defined.
+//! Compares the given samples of each leaf with the samples of the plan.
 
 ghost use Rattle.std.specs.Prelude.{◌≡◌, ◌≢◌, ◌↔◌, ℕ, ◌+◌, ◌-◌, ◌*◌, ◌<◌, ◌≤◌, ◌++◌, [], None, IfOk, IfNone, IfSome, OnOk, Some, length, map};
 ghost use Rattle.std.specs.Prelude.{slice_index};
@@ -20,26 +20,28 @@ use av1_plan::{Leaf, Plan, PlaneArea};
 use av1_tile::{TileState, reconstruct_tile};
 use std::alloc::Global;
 
-// A sample of a row that is not the one that the plan comes to.
+// A sample of a row that differs from the sample of the plan.
 #[derive(Copy, Clone)]
 struct Other {
-    // Its column.
+    // The column of the sample.
     column: u16,
     given: u16,
     defined: u16,
 }
 
-/// The differences between a valid plan and the bytes of its visible planes, as another encoder left them: Y, U and V,
-/// each row by row, one byte a sample at depth 8, else two, the low one first. For each leaf in coding order, and for
-/// each of Y, U and V of which it covers a part, there is one entry where a visible sample of its rectangle is not the
-/// one of the slow definition: for the first of these in raster order. Nothing else is listed.
+/// Lists the differences between a valid plan and its visible planes from another encoder. The bytes are the planes Y,
+/// U and V, each row by row. A sample has one byte at depth 8, else two, the low byte first.
 ///
-/// A given sample may exceed the depth. It then differs.
+/// The list follows the leaves in coding order, and for each leaf Y, U and V. There is at most one entry for each leaf
+/// and each plane that the leaf covers. It is the first visible sample of the leaf's rectangle, in raster order, that
+/// differs from the slow definition. Nothing else is listed.
+///
+/// A given sample that exceeds the depth always differs.
 pub fn compare(alloc: Global, plan: &Plan, planes: &[u8]) -> Result<Vec<Difference>, OutOfMemory>
     requires valid { first_fault (plan_value plan.now) ≡ None }
     requires whole { length planes.now ≡ planes_len (plan_value plan.now).header }
     ensures differences { IfOk result (λ list. list.items ≡ differences (plan_value plan.now) planes.now) }
-    // None exactly where the bytes are those of the plan's planes.
+    // There are no differences exactly if the bytes are those of the plan's planes.
     ensures same { IfOk result (λ list. (list.items ≡ []) ↔ (planes.now ≡ planes_of (plan_value plan.now))) }
 {
     match plan.header().depth {
@@ -48,7 +50,7 @@ pub fn compare(alloc: Global, plan: &Plan, planes: &[u8]) -> Result<Vec<Differen
     }
 }
 
-// The differences, by samples of this type.
+// The differences, for samples of this type.
 fn compare_as<T: Pixel>(
     alloc: Global,
     plan: &Plan,
@@ -105,7 +107,7 @@ fn add_leaf<T: Pixel>(
     add_in_plane(state, plan, planes, n, leaf, 2, list)
 }
 
-// Appends the difference of leaf `n` in plane `p`, where there is one.
+// Appends the difference of leaf `n` in plane `p`, if there is one.
 fn add_in_plane<T: Pixel>(
     state: &TileState<T>,
     plan: &Plan,
@@ -196,7 +198,7 @@ fn first_in_row<T: Pixel>(
     first_other_of(header.depth, given, row, left, right)
 }
 
-// The first column from `left` on, and before `right`, at which a row of samples differs from the bytes of a row.
+// The first column, from `left` on and before `right`, at which a row of samples differs from the bytes of a row.
 fn first_other_of<T: Pixel>(
     depth: u8,
     given: &[u8],
@@ -227,7 +229,7 @@ fn first_other_of<T: Pixel>(
     None
 }
 
-// The number of sample `x` of a row.
+// Sample `x` of a row, as a number.
 fn number_at<T: Pixel>(row: &[T], x: usize) -> u16
     requires { x < length row.now }
     ensures { result ≡ slice_index (map T.num row.now) x }

@@ -1,6 +1,6 @@
-//! Where a trace differs from its plan.
+//! An entry of the list of differences between a trace and its plan.
 
-/// The first sample of a leaf in a plane that is not the one that the plan comes to.
+/// The first sample of a leaf in a plane that differs from the sample of the plan.
 #[derive(Copy, Clone, Debug, PartialEq, Eq)]
 pub struct Difference {
     /// The leaf, counted from 0 in coding order.
@@ -9,9 +9,9 @@ pub struct Difference {
     pub plane: u8,
     /// The row of the sample in its plane.
     pub row: u16,
-    /// Its column.
+    /// The column of the sample in its plane.
     pub column: u16,
-    /// The sample that was given, of up to 16 bits whatever the depth.
+    /// The sample that the trace has, of up to 16 bits whatever the depth.
     pub given: u16,
     /// The sample of the slow definition.
     pub defined: u16,

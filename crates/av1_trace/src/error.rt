@@ -13,16 +13,15 @@ use av1_streams::{ReadError, WriteFault};
 pub enum TraceError {
     /// A read failed.
     ReadFault,
-    /// The source gave a byte past the longest trace.
+    /// The source has more bytes than the longest trace: 128 MiB.
     TooLong,
-    /// The field of the trace that begins at byte `at` is cut, has a value that is not admitted, or is left over after
-    /// the end.
+    /// The field of the trace at byte `at` is cut off, has a value that is not valid, or follows the end.
     Malformed { at: u32 },
-    /// The plan is refused.
+    /// The plan is rejected.
     Plan { fault: PlanFault },
-    /// A write failed. A prefix of the lines was written.
+    /// A write failed. The sink has a prefix of the lines.
     WriteFault,
-    /// An allocation was refused, before the first written byte.
+    /// An allocation failed before the first byte was written.
     Memory,
 }
 

@@ -1,21 +1,25 @@
-//! Planes of another encoder, compared with what their plan comes to.
+//! Compares planes of another encoder with the planes of their plan.
 //!
-//! [`compare`] takes a valid plan and the bytes of its visible planes, as another encoder left them, and lists each
-//! leaf and plane in which a sample is not the one of the slow definition, with the first such sample. So an encoder
-//! that goes wrong is told at which block it first did. [`write_differences`] writes a line for each. [`parse_trace`]
-//! takes plan and planes out of the bytes of one trace, [`trace_differences`] compares them, and [`check_trace`] reads
-//! these bytes from a source to its end and writes the lines to a sink. [`report_error`] is the line and the exit
-//! status of an error, for programs.
+//! [`compare`] takes a valid plan and the bytes of its visible planes from another encoder. It lists each leaf and
+//! plane with a sample that differs from the slow definition, and the first such sample. So the list says at which
+//! block an encoder first went wrong. [`write_differences`] writes a line for each entry.
 //!
-//! It stands on `av1_streams` for sinks and lines, on `av1_plan` for plans, on `av1_tile` for the samples that they
-//! come to, on `av1_order` for the law that the leaves of a plan tile its planes, and on `av1_recon` for the statuses
-//! and lines of programs.
+//! [`parse_trace`] reads the plan and the planes from the bytes of one trace, and [`trace_differences`] compares them.
+//! [`check_trace`] reads these bytes from a source to its end and writes the lines to a sink. [`report_error`] gives
+//! programs the line and the exit status of an error.
 //!
-//! Promised: the list is `differences` (`specs/Differences.antt`): nothing is left out and nothing else is in it. It is
-//! empty exactly where the bytes are those of the plan's planes. Bytes that are no trace are refused with the first
-//! field at fault (`specs/Traces.antt`). The outcome of bytes is one definition, `HasOutcome` (`specs/Checking.antt`),
-//! and what [`check_trace`] does is read off it by the record `Performs` of `av1_streams`. Running out of memory is the
-//! one free answer, and comes before the first written byte.
+//! This crate uses `av1_streams` for sinks and lines, `av1_plan` for plans and `av1_tile` for their samples. It uses
+//! `av1_order` for the law that the leaves of a plan tile its planes, and `av1_recon` for the statuses and lines of
+//! programs.
+//!
+//! What the calls promise:
+//!
+//! - The list is `differences` (`specs/Differences.antt`), complete and with nothing else. It is empty exactly if the
+//!   bytes are those of the plan's planes.
+//! - Bytes that are not a valid trace are rejected with the first bad field (`specs/Traces.antt`).
+//! - One definition, `HasOutcome` (`specs/Checking.antt`), gives the outcome of bytes. It decides what [`check_trace`]
+//!   does, by the record `Performs` of `av1_streams`.
+//! - The exception is that memory may run out. This happens only before the first byte is written.
 #![tactic(auto)]
 
 mod answer;

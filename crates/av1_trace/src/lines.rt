@@ -1,4 +1,4 @@
-//! Lines on differences.
+//! Writes the lines on differences.
 ghost use Rattle.std.specs.Prelude.{◌≡◌, OnOk};
 ghost use Rattle.std.specs.List.{flat_map};
 ghost use Rattle.std.specs.Io.KnownBytes.{Appends};
@@ -9,8 +9,8 @@ ghost use Rattle.av1_trace.specs.DifferenceLines.{difference_line, difference_li
 use crate::Difference;
 use av1_streams::{Line, Sink, WriteFault, write_bytes};
 
-/// Appends the lines of differences: `same`, where there are none, else one for each, `leaf L plane P row R column C
-/// given G defined D`. The first write that fails ends the call, and a prefix of the lines stands.
+/// Appends the lines of differences. Without differences it is `same`, else one line for each: `leaf L plane P row R
+/// column C given G defined D`. The first write that fails ends the call, and the sink has a prefix of the lines.
 pub fn write_differences<W: Sink>(list: &[Difference], sink: &mut W) -> Result<(), WriteFault>
     ensures whole { OnOk result (Appends (W.taken sink.old) (W.taken sink.new) (difference_lines list.now)) }
     ensures prefix { AppendsPrefix (W.taken sink.old) (W.taken sink.new) (difference_lines list.now) }
@@ -23,7 +23,7 @@ pub fn write_differences<W: Sink>(list: &[Difference], sink: &mut W) -> Result<(
     }
 }
 
-// Appends a line for each difference, or a prefix of them.
+// Appends a line for each difference. If a write fails, the sink has a prefix of them.
 fn write_each<W: Sink>(list: &[Difference], sink: &mut W) -> Result<(), WriteFault>
     ensures whole { OnOk result (Appends (W.taken sink.old) (W.taken sink.new) (flat_map difference_line list.now)) }
     ensures prefix { AppendsPrefix (W.taken sink.old) (W.taken sink.new) (flat_map difference_line list.now) }
@@ -35,7 +35,7 @@ fn write_each<W: Sink>(list: &[Difference], sink: &mut W) -> Result<(), WriteFau
     Ok(())
 }
 
-// Appends the line of a difference, or a prefix of it.
+// Appends the line of a difference. If a write fails, the sink has a prefix of it.
 fn write_difference<W: Sink>(difference: Difference, sink: &mut W) -> Result<(), WriteFault>
     ensures whole { OnOk result (Appends (W.taken sink.old) (W.taken sink.new) (difference_line difference)) }
     ensures prefix { AppendsPrefix (W.taken sink.old) (W.taken sink.new) (difference_line difference) }
@@ -45,7 +45,7 @@ fn write_difference<W: Sink>(difference: Difference, sink: &mut W) -> Result<(),
     write_bytes(sink, sample_text(difference).as_bytes())
 }
 
-// Where the difference is.
+// The position of the difference.
 fn place_text(difference: Difference) -> Line
     ensures { result ≡ place_text difference }
 {

@@ -1,4 +1,4 @@
-//! Samples in the bytes of planes.
+//! Reads samples from the bytes of planes.
 
 ghost use Rattle.std.specs.Prelude.{◌≡◌, ℕ, ◌+◌, ◌*◌, ◌<◌, ◌≤◌, length};
 ghost use Rattle.av1_plan.specs.Geometry.{shown_rows, shown_columns};
@@ -16,7 +16,7 @@ fn sample_len(depth: u8) -> usize
     if depth == 8 { 1 } else { 2 }
 }
 
-/// How many samples stand before plane `p`.
+/// How many samples precede plane `p`.
 #[tactic(auto, using(crate::proofs::Frames::plane_is_small), unfolding(crate::specs::Samples::samples_before))]
 fn samples_before(header: &Header, p: usize) -> usize
     requires frame { IsReadFrame header.now }
@@ -35,7 +35,7 @@ fn samples_before(header: &Header, p: usize) -> usize
     }
 }
 
-/// How many bytes the visible planes of a frame have: one a sample at depth 8, else two.
+/// The length in bytes of a frame's visible planes: one byte for each sample at depth 8, else two.
 #[tactic(auto, unfolding(crate::specs::Samples::planes_len))]
 pub fn planes_len(header: &Header) -> usize
     requires frame { IsReadFrame header.now }
@@ -57,7 +57,7 @@ pub fn sample_from(depth: u8, bytes: &[u8], i: usize) -> u16
     }
 }
 
-/// The bytes of samples from `start` on, `count` of them.
+/// The bytes of `count` samples from `start` on.
 #[tactic(auto, unfolding(crate::specs::Samples::sample_len))]
 fn sample_run(depth: u8, bytes: &[u8], start: usize, count: usize) -> &[u8]
     requires { sample_len depth * (start + count) ≤ length bytes.now }

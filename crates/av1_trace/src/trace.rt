@@ -1,4 +1,4 @@
-//! Traces: a plan, and the planes that another encoder left of it.
+//! Traces: a plan, and its planes from another encoder.
 ghost use Rattle.std.specs.Prelude.{◌≡◌, ◌≢◌, ◌<◌, ◌≤◌, ◌^◌, ℕ, List, IfOk, IfErr, length};
 ghost use Rattle.av1_plan.specs.Values.{plan_value};
 ghost use Rattle.av1_plan.specs.Plan.{PlanValue};
@@ -15,13 +15,13 @@ use av1_plan::{Plan, check_plan, parse_plan};
 use av1_streams::{MAX_PLAN_BYTES, Sink, Source, read_bytes};
 use std::alloc::Global;
 
-/// The most bytes that a trace has: 128 MiB.
+/// The greatest length of a trace in bytes: 128 MiB.
 pub const MAX_TRACE_BYTES: usize = 1 << 27;
 
 // The bytes before the plan: four letters, and the length of the plan.
 const HEAD: usize = 8;
 
-/// A valid plan, and the bytes of its planes as another encoder left them.
+/// A valid plan, and the bytes of its planes from another encoder.
 #[derive(Drop)]
 pub struct Trace<'a> {
     /// The plan.
@@ -30,7 +30,7 @@ pub struct Trace<'a> {
     pub planes: &'a [u8],
 }
 
-// The parts of a trace, neither of which is read yet.
+// The parts of a trace, before they are parsed.
 #[derive(Clone, Copy)]
 struct TraceParts<'a> {
     // The bytes of its plan.
@@ -39,14 +39,20 @@ struct TraceParts<'a> {
     planes: &'a [u8],
 }
 
-/// Reads a trace from the source to its end, as [`parse_trace`] takes it, and appends lines on its differences to the
-/// sink, as [`write_differences`] does. Answers how many there are.
+/// Reads a trace from the source to its end, as [`parse_trace`] takes it. Appends lines on its differences to the sink,
+/// as [`write_differences`] does. Returns the number of differences.
 ///
 /// # Errors
 ///
-/// `ReadFault` and `TooLong` while it reads; then `Malformed`, for the letters, the length or a plan that is cut; then
-/// `Plan`; then `Malformed`, for planes of another length than the plan's; then `WriteFault`. `Memory` may stand in
-/// place of any of them, before the first written byte.
+/// The errors are tested in this order:
+///
+/// - `ReadFault` and `TooLong` while the call reads.
+/// - `Malformed` for the letters, the length or a plan that is cut off.
+/// - `Plan`.
+/// - `Malformed` for planes of the wrong length.
+/// - `WriteFault`.
+///
+/// `Memory` may replace any of them, before the first byte is written.
 pub fn check_trace<R: Source, W: Sink>(
     alloc: Global,
     source: &mut R,
@@ -67,7 +73,7 @@ fn read_differences<R: Source>(alloc: Global, source: &mut R) -> Result<Vec<Diff
     trace_differences(alloc, &bytes)
 }
 
-// Appends lines on differences, and counts these.
+// Appends lines on differences, and returns the number of differences.
 fn count_differences<W: Sink>(list: &[Difference], sink: &mut W) -> Result<u32, TraceError>
     requires few { length list.now < 2 ^ 32 }
     ensures count { IfOk result (λ count. count ≡ length list.now) }
@@ -77,11 +83,11 @@ fn count_differences<W: Sink>(list: &[Difference], sink: &mut W) -> Result<u32, 
     Ok(list.len() as u32)
 }
 
-/// The differences of the trace that these bytes are, as [`compare`] lists them.
+/// The differences of a trace from its bytes, as [`compare`] lists them.
 ///
 /// # Errors
 ///
-/// As for [`parse_trace`].
+/// The errors of [`parse_trace`].
 pub fn trace_differences(alloc: Global, bytes: &[u8]) -> Result<Vec<Difference>, TraceError>
     requires short { length bytes.now ≤ max_trace_bytes }
     ensures found { IfOk result (λ list. (value : PlanValue) × (planes : List ℕ) × IsTrace bytes.now value planes × (list.items ≡ differences value planes)) }
@@ -92,13 +98,13 @@ pub fn trace_differences(alloc: Global, bytes: &[u8]) -> Result<Vec<Difference>,
     Ok(compare(alloc, &trace.plan, trace.planes)?)
 }
 
-/// The trace that these bytes are: the letters `RTR1`, the length of the plan in four bytes, the low one first, the
-/// plan, and the bytes of its planes, as [`compare`] takes them.
+/// Reads a trace from its bytes. These are the letters `RTR1`, the length of the plan in four bytes, the low byte
+/// first, the plan, and the planes, as [`compare`] takes them.
 ///
 /// # Errors
 ///
-/// `Malformed`, for the letters, the length or a plan that is cut; then `Plan`; then `Malformed`, for planes of another
-/// length than the plan's. `Memory` may stand in place of any of them.
+/// First `Malformed` for the letters, the length or a plan that is cut off, then `Plan`, then `Malformed` for planes of
+/// the wrong length. `Memory` may replace any of them.
 pub fn parse_trace(alloc: Global, bytes: &[u8]) -> Result<Trace<'_>, TraceError>
     requires short { length bytes.now ≤ max_trace_bytes }
     ensures found { IfOk result (λ trace. IsTrace bytes.now (plan_value trace.plan) trace.planes.now) }
@@ -120,7 +126,7 @@ pub fn parse_trace(alloc: Global, bytes: &[u8]) -> Result<Trace<'_>, TraceError>
     })
 }
 
-// The field that begins at this byte is at fault.
+// The error for a bad field at this byte.
 fn malformed(at: usize) -> TraceError
     requires { at ≤ max_trace_bytes }
     ensures { result ≡ Malformed at }
@@ -151,7 +157,7 @@ fn trace_parts(bytes: &[u8]) -> Result<TraceParts<'_>, TraceError>
     Ok(TraceParts { plan, planes })
 }
 
-// The valid plan that these bytes are.
+// Reads a valid plan from its bytes.
 fn valid_plan(alloc: Global, bytes: &[u8]) -> Result<Plan, TraceError>
     requires short { length bytes.now ≤ max_plan_bytes }
     ensures found { IfOk result (λ plan. IsValidPlan bytes.now (plan_value plan)) }

@@ -1,7 +1,7 @@
-//! Reads a plan from standard input and writes the planes that it says to standard output.
+//! Reads a plan from standard input, reconstructs it and writes its planes to standard output.
 //!
-//! All that the program does is `av1_recon::run`; here are its real source and sinks. The words of its command line,
-//! the flush of its output and its exit status are `av1_recon::run_on_words`.
+//! `av1_recon::run` is all that the program does. This file connects it to the real source and sinks.
+//! `av1_recon::run_on_words` reads the arguments, flushes the output and sets the exit status.
 #![tactic(auto)]
 
 #[cfg(test)]

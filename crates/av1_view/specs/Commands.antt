@@ -1,4 +1,4 @@
--- The words after the program's name.
+-- The command line's arguments.
 use Rattle.std.specs.Prelude.{ℕ, List, [], ◌∷◌, Option, Some, None, bytes_eq, codes, if◌then◌else◌}
 use Rattle.av1_view.specs.declared.command.ViewCommand.{ViewCommand}
 use Rattle.av1_view.specs.declared.command.ViewCommand.TheVariants.{Plan, Trace, Sequence, Tiles}
@@ -14,7 +14,7 @@ named name =
     then Some Tiles
     else None
 
--- what the words ask for, each word given by its bytes; None where they are no command
+-- the command of the arguments, each given by its bytes; None if they are not a valid command
 abbrev pub command_of : List (List ℕ) → Option ViewCommand
 command_of [] = Some Plan
 command_of (word ∷ []) = named word

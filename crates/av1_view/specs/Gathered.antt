@@ -1,4 +1,4 @@
--- The sink that keeps what it is given.
+-- The sink that keeps all bytes in memory.
 use Rattle.std.specs.Prelude.{ℕ, List}
 use Rattle.av1_view.specs.declared.gathered.Gathered.{Gathered}
 

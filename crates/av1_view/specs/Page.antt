@@ -12,8 +12,8 @@ abbrev pub piece_text : Piece → List ℕ
 piece_text (Text text) = text.now
 piece_text (Bytes bytes) = base64_text bytes.now
 
--- The page: the constant parts, and between them in base64 the bytes of a plan, of its planes, of what was predicted of
--- them, as it is packed, and of the planes that a trace gives, where there is one.
+-- The page: constant parts, and between them data in base64. The data is the bytes of a plan, of its planes, of its
+-- packed predictions, and of the planes of a trace, if there is one.
 unfoldable pub page : (plan planes predictions given : List ℕ) → List ℕ
 page plan planes predictions given = concat (
     BEFORE_PLAN.now ∷ base64_text plan ∷ BEFORE_PLANES.now ∷ base64_text planes ∷ BEFORE_PREDICTIONS.now ∷

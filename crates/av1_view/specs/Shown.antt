@@ -9,19 +9,19 @@ use Rattle.av1_trace.specs.Samples.{sample_len}
 use Rattle.av1_view.specs.Packed.{packed}
 use Rattle.av1_view.specs.Page.{page}
 
--- how many bytes a row of luma has
+-- the length of a luma row in bytes
 abbrev pub row_len : Header → ℕ
 row_len header = sample_len header.depth * header.width
 
--- what the Predict steps of a plan predict of its planes, packed against these
+-- the predictions by the Predict steps of a plan, packed as differences from the plan's planes
 unfoldable pub packed_predictions : PlanValue → List ℕ
 packed_predictions plan = packed (row_len plan.header) (planes_of plan) (predictions_of plan)
 
--- the page of a plan and of planes that another encoder left of it: its bytes, its planes, its predictions, and the
--- planes that were left
+-- The page of a plan and of its planes from another encoder: the plan's bytes, its planes, its predictions, and the
+-- given planes.
 unfoldable pub trace_page : PlanValue → List ℕ → List ℕ
 trace_page plan given = page (plan_text plan) (planes_of plan) (packed_predictions plan) given
 
--- the page of a plan alone
+-- the page of a plan without given planes
 abbrev pub plan_page : PlanValue → List ℕ
 plan_page plan = trace_page plan []

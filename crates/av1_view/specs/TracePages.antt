@@ -9,14 +9,14 @@ use Rattle.av1_trace.specs.declared.error.TraceError.{TraceError}
 use Rattle.av1_view.specs.declared.trace.KeptTrace.{KeptTrace}
 use Rattle.av1_view.specs.Shown.{trace_page}
 
--- The outcome of bytes: the page of the trace that they are, or why they are refused, as `check_trace` refuses them.
+-- The outcome of bytes: the page of the trace, or why the bytes are rejected, as `check_trace` rejects them.
 abbrev pub HasTraceOutcome : List ℕ → Result (List ℕ) TraceError → Type 0
 HasTraceOutcome bytes (Ok written) =
     (length bytes ≤ max_trace_bytes) ×
     ((plan : PlanValue) × (given : List ℕ) × IsTrace bytes plan given × (written ≡ trace_page plan given))
 HasTraceOutcome bytes (Err e) = AreRefusedFor bytes e
 
--- what a call is to do that shows a trace
+-- the task of a call that shows a trace
 abbrev pub trace_page_task : Task (List ℕ) (Unit {0}) TraceError
 trace_page_task = record {
   limit = max_trace_bytes;
@@ -28,7 +28,7 @@ trace_page_task = record {
 
 -- ---- the half that reads
 
--- what is found in bytes: the trace that they are, or why they are refused
+-- what is read from bytes: the trace, or why the bytes are rejected
 abbrev pub IsFound : List ℕ → Result KeptTrace TraceError → Type 0
 IsFound bytes (Ok trace) = (length bytes ≤ max_trace_bytes) × IsTrace bytes (plan_value trace.plan) trace.planes.items
 IsFound bytes (Err e) = AreRefusedFor bytes e

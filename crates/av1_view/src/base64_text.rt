@@ -1,4 +1,4 @@
-//! Bytes in base64, written piece by piece.
+//! Writes bytes in base64, piece by piece.
 ghost use Rattle.std.specs.Prelude.{◌≡◌, ℕ, ◌+◌, ◌*◌, ◌<◌, ◌≤◌, List, [], ◌++◌, OnOk, drop, length, take};
 ghost use Rattle.std.specs.Io.KnownBytes.{Appends};
 ghost use Rattle.av1_streams.specs.Faults.{HasCause};
@@ -9,13 +9,14 @@ ghost use Rattle.av1_view.specs.Base64.{base64_text, group, letter};
 use av1_streams::{Sink, WriteFault, write_bytes};
 use std::marker::Model;
 
-// The bytes that are encoded at once: whole groups of three.
+// The number of bytes that are encoded at once: whole groups of three.
 const MOST_BYTES: usize = 3072;
 
-// The letters of these.
+// The number of letters of these bytes.
 const MOST_LETTERS: usize = 4096;
 
-/// Appends bytes in base64 to the sink. The first write that fails ends the call, and a prefix of the letters stands.
+/// Appends bytes in base64 to the sink. The first write that fails ends the call, and the sink has a prefix of the
+/// letters.
 pub fn write_base64<W: Sink>(bytes: &[u8], sink: &mut W) -> Result<(), WriteFault>
     ensures whole { OnOk result (Appends (W.taken sink.old) (W.taken sink.new) (base64_text bytes.now)) }
     ensures prefix { AppendsPrefix (W.taken sink.old) (W.taken sink.new) (base64_text bytes.now) }
@@ -53,7 +54,7 @@ fn group(a: u8, b: u8, c: u8) -> [u8; 4]
     ]
 }
 
-// The letters of the first group of some bytes, which may lack one or two.
+// The letters of the first group of some bytes. The group may lack one or two bytes.
 #[tactic(auto, unfolding(crate::specs::Base64::base64_text))]
 fn first_letters(bytes: &[u8]) -> [u8; 4]
     requires { 0 < length bytes.now }
@@ -73,7 +74,7 @@ fn first_letters(bytes: &[u8]) -> [u8; 4]
     }
 }
 
-// Letters in a fixed array, as many as are written at once. Clauses see the letters.
+// A buffer of the letters that are written at once. Contracts see its letters.
 #[derive(Drop)]
 struct Letters {
     letters: [u8; MOST_LETTERS],
@@ -106,7 +107,7 @@ impl Letters {
         &self.letters[..self.len]
     }
 
-    // Takes all letters out.
+    // Removes all letters.
     fn clear(&mut self)
         ensures { self.new ≡ [] }
     {
@@ -123,7 +124,7 @@ impl Letters {
         self.len = end;
     }
 
-    // The letters of some bytes, in place of those before.
+    // Replaces the letters by those of some bytes.
     fn encode(&mut self, bytes: &[u8])
         requires { length bytes.now ≤ 3072 }
         ensures { self.new ≡ base64_text bytes.now }

@@ -1,13 +1,13 @@
-//! What the words after the program's name ask for.
+//! Reads the command line's arguments.
 ghost use Rattle.std.specs.Prelude.{◌≡◌, map, string_bytes};
 ghost use Rattle.av1_view.specs.Commands.{command_of, named};
 
-/// What the program is asked to show.
+/// What the program shows.
 #[derive(Clone, Copy, Debug, PartialEq, Eq)]
 pub enum ViewCommand {
     /// A plan.
     Plan,
-    /// A trace: a plan, and the planes that another encoder left of it.
+    /// A trace: a plan, and its planes from another encoder.
     Trace,
     /// A sequence of frames, each predicted from those before it.
     Sequence,
@@ -16,7 +16,7 @@ pub enum ViewCommand {
 }
 
 impl ViewCommand {
-    /// What the words after the program's name ask for, if they are a command.
+    /// The command of the arguments, if they are valid.
     pub fn from_words(words: &[String]) -> Option<ViewCommand>
         ensures { result ≡ command_of (map string_bytes words.now) }
     {

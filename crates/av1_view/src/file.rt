@@ -1,4 +1,4 @@
-//! A file of frames or of tiles with its planes, and its page.
+//! A file of frames or of tiles with its planes, and the page of the file.
 ghost use Rattle.std.specs.Prelude.{OnOk};
 ghost use Rattle.std.specs.Io.KnownBytes.{Appends};
 ghost use Rattle.av1_streams.specs.Faults.{HasCause};
@@ -8,17 +8,17 @@ ghost use Rattle.av1_view.specs.FilePages.{file_page};
 use crate::page::{Shown, write_page};
 use av1_streams::{Sink, WriteFault};
 
-/// A file in memory, and the planes that it comes to.
+/// A file in memory, and its planes.
 #[derive(Drop)]
 pub struct KeptFile {
     /// The bytes of a sequence of frames or of a grid of tiles.
     pub bytes: Vec<u8>,
-    /// The visible planes of its frames, one after the other.
+    /// The visible planes of the file's frames, one after the other.
     pub planes: Vec<u8>,
 }
 
-/// Appends the page of a file and of its planes. The first write that fails ends the call, and a prefix of the page
-/// stands.
+/// Appends the page of a file and of its planes. The first write that fails ends the call, and the sink has a prefix of
+/// the page.
 #[tactic(auto, unfolding(crate::specs::FilePages::file_page))]
 pub fn write_file_page<W: Sink>(file: &KeptFile, sink: &mut W) -> Result<(), WriteFault>
     ensures whole { OnOk result (Appends (W.taken sink.old) (W.taken sink.new)

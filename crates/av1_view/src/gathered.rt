@@ -1,4 +1,4 @@
-//! A sink that keeps in memory what it is given.
+//! A sink that keeps all bytes in memory.
 ghost use Rattle.std.specs.Prelude.{◌≡◌, ◌<◌, [], Some, length, IfOk};
 ghost use Rattle.std.specs.Io.{WritesAtMost};
 ghost use Rattle.std.specs.Io.KnownBytes.{WriteAppends};
@@ -9,7 +9,7 @@ use av1_blocks::OutOfMemory;
 use av1_streams::{Failed, Sink};
 use std::alloc::Global;
 
-/// All bytes so far. A write fails only where memory runs out.
+/// All bytes so far. A write only fails if memory runs out.
 #[derive(Drop)]
 pub struct Gathered {
     bytes: Vec<u8>,
@@ -17,7 +17,7 @@ pub struct Gathered {
 }
 
 impl Gathered {
-    /// No bytes yet.
+    /// An empty sink.
     pub fn new(alloc: Global) -> Gathered
         ensures { gathered_bytes result ≡ [] }
     {
@@ -27,7 +27,7 @@ impl Gathered {
         }
     }
 
-    /// No bytes yet, and room for so many. An error is running out of memory.
+    /// An empty sink with space for `capacity` bytes. The error is that memory ran out.
     pub fn with_capacity(alloc: Global, capacity: usize) -> Result<Gathered, OutOfMemory>
         ensures { IfOk result (λ gathered. gathered_bytes gathered ≡ []) }
     {
@@ -51,7 +51,7 @@ impl Sink for Gathered {
 
     ghost faults = { gathered_faults };
 
-    /// Takes all, or nothing where memory runs out.
+    /// Takes all bytes, or none if memory runs out.
     fn write(&mut self, buf: &[u8]) -> Result<usize, Failed>
         requires { 0 < length buf.now }
         ensures some { IfOk result (λ count. 0 < count) }

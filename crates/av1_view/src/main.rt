@@ -1,17 +1,25 @@
-//! Reads a plan from standard input, and writes to standard output a page that shows it: one file, to be opened in any
-//! browser. With the word `trace` it reads a plan and the planes that another encoder left of it, and the page marks
-//! where these differ; with the word `sequence` a sequence of frames, and with the word `tiles` a grid of tiles.
+//! Reads a plan from standard input, and writes a page that shows it to standard output. The page is one file for any
+//! browser. The program also shows other inputs:
 //!
-//! All that the program does is [`program::run_view`]; here are its real source and sinks. The words of its command
-//! line, the flush of its output and its exit status are `av1_recon::run_on_words`.
+//! - With the argument `trace` it reads a plan and its planes from another encoder. The page marks where these differ.
+//! - With the argument `sequence` it reads a sequence of frames.
+//! - With the argument `tiles` it reads a grid of tiles.
 //!
-//! Promised: the page is one definition, `page` (`specs/Page.antt`): constant parts, and between them in base64 the
-//! plan's bytes, its visible planes by the slow definition, and what its Predict steps predict of them, packed against
-//! these (`packed`, `specs/Packed.antt`). What is packed can be read again ([`laws::packed_is_read_again`]).
-//! [`view::view_plan`] keeps what all calls keep that read a plan and write of it (`Converts` of `av1_recon`),
-//! [`trace::view_trace`], [`sequence::view_sequence`] and [`tiles::view_tiles`] what all keep that read bytes and write
-//! of them (`Performs` of `av1_streams`). The page of a sequence or of a grid holds its own bytes and all of its planes
-//! (`file_page`, `specs/FilePages.antt`). What a browser makes of a page is tested, not proved.
+//! [`program::run_view`] is all that the program does. This file connects it to the real source and sinks.
+//! `av1_recon::run_on_words` reads the arguments, flushes the output and sets the exit status.
+//!
+//! What the program promises:
+//!
+//! - One definition, `page` (`specs/Page.antt`), says what the page is: constant parts, and between them data in
+//!   base64. The data is the plan's bytes, its visible planes by the slow definition, and its predictions, packed
+//!   (`packed`, `specs/Packed.antt`).
+//! - The packed predictions can be unpacked ([`laws::packed_is_read_again`]).
+//! - [`view::view_plan`] keeps the contract of all calls that read a plan and write (`Converts` of `av1_recon`).
+//! - [`trace::view_trace`], [`sequence::view_sequence`] and [`tiles::view_tiles`] keep the contract of all calls that
+//!   read bytes and write (`Performs` of `av1_streams`).
+//! - The page of a sequence or of a grid has the file's bytes and all of its planes (`file_page`,
+//!   `specs/FilePages.antt`).
+//! - What a browser shows of a page is tested, not proved.
 #![tactic(auto)]
 
 mod answer;

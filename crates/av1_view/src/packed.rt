@@ -1,4 +1,4 @@
-//! Predictions, packed against the planes.
+//! Packs predictions as differences from the planes.
 ghost use Rattle.std.specs.Prelude.{◌≡◌, ◌+◌, ◌<◌, ◌≤◌, ◌^◌, ◌++◌, All, IfOk, drop, length, take};
 ghost use Rattle.av1_lists.specs.Lists.{by_index};
 ghost use Rattle.av1_view.specs.Packed.{bits_of, change, group_bytes, joined, less, numbers, packed, residue, sign_last};
@@ -9,12 +9,13 @@ use std::alloc::Global;
 // How many numbers a group has.
 const GROUP: usize = 8;
 
-/// The predictions of planes, packed against these (`specs/Packed.antt`): in few bytes where the planes differ from
-/// what was predicted by little, or by much the same from row to row. `row` is how many bytes a row of luma has.
+/// Packs the predictions of planes as differences from the planes (`specs/Packed.antt`). The result is short if the
+/// planes differ little from the predictions, or by similar amounts from row to row. `row` is the length of a luma row
+/// in bytes.
 ///
 /// # Errors
 ///
-/// `OutOfMemory` where memory runs out.
+/// `OutOfMemory` if memory runs out.
 pub fn pack(
     alloc: Global,
     row: usize,
@@ -58,7 +59,7 @@ fn push_part(
     push_any(row, planes, predictions, at, len, bytes)
 }
 
-// Appends the group of `len` bytes from `at` on. Nearly all groups go the way above.
+// Appends the group of `len` bytes from `at` on. Nearly all groups take the faster path above.
 #[inline(never)]
 fn push_any(
     row: usize,
@@ -78,7 +79,7 @@ fn push_any(
     push_group(&group[..len], bytes)
 }
 
-// The numbers of the first 8 of some bytes, all behind the first row, beside those a row before.
+// The numbers of the first 8 of some bytes. All are after the first row, and the bytes one row before are also given.
 fn later_group(
     planes: &[u8],
     predictions: &[u8],
@@ -114,7 +115,7 @@ fn any_group(row: usize, planes: &[u8], predictions: &[u8], at: usize, len: usiz
     group
 }
 
-// By how much byte `i` of the planes is more than its prediction.
+// How much byte `i` of the planes is greater than its prediction, modulo 256.
 fn residue(planes: &[u8], predictions: &[u8], i: usize) -> u8
     requires plane { i < length planes.now }
     requires prediction { i < length predictions.now }
@@ -123,7 +124,7 @@ fn residue(planes: &[u8], predictions: &[u8], i: usize) -> u8
     planes[i].wrapping_sub(predictions[i])
 }
 
-// By how much more than that of the byte a row before, where there is one.
+// How much this difference is greater than the difference one row before, if there is such a row.
 fn change(row: usize, planes: &[u8], predictions: &[u8], i: usize) -> u8
     requires plane { i < length planes.now }
     requires prediction { i < length predictions.now }
@@ -136,7 +137,7 @@ fn change(row: usize, planes: &[u8], predictions: &[u8], i: usize) -> u8
     here.wrapping_sub(residue(planes, predictions, i - row))
 }
 
-// A change as a number that is small where the change is.
+// A change as a number that is small if the change is small.
 fn sign_last(difference: u8) -> u8
     ensures { result ≡ sign_last difference }
 {
@@ -147,7 +148,7 @@ fn sign_last(difference: u8) -> u8
     }
 }
 
-// Appends a group: how many bits each of its numbers has, and the numbers.
+// Appends a group: the number of bits of each of its numbers, and then the numbers.
 #[inline(always)]
 fn push_group(group: &[u8], bytes: &mut Vec<u8>) -> Result<(), OutOfMemory>
     requires { length group.now ≤ 8 }
@@ -177,7 +178,7 @@ fn bits_of(group: &[u8]) -> u8
     8 - greatest.leading_zeros() as u8
 }
 
-// At most 8 numbers of so many bits each as one number, the first lowest.
+// At most 8 numbers of `bits` bits each as one number, the first lowest.
 #[inline(always)]
 fn joined(bits: u8, group: &[u8]) -> u64
     requires few { bits ≤ 8 }

@@ -1,4 +1,4 @@
-//! The page, written from the bytes that it shows.
+//! Writes the page from the bytes that it shows.
 ghost use Rattle.std.specs.Prelude.{OnOk};
 ghost use Rattle.std.specs.List.{flat_map};
 ghost use Rattle.std.specs.Io.KnownBytes.{Appends};
@@ -18,11 +18,11 @@ use av1_streams::{Sink, WriteFault, write_bytes};
 pub struct Shown<'a> {
     /// A plan.
     pub plan: &'a [u8],
-    /// Its planes.
+    /// The planes of the plan.
     pub planes: &'a [u8],
-    /// What was predicted of its planes, packed against these; none where predictions are not shown.
+    /// The packed predictions of these planes. Empty if the page shows no predictions.
     pub predictions: &'a [u8],
-    /// The planes that a trace gives; none where there is no trace.
+    /// The planes of a trace. Empty if there is no trace.
     pub given: &'a [u8],
 }
 
@@ -35,8 +35,8 @@ pub enum Piece<'a> {
     Bytes(&'a [u8]),
 }
 
-/// Appends the page of these bytes to the sink. The first write that fails ends the call, and a prefix of the page
-/// stands.
+/// Appends the page of these bytes to the sink. The first write that fails ends the call, and the sink has a prefix of
+/// the page.
 #[tactic(auto, unfolding(crate::specs::Page::page))]
 pub fn write_page<W: Sink>(shown: Shown<'_>, sink: &mut W) -> Result<(), WriteFault>
     ensures whole { OnOk result (Appends (W.taken sink.old) (W.taken sink.new)
@@ -61,7 +61,7 @@ pub fn write_page<W: Sink>(shown: Shown<'_>, sink: &mut W) -> Result<(), WriteFa
     write_pieces(&pieces, sink)
 }
 
-// Appends pieces, one behind the other, or a prefix of them.
+// Appends pieces, one after the other. If a write fails, the sink has a prefix of them.
 fn write_pieces<W: Sink>(pieces: &[Piece<'_>], sink: &mut W) -> Result<(), WriteFault>
     ensures whole { OnOk result (Appends (W.taken sink.old) (W.taken sink.new) (flat_map piece_text pieces.now)) }
     ensures prefix { AppendsPrefix (W.taken sink.old) (W.taken sink.new) (flat_map piece_text pieces.now) }
@@ -73,7 +73,7 @@ fn write_pieces<W: Sink>(pieces: &[Piece<'_>], sink: &mut W) -> Result<(), Write
     Ok(())
 }
 
-// Appends a piece, or a prefix of it.
+// Appends a piece. If a write fails, the sink has a prefix of it.
 fn write_piece<W: Sink>(piece: Piece<'_>, sink: &mut W) -> Result<(), WriteFault>
     ensures whole { OnOk result (Appends (W.taken sink.old) (W.taken sink.new) (piece_text piece.entry)) }
     ensures prefix { AppendsPrefix (W.taken sink.old) (W.taken sink.new) (piece_text piece.entry) }

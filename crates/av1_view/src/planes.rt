@@ -1,4 +1,4 @@
-//! The planes of a plan in memory, and what was predicted of them.
+//! The planes of a plan in memory, and their predictions.
 ghost use Rattle.std.specs.Prelude.{◌≡◌, None, IfOk};
 ghost use Rattle.av1_plan.specs.Values.{plan_value};
 ghost use Rattle.av1_plan.specs.Validity.{first_fault};
@@ -12,20 +12,20 @@ use av1_recon::write_with_predictions;
 use av1_trace::planes_len;
 use std::alloc::Global;
 
-/// What a plan comes to.
+/// The planes and the predictions of a plan.
 #[derive(Drop)]
 pub struct Reconstructed {
-    /// The bytes of its visible planes.
+    /// The bytes of the visible planes.
     pub planes: Vec<u8>,
-    /// The bytes of what was predicted of them, before residues were added.
+    /// The bytes of the predictions of these planes, before residuals were added.
     pub predictions: Vec<u8>,
 }
 
-/// What a valid plan comes to.
+/// Reconstructs a valid plan, and keeps its predictions.
 ///
 /// # Errors
 ///
-/// `OutOfMemory` where memory runs out.
+/// `OutOfMemory` if memory runs out.
 pub fn reconstruct(alloc: Global, plan: &Plan) -> Result<Reconstructed, OutOfMemory>
     requires valid { first_fault (plan_value plan.now) ≡ None }
     ensures planes { IfOk result (λ made. made.planes.items ≡ planes_of (plan_value plan.now)) }
@@ -34,7 +34,7 @@ pub fn reconstruct(alloc: Global, plan: &Plan) -> Result<Reconstructed, OutOfMem
     let len = planes_len(plan.header());
     let mut planes = Gathered::with_capacity(alloc, len)?;
     let mut predictions = Gathered::with_capacity(alloc, len)?;
-    // What is gathered in memory fails only where memory runs out.
+    // Writes to memory only fail if memory runs out.
     match write_with_predictions(alloc, plan, &mut planes, &mut predictions) {
         Ok(()) => Ok(Reconstructed {
             planes: planes.into_bytes(),

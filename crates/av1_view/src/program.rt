@@ -25,26 +25,30 @@ use av1_recon::{Sink, Source, report, say};
 use av1_toolbox::{report_sequence, report_tiles};
 use std::alloc::Global;
 
-// The status where the words are no command.
+// The status if the arguments are not a valid command.
 const NO_COMMAND: u8 = 1;
 
-/// Does what the words after the program's name ask for, and gives the exit status. Without words a plan is read from
-/// `source`, and the page that shows it is written to `out`; with the word `trace` a trace, and the page that shows its
-/// plan and where its samples differ; with the word `sequence` a sequence of frames, and with the word `tiles` a grid
-/// of tiles, and the page that shows it and its planes. All other words are no command.
+/// Runs the command of the arguments, and returns the exit status. Without arguments it reads a plan from `source`, and
+/// writes the page of the plan to `out`. With the argument `trace` it reads a trace, and the page also shows where the
+/// trace's samples differ. With `sequence` it reads a sequence of frames, and with `tiles` a grid of tiles. The page
+/// shows the file and its planes. Other arguments are not a valid command.
 ///
-/// | status | where | line on `err` |
+/// | status | if | line on `err` |
 /// |---|---|---|
 /// | 0 | the page was written | none |
-/// | 1 | the words are no command | `usage: view [trace \| sequence \| tiles]` |
-/// | 2 | the bytes are refused | `too long`, `malformed at N`, or one of those below |
+/// | 1 | the arguments are not a valid command | `usage: view [trace \| sequence \| tiles]` |
+/// | 2 | the bytes are rejected | `too long`, `malformed at N`, or one of those below |
 /// | 3 | memory ran out | `out of memory` |
 /// | 4 | a read failed | `read fault` |
 /// | 5 | a write failed | `write fault` |
 ///
-/// A plan may also be refused by the line `invalid leaf N: K`, where K is as in [`av1_recon::run`], and a trace by
-/// `plan malformed at N` or `plan invalid leaf N: K`; a sequence and a grid as `av1_toolbox::run_tools` says. Where a
-/// write to `err` failed a prefix of the line stands, and the status stays.
+/// With status 2, other lines are possible:
+///
+/// - A plan: `invalid leaf N: K`, with K as in [`av1_recon::run`].
+/// - A trace: `plan malformed at N` or `plan invalid leaf N: K`.
+/// - A sequence or a grid: the lines of `av1_toolbox::run_tools`.
+///
+/// If a write to `err` fails, `err` has a prefix of the line, and the status is the same.
 pub fn run_view<R: Source, W: Sink, E: Sink>(
     alloc: Global,
     words: &[String],

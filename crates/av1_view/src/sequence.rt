@@ -1,4 +1,4 @@
-//! From the bytes of a sequence of frames to a page that shows it.
+//! Reads a sequence of frames from a source and writes a page that shows it to a sink.
 ghost use Rattle.std.specs.Prelude.{◌≡◌, ◌≢◌, ◌≤◌, Ok, Err, IfOk, IfErr, length};
 ghost use Rattle.av1_sequence.specs.Tasks.{cause_of};
 ghost use Rattle.av1_sequence.specs.declared.error.SequenceError.TheVariants.{Memory};
@@ -13,15 +13,15 @@ use av1_sequence::{SequenceError, reconstruct_sequence};
 use av1_streams::{MAX_PLAN_BYTES, SliceSource, read_plan_bytes};
 use std::alloc::Global;
 
-/// Reads a sequence of frames from the source to its end, and appends a page to the sink that shows it: the constant
-/// parts of the page, and between them in base64 the bytes of the sequence and the visible planes of the frames that it
-/// shows.
+/// Reads a sequence of frames from the source to its end, and appends a page that shows it to the sink. The page has
+/// constant parts, and between them data in base64: the bytes of the sequence, and the visible planes of its shown
+/// frames.
 ///
 /// # Errors
 ///
-/// As for [`av1_sequence::reconstruct_sequence`], but that there is no page where an entry is refused: `ReadFault` and
-/// `TooLong` while it reads, then `Malformed`, then `Frame` or `EmptySlot`, then `WriteFault`. `Memory` may stand in
-/// place of any of them, before the first written byte.
+/// The errors of [`av1_sequence::reconstruct_sequence`]: `ReadFault` and `TooLong` while the call reads, then
+/// `Malformed`, then `Frame` or `EmptySlot`, then `WriteFault`. `Memory` may replace any of them, before the first byte
+/// is written. If an entry is rejected, there is no page.
 pub fn view_sequence<R: Source, W: Sink>(
     alloc: Global,
     source: &mut R,
@@ -41,7 +41,7 @@ fn read_kept<R: Source>(alloc: Global, source: &mut R) -> Result<KeptFile, Seque
     kept(alloc, bytes)
 }
 
-// The sequence that these bytes are, with its planes.
+// The sequence of these bytes, with its planes.
 fn kept(alloc: Global, bytes: Vec<u8>) -> Result<KeptFile, SequenceError>
     requires short { length bytes.items ≤ max_plan_bytes }
     ensures found { IfOk result (λ file. IsKept SequenceComesTo bytes.items (Ok file)) }
@@ -51,7 +51,7 @@ fn kept(alloc: Global, bytes: Vec<u8>) -> Result<KeptFile, SequenceError>
     Ok(KeptFile { bytes, planes })
 }
 
-// The visible planes of the frames that the sequence shows that these bytes are.
+// The visible planes of the frames that a sequence shows. `bytes` is the sequence.
 fn all_planes(alloc: Global, bytes: &[u8]) -> Result<Vec<u8>, SequenceError>
     requires short { length bytes.now ≤ max_plan_bytes }
     ensures found { IfOk result (λ planes. SequenceComesTo bytes.now (Ok planes.items)) }
@@ -65,7 +65,7 @@ fn all_planes(alloc: Global, bytes: &[u8]) -> Result<Vec<u8>, SequenceError>
     }
 }
 
-// What an error is where bytes are read from a slice, which no read fails, and gathered in memory.
+// The error if bytes are read from a slice and written to memory. Reads of a slice never fail.
 fn in_memory(error: SequenceError) -> SequenceError
     ensures { result ≡ sequence_in_memory error }
 {

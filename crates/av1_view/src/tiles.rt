@@ -1,4 +1,4 @@
-//! From the bytes of a grid of tiles to a page that shows it.
+//! Reads a grid of tiles from a source and writes a page that shows it to a sink.
 ghost use Rattle.std.specs.Prelude.{◌≡◌, ◌≢◌, ◌≤◌, Ok, Err, IfOk, IfErr, length};
 ghost use Rattle.av1_tiles.specs.Tasks.{cause_of};
 ghost use Rattle.av1_tiles.specs.declared.error.TilesError.TheVariants.{Memory};
@@ -14,13 +14,13 @@ use av1_streams::{MAX_PLAN_BYTES, SliceSource, read_plan_bytes};
 use av1_tiles::{TilesError, reconstruct_tiles};
 use std::alloc::Global;
 
-/// Reads a grid of tiles from the source to its end, and appends a page to the sink that shows it: the constant parts
-/// of the page, and between them in base64 the bytes of the grid and the visible planes of its frame.
+/// Reads a grid of tiles from the source to its end, and appends a page that shows it to the sink. The page has
+/// constant parts, and between them data in base64: the bytes of the grid, and the visible planes of its frame.
 ///
 /// # Errors
 ///
-/// As for [`av1_tiles::reconstruct_tiles`]: `ReadFault` and `TooLong` while it reads, then `Malformed`, then `Tile`,
-/// then `WriteFault`. `Memory` may stand in place of any of them, before the first written byte.
+/// The errors of [`av1_tiles::reconstruct_tiles`]: `ReadFault` and `TooLong` while the call reads, then `Malformed`,
+/// then `Tile`, then `WriteFault`. `Memory` may replace any of them, before the first byte is written.
 pub fn view_tiles<R: Source, W: Sink>(
     alloc: Global,
     source: &mut R,
@@ -40,7 +40,7 @@ fn read_kept<R: Source>(alloc: Global, source: &mut R) -> Result<KeptFile, Tiles
     kept(alloc, bytes)
 }
 
-// The grid that these bytes are, with its planes.
+// The grid of these bytes, with its planes.
 fn kept(alloc: Global, bytes: Vec<u8>) -> Result<KeptFile, TilesError>
     requires short { length bytes.items ≤ max_plan_bytes }
     ensures found { IfOk result (λ file. IsKept HasOutcome bytes.items (Ok file)) }
@@ -50,7 +50,7 @@ fn kept(alloc: Global, bytes: Vec<u8>) -> Result<KeptFile, TilesError>
     Ok(KeptFile { bytes, planes })
 }
 
-// The visible planes of the frame of the grid that these bytes are.
+// The visible planes of the frame of a grid. `bytes` is the grid.
 fn joined_planes(alloc: Global, bytes: &[u8]) -> Result<Vec<u8>, TilesError>
     requires short { length bytes.now ≤ max_plan_bytes }
     ensures found { IfOk result (λ planes. HasOutcome bytes.now (Ok planes.items)) }
@@ -64,7 +64,7 @@ fn joined_planes(alloc: Global, bytes: &[u8]) -> Result<Vec<u8>, TilesError>
     }
 }
 
-// What an error is where bytes are read from a slice, which no read fails, and gathered in memory.
+// The error if bytes are read from a slice and written to memory. Reads of a slice never fail.
 fn in_memory(error: TilesError) -> TilesError
     ensures { result ≡ tiles_in_memory error }
 {

@@ -1,4 +1,4 @@
-//! From the bytes of a trace to a page that shows its plan, and where given samples differ.
+//! Reads a trace from a source and writes a page to a sink that shows where samples differ from the trace's plan.
 ghost use Rattle.std.specs.Prelude.{◌≡◌, ◌≢◌, ◌≤◌, None, IfOk, IfErr, length};
 ghost use Rattle.av1_plan.specs.Values.{plan_value};
 ghost use Rattle.av1_plan.specs.Validity.{first_fault};
@@ -18,21 +18,27 @@ use av1_streams::read_bytes;
 use av1_trace::{MAX_TRACE_BYTES, Trace, TraceError, parse_trace};
 use std::alloc::Global;
 
-/// A trace that keeps its planes, where the bytes that it was read from do not stay.
+/// A trace that owns its planes, because the bytes that it was read from are dropped.
 #[derive(Drop)]
 pub struct KeptTrace {
     plan: Plan,
     planes: Vec<u8>,
 }
 
-/// Reads a trace from the source to its end, and appends a page to the sink that shows its plan, as
-/// [`crate::view::view_plan`] does, and the planes that it gives.
+/// Reads a trace from the source to its end, and appends a page to the sink. The page shows the trace's plan, as
+/// [`crate::view::view_plan`] does, and the trace's planes.
 ///
 /// # Errors
 ///
-/// As for [`av1_trace::check_trace`]: `ReadFault` and `TooLong` while it reads; then `Malformed`, for the letters, the
-/// length or a plan that is cut; then `Plan`; then `Malformed`, for planes of another length than the plan's; then
-/// `WriteFault`. `Memory` may stand in place of any of them, before the first written byte.
+/// The errors of [`av1_trace::check_trace`], in this order:
+///
+/// - `ReadFault` and `TooLong` while the call reads.
+/// - `Malformed` for the letters, the length or a plan that is cut off.
+/// - `Plan`.
+/// - `Malformed` for planes of the wrong length.
+/// - `WriteFault`.
+///
+/// `Memory` may replace any of them, before the first byte is written.
 pub fn view_trace<R: Source, W: Sink>(
     alloc: Global,
     source: &mut R,
@@ -52,7 +58,7 @@ fn read_trace<R: Source>(alloc: Global, source: &mut R) -> Result<KeptTrace, Tra
     trace_of(alloc, &bytes)
 }
 
-// The trace that these bytes are.
+// The trace of these bytes.
 fn trace_of(alloc: Global, bytes: &[u8]) -> Result<KeptTrace, TraceError>
     requires short { length bytes.now ≤ max_trace_bytes }
     ensures found { IfOk result (λ trace. IsTrace bytes.now (plan_value trace.plan) trace.planes.items) }
@@ -63,7 +69,7 @@ fn trace_of(alloc: Global, bytes: &[u8]) -> Result<KeptTrace, TraceError>
     Ok(KeptTrace { plan, planes })
 }
 
-// The same bytes.
+// A copy of the bytes.
 fn copied(alloc: Global, bytes: &[u8]) -> Result<Vec<u8>, OutOfMemory>
     ensures { IfOk result (λ copy. copy.items ≡ bytes.now) }
 {
@@ -72,7 +78,7 @@ fn copied(alloc: Global, bytes: &[u8]) -> Result<Vec<u8>, OutOfMemory>
     Ok(copy)
 }
 
-// Appends the page of a valid plan and of given planes.
+// Appends the page of a valid plan and of the trace's planes.
 #[tactic(auto, using(crate::proofs::Pages::page_is))]
 fn append_trace<W: Sink>(
     alloc: Global,

@@ -1,4 +1,4 @@
-//! From the bytes of a plan to a page that shows it.
+//! Reads a plan from a source and writes a page that shows it to a sink.
 ghost use Rattle.std.specs.Prelude.{◌≡◌, None, IfOk};
 ghost use Rattle.av1_plan.specs.Values.{plan_value};
 ghost use Rattle.av1_plan.specs.Validity.{first_fault};
@@ -17,14 +17,13 @@ use av1_planwrite::write_plan;
 use av1_recon::{ReconError, Sink, Source, read_plan};
 use std::alloc::Global;
 
-/// Reads a plan from the source to its end, and appends a page to the sink that shows it: the constant parts of the
-/// page, and between them in base64 the plan's bytes, its visible planes, and what was predicted of them, packed
-/// against these.
+/// Reads a plan from the source to its end, and appends a page that shows it to the sink. The page has constant parts,
+/// and between them data in base64: the plan's bytes, its visible planes, and its packed predictions.
 ///
 /// # Errors
 ///
-/// As for [`av1_recon::reconstruct_plan`]: `ReadFault` and `TooLong` while it reads, then `Malformed`, then `Invalid`,
-/// then `WriteFault`. `Memory` may stand in place of any of them, before the first written byte.
+/// The errors of [`av1_recon::reconstruct_plan`]: `ReadFault` and `TooLong` while the call reads, then `Malformed`,
+/// then `Invalid`, then `WriteFault`. `Memory` may replace any of them, before the first byte is written.
 pub fn view_plan<R: Source, W: Sink>(
     alloc: Global,
     source: &mut R,
@@ -41,17 +40,17 @@ pub fn view_plan<R: Source, W: Sink>(
 pub struct PageParts {
     /// The plan's bytes.
     pub plan: Vec<u8>,
-    /// Its planes.
+    /// The plan's planes.
     pub planes: Vec<u8>,
-    /// What was predicted of its planes, packed against these.
+    /// The packed predictions of these planes.
     pub predictions: Vec<u8>,
 }
 
-/// What the page of a valid plan shows.
+/// Computes what the page of a valid plan shows.
 ///
 /// # Errors
 ///
-/// `OutOfMemory` where memory runs out.
+/// `OutOfMemory` if memory runs out.
 pub fn gather(alloc: Global, plan: &Plan) -> Result<PageParts, OutOfMemory>
     requires valid { first_fault (plan_value plan.now) ≡ None }
     ensures plan { IfOk result (λ parts. parts.plan.items ≡ plan_text (plan_value plan.now)) }
@@ -69,7 +68,7 @@ pub fn gather(alloc: Global, plan: &Plan) -> Result<PageParts, OutOfMemory>
     })
 }
 
-// How many bytes a row of luma has.
+// The length of a luma row in bytes.
 #[tactic(auto, unfolding(av1_trace::specs::Samples::sample_len))]
 fn row_len(header: &Header) -> usize
     ensures { result ≡ row_len header.now }
