@@ -91,8 +91,7 @@ impl<T> Model for Plane<T> {
 }
 
 impl<T: Pixel> Plane<T> {
-    /// Allocates a plane of `width` by `height` visible samples. All its samples, also those that aren't visible, are
-    /// 0.
+    /// Allocates a plane of `width` by `height` visible samples. All samples are 0.
     ///
     /// Storage is the width and height rounded up to whole blocks of 64 luma samples, with `xpad` columns on either
     /// side and `ypad` rows above and below. `xdec` and `ydec` are 1 if the plane has half of luma's columns or rows.
