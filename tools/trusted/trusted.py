@@ -130,7 +130,7 @@ def without_av1(note):
 def words_before(d, owner, last):
     """the words before a definition, and its section of the AV1 specification: `same` if it is the last one in the file"""
     title, remark = AV1.get(key_of(d), ("", ""))
-    note = tables.sentence(chapters.INSTEAD.get(key_of(d), without_av1(owner.note))) if owner and owner.name in chapters.SPOKEN else ""
+    note = tables.sentence(without_av1(owner.note)) if owner and owner.name in chapters.SPOKEN else ""
     section = "§\u00a0" + ": ".join(filter(None, ["same" if title == last and remark else title, remark])) if title else ""
     return filled(note + " " + section, WIDTH, "-- ", "-- ")
 
@@ -281,7 +281,7 @@ def faults_of(writer, pages):
     faults += ["chapters.py has %s %s" % (name, "twice" if name in files else "which nothing cites") for name in sorted(set(listed))
                if listed.count(name) > 1 or name not in files]
     keys = {key_of(d) for d in reached}
-    return faults + ["no page has %s, which chapters.py or av1.txt names" % key for key in [*chapters.INSTEAD, *AV1] if key not in keys]
+    return faults + ["no page has %s, which av1.txt names" % key for key in AV1 if key not in keys]
 
 
 def is_in(lines, name):

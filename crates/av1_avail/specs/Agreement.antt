@@ -1,4 +1,4 @@
--- How the answers stand to coding order. (AV1 specification: transform block syntax, which finds haveAboveRt and
+-- How the tables agree with coding order. (AV1 specification: transform block syntax, which finds haveAboveRt and
 -- haveBelowLft from the flags of what is decoded.)
 use Rattle.std.specs.Prelude.{◌≡◌, ◌<◌, ◌≤◌, ℕ, Bool, ◌+◌, ◌-◌, ◌*◌, ◌/◌, ◌%◌, ◌^◌, min, max}
 use Rattle.av1_blocks.specs.declared.partition.BlockSize.{BlockSize}
@@ -28,12 +28,12 @@ pub record IsTile (b : BlockSize) (t : TxSize) (row_off col_off ss_x ss_y : ℕ)
   pub column_within : col_off < block_columns b / 2 ^ ss_x
   pub column_at : col_off % transform_columns t ≡ 0
 
--- How many units past a transform are needed: its lesser side.
+-- The number of units past a transform that may be needed: its lesser side.
 abbrev pub run_length : TxSize → ℕ
 run_length t = min (transform_columns t) (transform_rows t)
 
--- Of the row above the transform, the i-th unit from its right end on is coded before it. The block holds the tile's
--- cell at x and y.
+-- The i-th unit, from the right end of the transform on, of the row above it is coded before it. The block holds the
+-- tile's cell at x and y.
 unfoldable pub top_right_before : BlockSize → (x y : ℕ) → TxSize → (row_off col_off ss_x ss_y i : ℕ) → Bool
 top_right_before b x y t row_off col_off ss_x ss_y i =
     let bx = corner (block_columns b) x in
@@ -41,7 +41,7 @@ top_right_before b x y t row_off col_off ss_x ss_y i =
     next_before bx by (block_columns b) (block_rows b) ss_x ss_y (transform_rows t) row_off col_off
     (bx / 2 ^ ss_x + col_off + transform_columns t + i) (by / 2 ^ ss_y + row_off - 1)
 
--- Of the column left of the transform, the i-th unit from its lower end on is coded before it.
+-- The i-th unit, from the lower end of the transform on, of the column left of it is coded before it.
 unfoldable pub bottom_left_before : BlockSize → (x y : ℕ) → TxSize → (row_off col_off ss_x ss_y i : ℕ) → Bool
 bottom_left_before b x y t row_off col_off ss_x ss_y i =
     let bx = corner (block_columns b) x in
@@ -49,7 +49,7 @@ bottom_left_before b x y t row_off col_off ss_x ss_y i =
     next_before bx by (block_columns b) (block_rows b) ss_x ss_y (transform_rows t) row_off col_off
     (bx / 2 ^ ss_x + col_off - 1) (by / 2 ^ ss_y + row_off + transform_rows t + i)
 
--- Of each unit of the runs past a transform, the tables answer what coding order says.
+-- For each unit of the runs past a transform, the tables say what coding order says.
 pub record TablesAnswerOrder (b : BlockSize) (t : TxSize) (x y row_off col_off ss_x ss_y : ℕ) : Type 0 where
   pub top_right : (i : ℕ) → i < run_length t
       → table_top_right b x y (transform_columns t) row_off col_off ss_x ≡
@@ -58,7 +58,7 @@ pub record TablesAnswerOrder (b : BlockSize) (t : TxSize) (x y row_off col_off s
       → table_bottom_left b x y (transform_rows t) row_off col_off ss_x ss_y ≡
       bottom_left_before b x y t row_off col_off ss_x ss_y i
 
--- They do for every transform that tiles a block with sides up to 64.
+-- This holds for every transform that tiles a block with sides up to 64.
 abbrev pub TablesFollowOrder : Type 0
 TablesFollowOrder =
     (b : BlockSize) (t : TxSize) (x y row_off col_off ss_x ss_y : ℕ) → IsTile b t row_off col_off ss_x ss_y →
@@ -83,7 +83,7 @@ top_right_earlier b x y =
     let s = max (block_columns b) (block_rows b) in
     is_earlier (bx + block_columns b) (by - 1) (square_corner s bx) (square_corner s by)
 
--- The cell left of the block and one row below it is.
+-- The cell left of the block and one row below it is coded before this square.
 unfoldable pub bottom_left_earlier : BlockSize → (x y : ℕ) → Bool
 bottom_left_earlier b x y =
     let bx = corner (block_columns b) x in

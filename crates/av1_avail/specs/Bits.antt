@@ -1,4 +1,4 @@
--- What rav1e answers from the bits of a block's place, without a table: its columns and rows are counted in cells.
+-- rav1e's answers from the bits of a block's position, without a table. Columns and rows are counted in cells.
 use Rattle.std.specs.Prelude.{ℕ, zero, suc, not, ◌-◌, Bool, true, false, ◌/◌, ◌%◌, ◌^◌, max, ◌==◌, nat_lt, ◌&&◌, ◌||◌}
 use Rattle.std.specs.Prelude.{if◌then◌else◌}
 use Rattle.av1_blocks.specs.declared.partition.BlockSize.{BlockSize}
@@ -28,20 +28,20 @@ rows_log b = side_log2 (block_height b) - 2
 abbrev pub side_log : BlockSize → ℕ
 side_log b = max (columns_log b) (rows_log b)
 
--- The answer above right of the block at column x and row y. Never for a block with a side of 128. Never for the lower
--- of two blocks that are wider than high, and always for the left of two that are higher than wide. Else it is so
--- unless the way up from the block, through upper right quarters, reaches a lower right one: what is right of that
--- comes later.
+-- The answer above right of the block at column x and row y: false for a block with a side of 128, and for the lower of
+-- two blocks that are wider than high. It is true for the left of two that are higher than wide. Otherwise it is false
+-- exactly if the way up from the block, through upper right quarters, reaches a lower right one: the cells right of
+-- that come later.
 unfoldable pub bits_top_right : BlockSize → (x y : ℕ) → Bool
 bits_top_right b x y =
     if nat_lt 4 (side_log b) || nat_lt (rows_log b) (columns_log b) && bit y (rows_log b) then false
     else (if nat_lt (columns_log b) (rows_log b) && not (bit x (columns_log b)) then true
     else not (reaches_lower_right (4 - side_log b) x y))
 
--- The answer below left. Never for a block with a side of 128. Always for the upper of two blocks that are wider than
--- high, and never for the right of two that are higher than wide. Else it is so where the way up from the block,
--- through lower left quarters, reaches an upper left one (the same asked from the superblock's last cell): what is left
--- of that came earlier.
+-- The answer below left: false for a block with a side of 128. It is true for the upper of two blocks that are wider
+-- than high, and false for the right of two that are higher than wide. Otherwise it is true exactly if the way up from
+-- the block, through lower left quarters, reaches an upper left one (the same test from the superblock's last cell):
+-- the cells left of that came earlier.
 unfoldable pub bits_bottom_left : BlockSize → (x y : ℕ) → Bool
 bits_bottom_left b x y =
     if nat_lt 4 (side_log b) then false

@@ -5,19 +5,19 @@ use Rattle.av1_blocks.specs.declared.transform.TxSize.{TxSize}
 use Rattle.av1_blocks.specs.Blocks.{block_width, block_height}
 use Rattle.av1_blocks.specs.Transforms.{tx_width, tx_height}
 
--- How many columns of cells a block has.
+-- The number of columns of cells of a block.
 abbrev pub block_columns : BlockSize → ℕ
 block_columns b = block_width b / 4
 
--- How many rows of cells a block has.
+-- The number of rows of cells of a block.
 abbrev pub block_rows : BlockSize → ℕ
 block_rows b = block_height b / 4
 
--- How many columns of units a transform has.
+-- The number of columns of units of a transform.
 abbrev pub transform_columns : TxSize → ℕ
 transform_columns t = tx_width t / 4
 
--- How many rows of units a transform has.
+-- The number of rows of units of a transform.
 abbrev pub transform_rows : TxSize → ℕ
 transform_rows t = tx_height t / 4
 

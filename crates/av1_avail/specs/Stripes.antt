@@ -1,4 +1,4 @@
--- A 4:1 block is one of four stripes of a square, and its list in a table follows from that of the square of its
+-- A 4:1 block is one of four stripes of a square, and its list in a table follows from the list of the square with its
 -- greater side.
 use Rattle.std.specs.Prelude.{◌≡◌, ℕ, Bool, not, ◌*◌, ◌/◌, ◌%◌, ◌<◌, ◌==◌, ◌&&◌, ◌||◌}
 use Rattle.av1_blocks.specs.declared.partition.BlockSize.{BlockSize}
@@ -23,19 +23,19 @@ pub record IsInRaster (b : BlockSize) (row column : ℕ) : Type 0 where
   pub row_within : row < 32 / block_rows b
   pub column_within : column < 32 / block_columns b
 
--- Above right of an upright stripe: coded, but for the last stripe as above right of the square.
+-- Above right of an upright stripe: coded, except for the last stripe: there it is as above right of the square.
 abbrev pub upright_top_right : (square : BlockSize) (row column : ℕ) → Bool
 upright_top_right square row column =
     not (column % 4 == 3) || block_bit (top_right_table square) square row (column / 4)
 
--- Above right of a flat stripe: not coded, but for the first stripe as above right of the square.
+-- Above right of a flat stripe: not coded, except for the first stripe: there it is as above right of the square.
 abbrev pub flat_top_right : (square : BlockSize) (row column : ℕ) → Bool
 flat_top_right square row column = row % 4 == 0 && block_bit (top_right_table square) square (row / 4) column
 
--- Below left of an upright stripe: not coded, but for the first stripe as below left of the square.
+-- Below left of an upright stripe: not coded, except for the first stripe: there it is as below left of the square.
 abbrev pub upright_bottom_left : (square : BlockSize) (row column : ℕ) → Bool
 upright_bottom_left square row column = column % 4 == 0 && block_bit (bottom_left_table square) square row (column / 4)
 
--- Below left of a flat stripe: coded, but for the last stripe as below left of the square.
+-- Below left of a flat stripe: coded, except for the last stripe: there it is as below left of the square.
 abbrev pub flat_bottom_left : (square : BlockSize) (row column : ℕ) → Bool
 flat_bottom_left square row column = not (row % 4 == 3) || block_bit (bottom_left_table square) square (row / 4) column

@@ -1,5 +1,5 @@
--- For the blocks of each size in a raster 128 luma samples wide and high: whether what lies above right, and what lies
--- below left, is coded before the block. The lists are rav1e's; only bits of blocks in the first 64 by 64 samples are
+-- For the blocks of each size in a raster 128 luma samples wide and high: whether the samples above right, and those
+-- below left, are coded before the block. The lists are rav1e's. Only bits of blocks in the first 64x64 samples are
 -- ever read. The AV1 specification has no such tables: it keeps flags of what is decoded (clear block decoded flags
 -- function).
 use Rattle.std.specs.Prelude.{ℕ, List, [], ◌∷◌, Bool, ◌+◌, ◌*◌, ◌/◌, ◌%◌, ◌^◌, ◌==◌, slice_index}

@@ -31,7 +31,7 @@ fn bit_of(table: &[u8], i: usize) -> bool
     (table[i / 8] >> (i % 8)) & 1 == 1
 }
 
-/// Whether what lies above right of a transform is coded before it, if it lies in the frame.
+/// Whether the samples above right of a transform are coded before it, if they lie in the frame.
 #[inline]
 #[tactic(auto, unfolding(crate::specs::Availability::table_top_right))]
 fn top_right_by_table(
@@ -71,7 +71,7 @@ fn top_right_by_table(
     )
 }
 
-/// Whether what lies below left of a transform is coded before it, if it lies in the frame.
+/// Whether the samples below left of a transform are coded before it, if they lie in the frame.
 #[inline]
 #[tactic(auto, unfolding(crate::specs::Availability::table_bottom_left))]
 fn bottom_left_by_table(
@@ -113,18 +113,18 @@ fn bottom_left_by_table(
     )
 }
 
-/// Whether the samples above right of a transform are coded before it: those of the row above it, from its right end
-/// on, as many as its lesser side.
+/// Whether the samples above right of a transform are coded before it: in the row above it, from its right end on, as
+/// many as its lesser side.
 ///
-/// `partition_bo` is a cell of the block of size `bsize`, counted from its tile's first cell; the block lies among
-/// others of its size from there on. The transform begins `row_off` units below and `col_off` units right of the
-/// block's first unit; a unit is 4 by 4 samples of the plane, whose decimations are `ss_x` and `ss_y`. `top_available`
-/// and `right_available` say that the row above and the column on the right lie in the frame: where one doesn't, the
-/// answer is no.
+/// `partition_bo` is a cell of the block of size `bsize`, counted from its tile's first cell; blocks of this size lie
+/// side by side from there on. The transform begins `row_off` units below and `col_off` units right of the block's
+/// first unit. A unit is 4x4 samples of the plane, whose decimations are `ss_x` and `ss_y`. `top_available` and
+/// `right_available` say that the row above and the column on the right lie in the frame. If one doesn't, the result is
+/// false.
 ///
-/// For transforms that tile a block with sides up to 64 the answer is that of coding order. For all others it is
-/// rav1e's: at the centre of a block 128 samples wide it is no, although those samples are coded before and a comment
-/// in rav1e says so.
+/// For transforms that tile a block with sides up to 64, the result follows coding order. For all others it is rav1e's:
+/// at the centre of a block 128 samples wide it is false, although those samples are coded before, as a comment in
+/// rav1e says.
 ///
 /// AV1 specification: transform block syntax (haveAboveRt).
 pub fn has_top_right(
@@ -158,12 +158,12 @@ pub fn has_top_right(
     top_right_by_table(bsize, partition_bo, tx_size, row_off, col_off, ss_x)
 }
 
-/// Whether the samples below left of a transform are coded before it: those of the column left of it, from its lower
-/// end on, as many as its lesser side.
+/// Whether the samples below left of a transform are coded before it: in the column left of it, from its lower end on,
+/// as many as its lesser side.
 ///
-/// The arguments are those of `has_top_right`; `bottom_available` and `left_available` say that the row below and the
-/// column on the left lie in the frame. For transforms that tile a block with sides up to 64 the answer is that of
-/// coding order; for all others it is rav1e's.
+/// The arguments are those of `has_top_right`. `bottom_available` and `left_available` say that the row below and the
+/// column on the left lie in the frame. For transforms that tile a block with sides up to 64, the result follows coding
+/// order. For all others it is rav1e's.
 ///
 /// AV1 specification: transform block syntax (haveBelowLft).
 pub fn has_bottom_left(

@@ -1,4 +1,4 @@
-//! The answers from the bits of a block's place.
+//! The answers from the bits of a block's position.
 
 ghost use Rattle.std.specs.Prelude.{◌≡◌, ◌-◌};
 ghost use Rattle.av1_avail.specs.Agreement.{bottom_left_earlier, IsNearSquare, top_right_earlier};
@@ -9,7 +9,7 @@ use av1_blocks::BlockSize;
 use av1_frame::TileBlockOffset;
 
 /// Whether the way up the quadtree of a superblock, from the node of `2^shift` cells a side that holds column `x` of
-/// row `y`, goes through upper right quarters to a lower right one. What is right of that comes later.
+/// row `y`, goes through upper right quarters to a lower right one. The cells right of that come later.
 ///
 /// ```text
 /// +-------+-------+
@@ -33,7 +33,7 @@ fn reaches_lower_right(x: usize, y: usize, shift: usize) -> bool
     false
 }
 
-/// Whether the cell above right of a block is coded before it, by the bits of its place.
+/// Whether the cell above right of a block is coded before it, by the bits of its position.
 #[inline]
 #[tactic(auto, unfolding(crate::specs::Bits::bits_top_right))]
 fn top_right_by_bits(bo: TileBlockOffset, bsize: BlockSize) -> bool
@@ -51,7 +51,7 @@ fn top_right_by_bits(bo: TileBlockOffset, bsize: BlockSize) -> bool
     !reaches_lower_right(bo.0.x, bo.0.y, side)
 }
 
-/// Whether the cell below left of a block is coded before it, by the bits of its place.
+/// Whether the cell below left of a block is coded before it, by the bits of its position.
 #[inline]
 #[tactic(auto, unfolding(crate::specs::Bits::bits_bottom_left))]
 fn bottom_left_by_bits(bo: TileBlockOffset, bsize: BlockSize) -> bool
@@ -79,9 +79,9 @@ fn bottom_left_by_bits(bo: TileBlockOffset, bsize: BlockSize) -> bool
 /// Whether the cell right of a block and one row above it is coded before it. The block holds the cell `bo`, counted
 /// from its tile's first cell, among others of its size from there on.
 ///
-/// No frame edge enters. For squares and 2:1 sizes up to 64 the answer is that of coding order, and the same as that of
-/// `has_top_right` for a transform as large as the block. For the 4:1 sizes it is rav1e's answer and may differ from
-/// both; for sizes with a side of 128 it is no.
+/// The frame's ends have no effect. For squares and 2:1 sizes up to 64 the result follows coding order, and equals the
+/// result of `has_top_right` for a transform as large as the block. For the 4:1 sizes it is rav1e's and may differ from
+/// both. For sizes with a side of 128 it is false.
 pub fn has_tr(bo: TileBlockOffset, bsize: BlockSize) -> bool
     ensures by_bits { result ≡ bits_top_right bsize bo.0.x bo.0.y }
     ensures by_order { IsNearSquare bsize → result ≡ top_right_earlier bsize bo.0.x bo.0.y }
@@ -92,9 +92,9 @@ pub fn has_tr(bo: TileBlockOffset, bsize: BlockSize) -> bool
 /// Whether the cell left of a block and one row below it is coded before it. The block holds the cell `bo`, counted
 /// from its tile's first cell, among others of its size from there on.
 ///
-/// No frame edge enters. For squares and 2:1 sizes up to 64 the answer is that of coding order, and the same as that of
-/// `has_bottom_left` for a transform as large as the block. For the 4:1 sizes it is rav1e's answer and may differ from
-/// both; for sizes with a side of 128 it is no.
+/// The frame's ends have no effect. For squares and 2:1 sizes up to 64 the result follows coding order, and equals the
+/// result of `has_bottom_left` for a transform as large as the block. For the 4:1 sizes it is rav1e's and may differ
+/// from both. For sizes with a side of 128 it is false.
 pub fn has_bl(bo: TileBlockOffset, bsize: BlockSize) -> bool
     ensures by_bits { result ≡ bits_bottom_left bsize bo.0.x bo.0.y }
     ensures by_order { IsNearSquare bsize → result ≡ bottom_left_earlier bsize bo.0.x bo.0.y }

@@ -1,4 +1,4 @@
-//! Laws of coding order and of the tables, each a function that does nothing and ensures it.
+//! Theorems about coding order and the tables. Each function does nothing: its contract is the theorem.
 
 ghost use Rattle.std.specs.Prelude.{◌≡◌, ℕ, ◌<◌, ◌*◌, ◌^◌, ◌%◌};
 ghost use Rattle.av1_blocks.specs.declared.partition.BlockSize.{BlockSize};
@@ -15,13 +15,13 @@ ghost use Rattle.av1_avail.specs.Stripes.{
 };
 ghost use Rattle.av1_avail.specs.Tables.{block_bit, top_right_table, bottom_left_table};
 
-/// A law: the quarters of an aligned square, with sides of 1 to 8 cells, are coded one after another.
+/// The quarters of an aligned square, with sides of 1 to 8 cells, are coded one after another.
 pub fn quarters_are_in_turn()
     ensures { (k nx ny : ℕ) → k < 4 → nx % (2 * 2 ^ k) ≡ 0 → ny % (2 * 2 ^ k) ≡ 0 → AreInTurn (2 ^ k) nx ny }
 {}
 
-/// A law: the lists of the 4:1 sizes follow from the lists of the squares of their greater sides, whose stripes they
-/// are. In the first column of the raster nothing is asked below left of a flat stripe.
+/// The lists of the 4:1 sizes follow from the lists of the squares of their greater sides, whose stripes they are. In
+/// the first column of the raster nothing is said of the samples below left of a flat stripe.
 pub fn stripes_follow_squares()
     ensures upright_top_right { (b square : BlockSize) (row column : ℕ) → IsUpright b square → IsInRaster b row column →
         block_bit (top_right_table b) b row column ≡ upright_top_right square row column }
@@ -33,8 +33,8 @@ pub fn stripes_follow_squares()
         block_bit (bottom_left_table b) b row column ≡ flat_bottom_left square row column }
 {}
 
-/// A law: for each transform that tiles a block with sides up to 64, in a plane halved or not, the tables answer what
-/// coding order says of every unit of the run above right of it, and of the one below left of it.
+/// For each transform that tiles a block with sides up to 64, in a plane halved or not, the tables say what coding
+/// order says for every unit of the run above right of it, and of the run below left of it.
 pub fn tables_follow_order()
     ensures { TablesFollowOrder }
 {}

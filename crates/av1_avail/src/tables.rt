@@ -145,7 +145,7 @@ static HAS_BL_16X64: [u8; 2] = [0, 0];
 
 static HAS_BL_64X16: [u8; 2] = [42, 42];
 
-/// Whether what lies above right is coded before a block, for the blocks of a size in raster order: bit `i % 8` of
+/// Whether the samples above right are coded before a block, for the blocks of a size in raster order: bit `i % 8` of
 /// entry `i / 8` belongs to block `i` of a raster 128 luma samples wide.
 #[inline]
 pub fn get_has_tr_table(bsize: BlockSize) -> &'static [u8]
@@ -177,8 +177,8 @@ pub fn get_has_tr_table(bsize: BlockSize) -> &'static [u8]
     }
 }
 
-/// Whether what lies below left is coded before a block, for the blocks of a size in raster order: bit `i % 8` of entry
-/// `i / 8` belongs to block `i` of a raster 128 luma samples wide.
+/// Whether the samples below left are coded before a block, for the blocks of a size in raster order: bit `i % 8` of
+/// entry `i / 8` belongs to block `i` of a raster 128 luma samples wide.
 #[inline]
 pub fn get_has_bl_table(bsize: BlockSize) -> &'static [u8]
     ensures { result.now ≡ bottom_left_table bsize }

@@ -1,5 +1,5 @@
--- The laws of the product order of sizes: it is a partial order, and sizes that it calls equal are one. The
--- implementation of `PartialOrd` states them, and can cite `specs/` alone.
+-- The laws of the product order of sizes: it is a partial order, and sizes that it calls equal are the same. The
+-- implementation of `PartialOrd` states them, and can cite only `specs/`.
 use Rattle.std.specs.Prelude.{◌≡◌, ◌==◌, ◌&&◌, ◌<◌, ℕ, false, List, [], ◌∷◌, find, unwrap_or, Some, refl}
 use mathlib.Core.Path.{sym, ap, ◌∙◌, subst}
 use mathlib.Core.Bool.{true≢false}
@@ -33,7 +33,7 @@ unfolding of_sides sizes
 of_sides-own BLOCK_4X4 = refl
 of_sides-own _ = refl
 
--- Sizes of the same sides are one.
+-- Sizes with the same sides are the same.
 pub same_sides : (a b : BlockSize) → block_width a ≡ block_width b → block_height a ≡ block_height b → a ≡ b
 same_sides a b w h =
     sym (of_sides-own a) ∙ ap (λ n. of_sides n (block_height a)) w ∙ ap (of_sides (block_width b)) h ∙ of_sides-own b
@@ -56,7 +56,7 @@ product_cmp-reversed a b =
     (nat_cmp_total.antisymm (block_height a) (block_height b))
     ∙ both_sides-reversed (nat_cmp (block_width b) (block_width a)) (nat_cmp (block_height b) (block_height a))
 
--- No side is greater where the block is less.
+-- If a block is less, none of its sides is greater.
 no_greater : (p q : Ordering) → both_sides p q ≡ Some Less → (is_gt p ≡ false) × (is_gt q ≡ false)
 no_greater Less Less e = (refl, refl)
 no_greater Less Equal e = (refl, refl)
@@ -91,7 +91,7 @@ both_equal Greater Greater e = absurd (true≢false (ap (λ o. is_gt (unwrap_or 
 nat_cmp-equal : (m n : ℕ) → nat_cmp m n ≡ Equal → m ≡ n
 nat_cmp-equal m n e = subst (λ r. MatchOrdering r (m < n) (m ≡ n) (n < m)) e (ranks m n)
 
--- Sizes that compare as equal are one.
+-- Sizes that compare as equal are the same.
 pub product_cmp-equal : (a b : BlockSize) → product_cmp a b ≡ Some Equal → a ≡ b
 product_cmp-equal a b e =
     let both = both_equal (nat_cmp (block_width a) (block_width b)) (nat_cmp (block_height a) (block_height b)) e in

@@ -103,11 +103,11 @@ HasBlockSides width height = (b : BlockSize) × (block_width b ≡ width) × (bl
 abbrev pub is_square : BlockSize → Bool
 is_square b = block_width b == block_height b
 
--- A transform may be a rectangle: the block is no square, and no side is 128.
+-- A transform may be a rectangle: the block isn't square, and no side is 128.
 abbrev pub is_rect_tx_allowed : BlockSize → Bool
 is_rect_tx_allowed b = not (is_square b) && nat_lt (max (block_width b) (block_height b)) 128
 
--- How two blocks compare whose widths and heights compare so: not at all where one side is greater and the other less.
+-- The order of two blocks whose widths and heights have this order: none if one side is greater and the other less.
 abbrev pub both_sides : (width height : Ordering) → Option Ordering
 both_sides Equal height = Some height
 both_sides Less Less = Some Less
@@ -126,7 +126,7 @@ pub record IsNoGreater (a b : BlockSize) : Type 0 where
   pub width : block_width a ≤ block_width b
   pub height : block_height a ≤ block_height b
 
--- The first is wider, and lower.
+-- The first block is wider and lower.
 pub record IsWiderAndLower (a b : BlockSize) : Type 0 where
   pub width : block_width b < block_width a
   pub height : block_height a < block_height b

@@ -1,4 +1,4 @@
--- The block and the transform of a plane that is decimated.
+-- The block and the transform of a decimated plane.
 use Rattle.std.specs.Prelude.{◌≡◌, ℕ, ◌==◌, ◌&&◌, ◌/◌, ◌^◌, max, not, Bool, if◌then◌else◌, Result, Ok, Err}
 use Rattle.av1_blocks.specs.declared.partition.BlockSize.{BlockSize}
 use Rattle.av1_blocks.specs.declared.partition.BlockSize.TheVariants.{BLOCK_4X4, BLOCK_4X8, BLOCK_8X4, BLOCK_8X8}
@@ -14,7 +14,7 @@ use Rattle.std.specs.Result.{result_unwrap_or}
 use Rattle.av1_blocks.specs.Blocks.{block_width, block_height}
 use Rattle.av1_blocks.specs.Transforms.{block_tx_size, coded_tx_size}
 
--- The block with half the columns, at least 4: none where it is taller than wide.
+-- The block with half the columns, at least 4; none if the block is taller than wide.
 abbrev pub halved_columns : BlockSize → Result BlockSize InvalidBlockSize
 halved_columns BLOCK_4X4 = Ok BLOCK_4X4
 halved_columns BLOCK_8X4 = Ok BLOCK_4X4
@@ -73,7 +73,7 @@ pub record IsSubsampled (block : BlockSize) (xdec ydec : ℕ) (plane_block : Blo
   pub width : block_width plane_block ≡ plane_side (block_width block) xdec
   pub height : block_height plane_block ≡ plane_side (block_height block) ydec
 
--- The size of the chroma transforms of a block: the greatest of the plane's block, as it is coded.
+-- The size of the chroma transforms of a block: the greatest that fits the plane's block, as it is coded.
 abbrev pub largest_chroma_tx_size : BlockSize → (xdec ydec : ℕ) → TxSize
 largest_chroma_tx_size b xdec ydec = coded_tx_size (block_tx_size (result_unwrap_or (subsampled_size b xdec ydec) b))
 
@@ -85,21 +85,21 @@ is_narrow b xdec = not (xdec == 0) && block_width b == 4
 abbrev pub is_low : BlockSize → (ydec : ℕ) → Bool
 is_low b ydec = not (ydec == 0) && block_height b == 4
 
--- The block with twice the columns, where it has 4.
+-- The block with twice the columns, if it has 4 luma samples of them.
 abbrev pub widened : BlockSize → BlockSize
 widened BLOCK_4X4 = BLOCK_8X4
 widened BLOCK_4X8 = BLOCK_8X8
 widened BLOCK_4X16 = BLOCK_8X16
 widened b = b
 
--- The block with twice the rows, where it has 4.
+-- The block with twice the rows, if it has 4 luma samples of them.
 abbrev pub heightened : BlockSize → BlockSize
 heightened BLOCK_4X4 = BLOCK_4X8
 heightened BLOCK_8X4 = BLOCK_8X8
 heightened BLOCK_16X4 = BLOCK_16X8
 heightened b = b
 
--- The block that chroma of a block with a side of 4 belongs to: 8 samples or more in each decimated direction.
+-- The luma block to which the chroma of a block belongs: at least 8 samples in each decimated direction.
 abbrev pub supersample_chroma_bsize : BlockSize → (ss_x ss_y : ℕ) → BlockSize
 supersample_chroma_bsize b ss_x ss_y =
     let wide = if ss_x == 0 then b else widened b in

@@ -78,7 +78,7 @@ abbrev pub is_cfl : PredictionMode → Bool
 is_cfl UV_CFL_PRED = true
 is_cfl _ = false
 
--- The modes with a vector of a near neighbour, told apart by its place in the list of candidates.
+-- The modes with a vector of a near neighbour, which its place in the list of candidates tells apart.
 abbrev pub has_nearmv : PredictionMode → Bool
 has_nearmv NEAR0MV = true
 has_nearmv NEAR1MV = true
@@ -121,7 +121,7 @@ abbrev pub tried_intra_modes : List PredictionMode
 tried_intra_modes = DC_PRED ∷ H_PRED ∷ V_PRED ∷ SMOOTH_PRED ∷ SMOOTH_H_PRED ∷ SMOOTH_V_PRED ∷ PAETH_PRED ∷ D45_PRED ∷
     D135_PRED ∷ D113_PRED ∷ D157_PRED ∷ D203_PRED ∷ D67_PRED ∷ []
 
--- The inter mode that is tried where one alone is.
+-- The inter mode that is tried if only one is.
 abbrev pub tried_inter_modes : List PredictionMode
 tried_inter_modes = NEARESTMV ∷ []
 

@@ -1,4 +1,4 @@
--- How a partition cuts a block.
+-- The parts into which a partition cuts a block.
 use Rattle.std.specs.Prelude.{◌≡◌, ℕ, ◌*◌, List, [], ◌∷◌, Result, Ok, Err}
 use Rattle.av1_blocks.specs.declared.partition.BlockSize.{BlockSize}
 use Rattle.av1_blocks.specs.declared.partition.BlockSize.TheVariants.{BLOCK_4X4, BLOCK_4X8, BLOCK_8X4, BLOCK_8X8}
@@ -59,7 +59,7 @@ left_stripe BLOCK_32X32 = Ok BLOCK_8X32
 left_stripe BLOCK_64X64 = Ok BLOCK_16X64
 left_stripe _ = Err (record {})
 
--- The size of a partition's parts; where A or B cuts one half once more, that of the halves.
+-- The size of a partition's parts; if A or B cuts one half once more, the size of the halves.
 abbrev pub subsize : BlockSize → PartitionType → Result BlockSize InvalidBlockSize
 subsize b PARTITION_NONE = Ok b
 subsize b PARTITION_HORZ = upper_half b
@@ -73,7 +73,7 @@ subsize b PARTITION_HORZ_4 = top_stripe b
 subsize b PARTITION_VERT_4 = left_stripe b
 subsize b PARTITION_INVALID = Err (record {})
 
--- How many parts stand side by side.
+-- The number of parts side by side.
 abbrev pub parts_across : PartitionType → ℕ
 parts_across PARTITION_VERT = 2
 parts_across PARTITION_SPLIT = 2
@@ -82,7 +82,7 @@ parts_across PARTITION_VERT_B = 2
 parts_across PARTITION_VERT_4 = 4
 parts_across _ = 1
 
--- How many parts stand above one another.
+-- The number of parts above one another.
 abbrev pub parts_down : PartitionType → ℕ
 parts_down PARTITION_HORZ = 2
 parts_down PARTITION_SPLIT = 2
@@ -91,7 +91,7 @@ parts_down PARTITION_HORZ_B = 2
 parts_down PARTITION_HORZ_4 = 4
 parts_down _ = 1
 
--- Copies of the part, as many side by side and above one another as the partition has, cover the block and no more.
+-- Copies of the part, as many as the partition has side by side and above one another, cover exactly the block.
 pub record Tiles (block : BlockSize) (partition : PartitionType) (part : BlockSize) : Type 0 where
   pub across : block_width part * parts_across partition ≡ block_width block
   pub down : block_height part * parts_down partition ≡ block_height block

@@ -138,7 +138,7 @@ tx_sqr_up TX_32X8 = TX_32X32
 tx_sqr_up TX_16X64 = TX_64X64
 tx_sqr_up TX_64X16 = TX_64X64
 
--- The greatest transform of a block: of its own sides, or 64x64 where a side is 128.
+-- The greatest transform of a block: with the block's sides, or 64x64 if a side is 128.
 abbrev pub block_tx_size : BlockSize → TxSize
 block_tx_size BLOCK_4X4 = TX_4X4
 block_tx_size BLOCK_4X8 = TX_4X8
@@ -194,11 +194,11 @@ coded_tx_size TX_16X64 = TX_16X32
 coded_tx_size TX_64X16 = TX_32X16
 coded_tx_size t = t
 
--- How many of n rows or columns of a transform have coefficients.
+-- The number of rows or columns with coefficients, of n rows or columns of a transform.
 abbrev pub coded : ℕ → ℕ
 coded n = min n 32
 
--- How many coefficients a transform has: those of its first 32 columns and rows.
+-- The number of coefficients of a transform: those of its first 32 columns and rows.
 abbrev pub coded_area : TxSize → ℕ
 coded_area size = coded (tx_width size) * coded (tx_height size)
 
@@ -232,8 +232,8 @@ abbrev pub is_identity : TxType → Bool
 is_identity IDTX = true
 is_identity _ = false
 
--- Whether the type may be used at the size: DCT_DCT alone where the longer side is 64, that and IDTX where it is 32,
--- and every type where it is shorter.
+-- Whether the type may be used at the size: only DCT_DCT if the longer side is 64, also IDTX if it is 32, and every
+-- type if it is shorter.
 abbrev pub valid_av1_transform : TxSize → TxType → Bool
 valid_av1_transform size type =
     let side = max (tx_width size) (tx_height size) in

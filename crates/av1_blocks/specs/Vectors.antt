@@ -1,4 +1,4 @@
--- What is done to motion vectors, component by component. Components are eighths of a sample, in numbers of 16 bits.
+-- Operations on motion vectors, component by component. Components are eighths of a sample, in numbers of 16 bits.
 use Rattle.std.specs.Prelude.{◌≡◌, ℕ, ◌≤◌, ℤ, pos, ◌+ℤ◌, ◌*ℤ◌, int_lt, nat_abs, int_div, int_rem, Bool, ◌&&◌}
 use Rattle.std.specs.Prelude.{FitsSigned}
 use Rattle.std.specs.Int.{w16, int_shr}
@@ -43,6 +43,6 @@ pub record IsNoLonger (v w : MotionVector) : Type 0 where
 unfoldable pub is_valid_component : ℤ → Bool
 is_valid_component z = int_lt MV_LOW z && int_lt z MV_UPP
 
--- Both components are: the vectors that a bitstream may hold.
+-- Both components lie between these bounds: the vectors that a bitstream may hold.
 unfoldable pub is_valid_vector : MotionVector → Bool
 is_valid_vector v = is_valid_component v.row && is_valid_component v.col

@@ -16,7 +16,7 @@ pub struct MotionVector {
     pub col: i16,
 }
 
-/// Which family of interpolation filters motion compensation uses.
+/// The family of interpolation filters that motion compensation uses.
 #[derive(Copy, Clone, Debug, PartialEq, Eq, PartialOrd)]
 pub enum FilterMode {
     REGULAR,

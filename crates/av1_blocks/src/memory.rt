@@ -1,11 +1,11 @@
-//! The answer of calls that were refused memory.
+//! The error of calls that run out of memory.
 #![tactic(auto)]
 
 ghost use Rattle.std.specs.Prelude.{◌≡◌};
 
 use std::alloc::{AllocError, AllocFailed};
 
-/// An allocation was refused. It is the only error of the calls that answer it.
+/// Memory ran out. It is the only error of the calls that return it.
 #[derive(Copy, Clone, Debug, PartialEq, Eq)]
 pub struct OutOfMemory;
 

@@ -9,7 +9,7 @@ use crate::predict::{
 };
 use crate::transform::TxSet;
 
-/// The variant of this number among all, which stand in the order of their numbers.
+/// The variant of this number among all variants, which are in the order of their numbers.
 #[inline]
 pub(crate) fn variant_of<T: Copy>(all: &[T], number: u8) -> Option<T>
     ensures { result ≡ slice_get all.now number }

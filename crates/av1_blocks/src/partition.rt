@@ -208,7 +208,7 @@ impl BlockSize {
     /// The number of sizes.
     pub const BLOCK_SIZES_ALL: usize = 22;
 
-    /// The number of sizes without the six whose one side is four times the other.
+    /// The number of sizes, without the six with one side four times the other.
     pub const BLOCK_SIZES: usize = BlockSize::BLOCK_SIZES_ALL - 6;
 
     /// Every size, in the order of their numbers.
@@ -238,11 +238,11 @@ impl BlockSize {
     ];
 }
 
-/// No block has the sides that were asked for.
+/// No block has these sides.
 #[derive(Copy, Clone, Debug, PartialEq, Eq)]
 pub struct InvalidBlockSize;
 
-/// How a whole frame moves against its reference.
+/// How a whole frame moves relative to its reference.
 #[derive(Copy, Clone, Debug, PartialEq, Eq, PartialOrd)]
 pub enum GlobalMVMode {
     /// Not at all.
@@ -255,7 +255,7 @@ pub enum GlobalMVMode {
     AFFINE,
 }
 
-/// How finely motion vectors are coded.
+/// The precision with which motion vectors are coded.
 #[derive(Copy, Clone, Debug, PartialEq, Eq, PartialOrd)]
 pub enum MvSubpelPrecision {
     /// Whole samples.

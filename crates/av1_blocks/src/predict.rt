@@ -11,9 +11,8 @@ pub const ANGLE_STEP: i8 = 3;
 /// The number of prediction modes.
 pub const PREDICTION_MODES: usize = 34;
 
-/// How the samples of a block are predicted. The first thirteen modes and `UV_CFL_PRED`, which is
-/// for chroma alone, are intra; those from `NEARESTMV` on take one reference, and those from
-/// `NEAREST_NEARESTMV` on take two.
+/// How the samples of a block are predicted. The first thirteen modes and `UV_CFL_PRED`, which is only for chroma, are
+/// intra. The modes from `NEARESTMV` on have one reference, and those from `NEAREST_NEARESTMV` on have two.
 #[derive(Copy, Clone, Debug, PartialEq, Eq, PartialOrd, Ord, Default)]
 pub enum PredictionMode {
     #[default]
@@ -110,7 +109,7 @@ pub const RAV1E_INTRA_MODES: [PredictionMode; 13] = [
     PredictionMode::D67_PRED,
 ];
 
-/// The inter mode that rav1e tries where it tries one alone.
+/// The inter mode that rav1e tries if it tries only one.
 pub const RAV1E_INTER_MODES_MINIMAL: [PredictionMode; 1] = [PredictionMode::NEARESTMV];
 
 /// The modes with two references in the order in which rav1e tries them.
@@ -153,7 +152,7 @@ pub enum MotionMode {
     MOTION_MODES,
 }
 
-/// How many colors a palette has; the last variant is the number of sizes.
+/// The number of colors of a palette; the last variant is the number of sizes.
 #[derive(Copy, Clone, Debug, PartialEq, Eq, PartialOrd)]
 pub enum PaletteSize {
     TWO_COLORS,
@@ -191,18 +190,18 @@ pub enum FilterIntraMode {
     FILTER_INTRA_MODES,
 }
 
-/// What an intra mode takes beside its name.
+/// The parameter of an intra mode.
 #[derive(Copy, Clone, Debug)]
 pub enum IntraParam {
-    /// The steps of `ANGLE_STEP` degrees that a directional mode turns.
+    /// The angle delta of a directional mode, in steps of `ANGLE_STEP` degrees.
     AngleDelta(i8),
     /// The weight of luma in chroma from luma, in eighths.
     Alpha(i16),
-    /// Nothing.
+    /// No parameter.
     None,
 }
 
-/// The steps that the directional modes of a block turn, in luma and in chroma.
+/// The angle deltas of the directional modes of a block, in luma and in chroma.
 #[derive(Copy, Clone, Debug, Default)]
 pub struct AngleDelta {
     /// The steps in luma.

@@ -22,9 +22,8 @@ pub const TX_TYPES: usize = 16;
 /// The number of transform types, the lossless `WHT_WHT` included.
 pub const TX_TYPES_PLUS_LL: usize = 17;
 
-/// Which one-dimensional transforms make a block of residue: of a name `A_B`, A down the columns
-/// and B along the rows. `IDTX` only scales both, `V_` only the rows and `H_` only the columns, and
-/// `WHT_WHT` is the lossless one.
+/// The one-dimensional transforms of a block of residuals: in a name `A_B`, A runs down the columns and B along the
+/// rows. `IDTX` only scales both, `V_` only the rows and `H_` only the columns, and `WHT_WHT` is lossless.
 #[derive(Copy, Clone, Debug, PartialEq, Eq, PartialOrd, Ord)]
 pub enum TxType {
     DCT_DCT,
@@ -138,16 +137,16 @@ impl TxSize {
 /// The sets of transform types that a bitstream chooses from.
 #[derive(Copy, Clone, PartialEq, Eq, PartialOrd)]
 pub enum TxSet {
-    /// `DCT_DCT` alone.
+    /// Only `DCT_DCT`.
     TX_SET_DCTONLY,
     /// `DCT_DCT` and `IDTX`.
     TX_SET_INTER_3,
     /// Cosines and sines without a flip, and `IDTX`.
     TX_SET_INTRA_2,
-    /// Those of `TX_SET_INTRA_2`, `V_DCT` and `H_DCT`.
+    /// The types of `TX_SET_INTRA_2`, `V_DCT` and `H_DCT`.
     TX_SET_INTRA_1,
     /// Cosines, sines and flipped sines, `IDTX`, `V_DCT` and `H_DCT`.
     TX_SET_INTER_2,
-    /// Every type but `WHT_WHT`.
+    /// Every type except `WHT_WHT`.
     TX_SET_INTER_1,
 }

@@ -20,10 +20,10 @@ pub record FitsBits (b : ℕ) (z : ℤ) : Type 0 where
   pub low : neg_ℤ (pos (2 ^ (b - 1))) ≤ℤ z
   pub high : z <ℤ pos (2 ^ (b - 1))
 
--- place i of a list, and 0 past its end
+-- entry i of a list, and 0 past its end
 abbrev pub at : List ℤ → ℕ → ℤ
 at v i = slice_index_or v i (pos 0)
 
--- each place of the list is a number of b signed bits
+-- each entry of the list is a number of b signed bits
 abbrev pub AllFit : ℕ → List ℤ → Type 0
 AllFit b zs = (i : ℕ) → FitsBits b (at zs i)

@@ -1,4 +1,4 @@
--- The columns of a block that stands row by row.
+-- The columns of a block that is stored row by row.
 use Rattle.std.specs.Prelude.{ℕ, ◌+◌, ◌*◌, ℤ, List}
 use Rattle.av1_lists.specs.Lists.{by_index}
 use Rattle.av1_dct.specs.Arithmetic.{at}

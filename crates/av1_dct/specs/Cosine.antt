@@ -19,7 +19,7 @@ cos128_lookup =
 unfoldable pub cos128 : ℕ → ℤ
 cos128 a = at cos128_lookup a
 
--- the lowest k bits of p, in the other order
+-- the lowest k bits of p, in reverse order
 unfoldable pub brev : ℕ → ℕ → ℕ
 brev zero p = 0
 brev (suc k) p = 2 * brev k (p % 2 ^ k) + p / 2 ^ k
@@ -38,8 +38,8 @@ outer_turn_with ops k v i =
 abbrev pub outer_turn : ℕ → List ℤ → ℕ → ℤ
 outer_turn = outer_turn_with wrapping
 
--- Hadamard rotations, on 2m values: place i and its mirror image become their clamped sum and difference, where odd the
--- other way round.
+-- Hadamard rotations, on 2m values: place i and its mirror image become their clamped sum and difference; if `odd`, the
+-- difference and the sum.
 unfoldable pub mirror_sum_with : Operations → ℕ → Bool → ℕ → List ℤ → ℕ → ℤ
 mirror_sum_with ops range odd m w i =
     let e = 2 * m - 1 - i in
@@ -50,7 +50,7 @@ mirror_sum_with ops range odd m w i =
 abbrev pub mirror_sum : ℕ → Bool → ℕ → List ℤ → ℕ → ℤ
 mirror_sum = mirror_sum_with wrapping
 
--- Step 2: these in each group of 2h places, in each second group the other way round.
+-- Step 2: Hadamard rotations in each group of 2h places; in each second group with `odd`.
 unfoldable pub group_sum_with : Operations → ℕ → ℕ → List ℤ → ℕ → ℤ
 group_sum_with ops range h v i =
     let g = i / (2 * h) in
@@ -81,7 +81,7 @@ inner_turn_with ops k j v i =
 abbrev pub inner_turn : ℕ → ℕ → List ℤ → ℕ → ℤ
 inner_turn = inner_turn_with wrapping
 
--- Steps 2 and 3 in turn, for groups of 2, 4, .. places, the first c sizes.
+-- Steps 2 and 3 one after the other, for groups of 2, 4, .. places: the first c sizes.
 unfoldable pub rounds_with : Operations → ℕ → ℕ → ℕ → List ℤ → List ℤ
 rounds_with ops range k zero v = v
 rounds_with ops range k (suc c) v =
@@ -92,7 +92,8 @@ rounds_with ops range k (suc c) v =
 abbrev pub rounds : ℕ → ℕ → ℕ → List ℤ → List ℤ
 rounds = rounds_with wrapping
 
--- What becomes of the 2^(k+1) odd inputs: put into the order of their reversed places, then steps 1 to 3.
+-- The 2^(k+1) odd inputs after their part of the transform: put into the order of their reversed places, then steps 1
+-- to 3.
 unfoldable pub odd_half_with : Operations → ℕ → ℕ → List ℤ → List ℤ
 odd_half_with ops range k y =
     let m = 2 ^ suc k in
@@ -109,8 +110,8 @@ evens m x = by_index m (λ i. at x (2 * i))
 abbrev pub odds : ℕ → List ℤ → List ℤ
 odds m x = by_index m (λ i. at x (2 * i + 1))
 
--- The inverse cosine transform of 2^(k+1) values: that of the even inputs and what becomes of the odd ones, added and
--- subtracted (step 4).
+-- The inverse cosine transform of 2^(k+1) values: the transform of the even inputs and the result of the odd ones,
+-- added and subtracted (step 4).
 unfoldable pub cosine_with : Operations → ℕ → ℕ → List ℤ → List ℤ
 cosine_with ops range zero x =
     half_btf_with ops (cos128 32) (at x 0) (cos128 32) (at x 1) ∷

@@ -1,4 +1,4 @@
--- What single functions of the crate do in place; no public contract cites this file.
+-- What single functions of the crate do in place. No public contract cites this file.
 use Rattle.std.specs.Prelude.{ℕ, zero, suc, ◌+◌, ◌-◌, ◌*◌, ◌/◌, ◌%◌, ◌^◌, nat_lt, min, if◌then◌else◌, Bool, false, ℤ}
 use Rattle.std.specs.Prelude.{neg_ℤ, ◌+ℤ◌, ◌-ℤ◌, List, [], ◌∷◌, ◌++◌, set, take, drop}
 use Rattle.av1_dct.specs.Arithmetic.{at, clamp_value}
@@ -15,7 +15,7 @@ joined range k w =
     by_index (2 * m)
     (mirror_sum range false m (take m w ++ rounds range k (k - 1) (by_index m (outer_turn k (drop m w)))))
 
--- The inverse cosine transform of 2^(k+1) values that stand in the order of their reversed places: even inputs first.
+-- The inverse cosine transform of 2^(k+1) values that are in the order of their reversed places: even inputs first.
 unfoldable pub network : ℕ → ℕ → List ℤ → List ℤ
 network range zero w =
     half_btf (cos128 32) (at w 0) (cos128 32) (at w 1) ∷ half_btf (cos128 32) (at w 0) (neg_ℤ (cos128 32)) (at w 1) ∷ []
@@ -24,13 +24,13 @@ network range (suc k) w =
     let odd = rounds range (suc k) k (by_index m (outer_turn (suc k) (drop m w))) in
     by_index (2 * m) (mirror_sum range false m (network range k (take m w) ++ odd))
 
--- ---- rotations and the sums behind them in one step
+-- ---- rotations and the sums after them in one step
 
--- the sums of groups of 2h places behind the rounds before them, where h = 2^c
+-- the sums of groups of 2h places after the rounds before them; h = 2^c
 abbrev pub sums : (range k c : ℕ) → List ℤ → List ℤ
 sums range k c u = by_index (2 ^ k) (group_sum range (2 ^ c) (rounds range k c u))
 
--- the places p and e become the clamped sum and difference of two values, where odd the other way round
+-- the places p and e become the clamped sum and difference of two values; if `odd`, the difference and the sum
 abbrev pub paired : Bool → (range p e : ℕ) → (x y : ℤ) → List ℤ → List ℤ
 paired odd range p e x y v =
     set (set v p (if odd then clamp_value (y -ℤ x) range else clamp_value (x +ℤ y) range)) e
@@ -40,7 +40,7 @@ paired odd range p e x y v =
 abbrev pub begin_all : (range k : ℕ) → List ℤ → List ℤ
 begin_all range k u = by_index (2 ^ k) (group_sum range 1 (by_index (2 ^ k) (outer_turn k u)))
 
--- the same at the first and the last 2n places alone
+-- the same only at the first and the last 2n places
 abbrev pub begun_at : (range k n : ℕ) → List ℤ → ℕ → ℤ
 begun_at range k n u i =
     let m = 2 ^ k in
@@ -49,7 +49,7 @@ begun_at range k n u i =
 unfoldable pub begun : (range k n : ℕ) → List ℤ → List ℤ
 begun range k n u = by_index (2 ^ k) (begun_at range k n u)
 
--- round j's rotations and the sums of groups of 4h places behind them, where h = 2^j: all of 2^k places
+-- round j's rotations and the sums of groups of 4h places after them, for h = 2^j: all of 2^k places
 abbrev pub round_all : (range k j : ℕ) → List ℤ → List ℤ
 round_all range k j s = by_index (2 ^ k) (group_sum range (2 * 2 ^ j) (by_index (2 ^ k) (inner_turn k j s)))
 
@@ -88,6 +88,6 @@ ended range k n w = by_index (2 * 2 ^ k) (ended_at range k n w)
 
 -- ---- narrow lanes
 
--- what comes to place p, in the order of reversed places, where 2^(k+1) values are cut to 16 bits
+-- the value that comes to place p, in the order of reversed places, if 2^(k+1) values are cut to 16 bits
 abbrev pub cut_place : ℕ → List ℤ → ℕ → ℤ
 cut_place k x p = clamp_value (at x (brev (suc k) p)) 16

@@ -1,21 +1,21 @@
--- The arithmetic that the one-dimensional transforms are defined over.
+-- The arithmetic of the one-dimensional transforms.
 use Rattle.std.specs.Prelude.{◌≡◌, ℤ, pos, ◌+ℤ◌, ◌-ℤ◌, ◌*ℤ◌}
 use Rattle.std.specs.Int.RustNames.{FitsSigned}
 use Rattle.std.specs.Int.{int_shr, w32}
 use Rattle.av1_dct.specs.Arithmetic.{round12}
 
--- what the transforms compute with
+-- the operations that the transforms compute with
 pub record Operations : Type 0 where
   pub plus : ℤ → ℤ → ℤ
   pub minus : ℤ → ℤ → ℤ
   pub times : ℤ → ℤ → ℤ
   pub round : ℤ → ℤ
 
--- whole numbers, wrapped at 32 bits where a sum of products is rounded: what the transforms are defined by
+-- whole numbers, wrapped at 32 bits when a sum of products is rounded: the transforms are defined by these
 abbrev pub wrapping : Operations
 wrapping = record { plus = λ x y. x +ℤ y; minus = λ x y. x -ℤ y; times = λ x y. x *ℤ y; round = round12 }
 
--- Each operation gives the whole number where that fits 32 signed bits. Where it does not, it may give any number.
+-- Each operation gives the whole number if it fits 32 signed bits. If not, it may give any number.
 pub record AreRight32 (ops : Operations) : Type 0 where
   pub plus : (x y : ℤ) → FitsSigned w32 (x +ℤ y) → ops.plus x y ≡ x +ℤ y
   pub minus : (x y : ℤ) → FitsSigned w32 (x -ℤ y) → ops.minus x y ≡ x -ℤ y

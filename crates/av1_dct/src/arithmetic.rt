@@ -8,8 +8,8 @@ ghost use Rattle.av1_dct.specs.Operations.{half_btf};
 const INV_COS_BIT: usize = 12;
 
 /// One half of a butterfly rotation (the AV1 specification's butterfly functions): `w0 * in0 + w1 * in1`, whose weights
-/// have `bit` fractional bits, rounded to a whole number, a half upward. The sum wraps at 32 bits, as it does in rav1e:
-/// on valid streams of 12-bit samples it may, and the outputs then are those of the wrapped sum.
+/// have `bit` fractional bits, rounded to a whole number, a half upward. The sum wraps at 32 bits, as in rav1e. In
+/// valid streams of 12-bit samples it may wrap; the outputs then follow from the wrapped sum.
 #[inline(always)]
 pub fn half_btf(w0: i32, in0: i32, w1: i32, in1: i32, bit: usize) -> i32
     requires { bit ≡ 12 }

@@ -1,4 +1,4 @@
-//! What a cosine transform asks of lanes: butterfly rotations and Hadamard rotations.
+//! The operations on lanes that a cosine transform needs: butterfly rotations and Hadamard rotations.
 
 ghost use Rattle.std.specs.Prelude.{◌≡◌, ℕ, ◌<◌, ◌≤◌, ℤ, ◌+ℤ◌, ◌-ℤ◌};
 ghost use Rattle.av1_dct.specs.Arithmetic.{FitsBits, clamp_value};
@@ -6,17 +6,17 @@ ghost use Rattle.av1_dct.specs.Operations.{half_btf};
 
 use crate::word::Word;
 
-/// Numbers side by side, the lanes, with the two steps that a cosine transform is made of: butterfly rotations and
-/// Hadamard rotations, in each lane. What a butterfly rotation gives may need more bits than a lane has; the Hadamard
-/// rotation behind it clamps.
+/// Numbers side by side, the lanes, with the two steps of a cosine transform: butterfly rotations and Hadamard
+/// rotations, in each lane. The result of a butterfly rotation may need more bits than a lane has. The Hadamard
+/// rotation after it clamps.
 pub(crate) trait Butterfly: Copy {
-    /// What a butterfly rotation gives: as many lanes, which are wide enough for it.
+    /// The result of a butterfly rotation: as many lanes, which are wide enough for it.
     type Wide: Copy;
 
-    // how many lanes there are
+    // the number of lanes
     ghost LANES: { ℕ };
 
-    // how many bits a lane has, its sign among them
+    // the number of bits of a lane, including its sign
     ghost bits: { ℕ };
 
     // the number in each lane
@@ -48,7 +48,7 @@ pub(crate) trait Butterfly: Copy {
         requires second { (i : ℕ) → i < LANES → FitsBits 20 (wide_lane_of y i) }
         ensures { (i : ℕ) → i < LANES → lane_of result i ≡ clamp_value (wide_lane_of x i -ℤ wide_lane_of y i) range };
 
-    /// The clamped sum of two that no rotation has made.
+    /// The clamped sum of two lanes that no rotation has made.
     fn own_sum(self, o: Self, range: usize) -> Self
         requires range_in { (8 ≤ range) × (range ≤ 20) }
         requires within { range ≤ bits }
@@ -56,7 +56,7 @@ pub(crate) trait Butterfly: Copy {
         requires second { (i : ℕ) → i < LANES → FitsBits 20 (lane_of o i) }
         ensures { (i : ℕ) → i < LANES → lane_of result i ≡ clamp_value (lane_of self i +ℤ lane_of o i) range };
 
-    /// The clamped difference of two that no rotation has made.
+    /// The clamped difference of two lanes that no rotation has made.
     fn own_difference(self, o: Self, range: usize) -> Self
         requires range_in { (8 ≤ range) × (range ≤ 20) }
         requires within { range ≤ bits }

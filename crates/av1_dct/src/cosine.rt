@@ -34,8 +34,8 @@ fn network_4<W: Butterfly>(w: &mut [W], range: usize)
     put(false, w, 1, 2, b, x, range);
 }
 
-// From the transform of the even inputs in the first half of 2^(K+1) words, and the odd inputs in the second, to that
-// of all. Each rotation goes together with the sums behind it, so that what it gives is not stored.
+// From the transform of the even inputs in the first half of 2^(K+1) words, and the odd inputs in the second, to the
+// transform of all. Each rotation is done together with the sums after it, so that its result is not stored.
 #[inline(always)]
 fn join_halves<W: Butterfly, const K: usize>(w: &mut [W], range: usize)
     requires range_in { (8 ≤ range) × (range ≤ 20) }
@@ -92,8 +92,8 @@ fn network_32<W: Butterfly>(w: &mut [W], range: usize)
     join_halves::<W, 4>(w, range);
 }
 
-// The last step of the transform of 64 words, as a function by itself: within the rest it takes a compiler longer, and
-// less of the whole stays in registers. A compiler puts it in line where one function alone calls it, as of one column.
+// The last step of the transform of 64 words, as a function of its own. Within the rest it takes a compiler longer, and
+// less of the whole stays in registers. A compiler inlines it if only one function calls it, as for one column.
 fn join_64<W: Butterfly>(w: &mut [W], range: usize)
     requires range_in { (8 ≤ range) × (range ≤ 20) }
     requires within { range ≤ W.bits }
@@ -117,8 +117,8 @@ fn network_64<W: Butterfly>(w: &mut [W], range: usize)
     join_64(w, range);
 }
 
-// The transform of 2^(K+1) words that stand in the order of their reversed places: the even inputs make the first half
-// of them. Each length has a function of its own, so that the compiler knows its angles and places as numbers.
+// The transform of 2^(K+1) words that are in the order of their reversed places: the even inputs are the first half.
+// Each length has a function of its own, so that the compiler knows its angles and places as numbers.
 #[inline(always)]
 pub(crate) fn run_network<W: Butterfly, const K: usize>(w: &mut [W], range: usize)
     requires range_in { (8 ≤ range) × (range ≤ 20) }
@@ -195,11 +195,11 @@ pub(crate) fn cosine_any<W: Butterfly>(n: usize, input: &[W], output: &mut [W], 
 }
 
 /// The inverse cosine transform of `n` words, in each lane (the inverse DCT process of the AV1 specification, lane by
-/// lane): the first n words of `output` become that of the first n words of `input`, and the rest of `output` stays.
-/// Here n is 2^(k+1). Sums are clamped to `range` signed bits.
+/// lane). The first n words of `output` become the transform of the first n words of `input`. The rest of `output` is
+/// unchanged. Here n is 2^(k+1). Sums are clamped to `range` signed bits.
 ///
-/// `_work` is room for a transform that does not run in place. This one does, within `output`, so that any length will
-/// do.
+/// `_work` is a buffer for a transform that does not run in place. This one runs in place, within `output`, so `_work`
+/// may have any length.
 #[inline(always)]
 pub fn cosine_words<W: Word>(n: usize, input: &[W], _work: &mut [W], output: &mut [W], range: usize)
     requires range_in { (8 ≤ range) × (range ≤ 20) }

@@ -7,9 +7,9 @@ ghost use Rattle.av1_dct.specs.Cosine.{cosine};
 
 use crate::cosine::cosine_words;
 
-/// The inverse cosine transform of 4 values (the inverse DCT process of the AV1 specification): the first 4 entries of
-/// `output` become that of the first 4 entries of `input`, and the rest of `output` stays. Sums are clamped to `range`
-/// signed bits.
+/// The inverse cosine transform of 4 values (the inverse DCT process of the AV1 specification). The first 4 entries of
+/// `output` become the transform of the first 4 entries of `input`. The rest of `output` is unchanged. Sums are clamped
+/// to `range` signed bits.
 pub fn av1_idct4(input: &[i32], output: &mut [i32], range: usize)
     requires range_in { (8 ≤ range) × (range ≤ 20) }
     requires input_len { 4 ≤ length input.now }
@@ -21,9 +21,9 @@ pub fn av1_idct4(input: &[i32], output: &mut [i32], range: usize)
     cosine_words(4, input, &mut [], output, range);
 }
 
-/// The inverse cosine transform of 8 values (the inverse DCT process of the AV1 specification): the first 8 entries of
-/// `output` become that of the first 8 entries of `input`, and the rest of `output` stays. Sums are clamped to `range`
-/// signed bits.
+/// The inverse cosine transform of 8 values (the inverse DCT process of the AV1 specification). The first 8 entries of
+/// `output` become the transform of the first 8 entries of `input`. The rest of `output` is unchanged. Sums are clamped
+/// to `range` signed bits.
 pub fn av1_idct8(input: &[i32], output: &mut [i32], range: usize)
     requires range_in { (8 ≤ range) × (range ≤ 20) }
     requires input_len { 8 ≤ length input.now }
@@ -35,9 +35,9 @@ pub fn av1_idct8(input: &[i32], output: &mut [i32], range: usize)
     cosine_words(8, input, &mut [], output, range);
 }
 
-/// The inverse cosine transform of 16 values (the inverse DCT process of the AV1 specification): the first 16 entries
-/// of `output` become that of the first 16 entries of `input`, and the rest of `output` stays. Sums are clamped to
-/// `range` signed bits.
+/// The inverse cosine transform of 16 values (the inverse DCT process of the AV1 specification). The first 16 entries
+/// of `output` become the transform of the first 16 entries of `input`. The rest of `output` is unchanged. Sums are
+/// clamped to `range` signed bits.
 pub fn av1_idct16(input: &[i32], output: &mut [i32], range: usize)
     requires range_in { (8 ≤ range) × (range ≤ 20) }
     requires input_len { 16 ≤ length input.now }
@@ -49,9 +49,9 @@ pub fn av1_idct16(input: &[i32], output: &mut [i32], range: usize)
     cosine_words(16, input, &mut [], output, range);
 }
 
-/// The inverse cosine transform of 32 values (the inverse DCT process of the AV1 specification): the first 32 entries
-/// of `output` become that of the first 32 entries of `input`, and the rest of `output` stays. Sums are clamped to
-/// `range` signed bits.
+/// The inverse cosine transform of 32 values (the inverse DCT process of the AV1 specification). The first 32 entries
+/// of `output` become the transform of the first 32 entries of `input`. The rest of `output` is unchanged. Sums are
+/// clamped to `range` signed bits.
 pub fn av1_idct32(input: &[i32], output: &mut [i32], range: usize)
     requires range_in { (8 ≤ range) × (range ≤ 20) }
     requires input_len { 32 ≤ length input.now }
@@ -63,9 +63,9 @@ pub fn av1_idct32(input: &[i32], output: &mut [i32], range: usize)
     cosine_words(32, input, &mut [], output, range);
 }
 
-/// The inverse cosine transform of 64 values (the inverse DCT process of the AV1 specification): the first 64 entries
-/// of `output` become that of the first 64 entries of `input`, and the rest of `output` stays. Sums are clamped to
-/// `range` signed bits.
+/// The inverse cosine transform of 64 values (the inverse DCT process of the AV1 specification). The first 64 entries
+/// of `output` become the transform of the first 64 entries of `input`. The rest of `output` is unchanged. Sums are
+/// clamped to `range` signed bits.
 pub fn av1_idct64(input: &[i32], output: &mut [i32], range: usize)
     requires range_in { (8 ≤ range) × (range ≤ 20) }
     requires input_len { 64 ≤ length input.now }

@@ -13,7 +13,8 @@ use crate::narrow::SHORT_BITS;
 use crate::narrow_lanes::cosine_short;
 use std::simd::prelude::*;
 
-/// How many groups of eight transforms were run with it. Only `cosine_lanes` raises it, and nothing sets it back.
+/// The number of groups of eight transforms that were run with it. Only `cosine_lanes` raises it, and nothing sets it
+/// back.
 #[derive(Drop)]
 pub struct LaneCount {
     groups: u64,
@@ -35,8 +36,8 @@ impl LaneCount {
     }
 }
 
-// Eight transforms of n values. Lanes of 16 bits serve where the range has as many; for 4 values they would not pay for
-// the cut.
+// Eight transforms of n values. Lanes of 16 bits are used if the range has 16; for 4 values the cut costs more than it
+// saves.
 #[inline(always)]
 fn cosine_eight(n: usize, input: &[i32x8], output: &mut [i32x8], range: usize)
     requires range_in { (8 ≤ range) × (range ≤ 20) }
@@ -58,8 +59,8 @@ fn cosine_eight(n: usize, input: &[i32x8], output: &mut [i32x8], range: usize)
 /// Eight inverse cosine transforms of `n` values at a time, one in each lane, as `cosine_words` over `i32x8`. It counts
 /// one group.
 ///
-/// `_work` is room for a transform that does not run in place. This one does, within `output`, so that any length will
-/// do.
+/// `_work` is a buffer for a transform that does not run in place. This one runs in place, within `output`, so `_work`
+/// may have any length.
 #[inline(always)]
 pub fn cosine_lanes(
     count: &mut LaneCount,

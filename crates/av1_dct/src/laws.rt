@@ -1,4 +1,4 @@
-//! Laws of the cosine transform, each a function that does nothing and ensures it.
+//! Theorems about the cosine transform. Each function does nothing: its contract is the theorem.
 
 ghost use Rattle.std.specs.Prelude.{◌≡◌, ℕ, suc, ◌-◌, ◌*◌, ◌^◌, ◌<◌, ◌≤◌, ℤ, pos, ◌+ℤ◌, ◌-ℤ◌, List, replicate};
 ghost use Rattle.std.specs.List.{All};
@@ -6,8 +6,8 @@ ghost use Rattle.av1_dct.specs.Arithmetic.{at, clamp_value, FitsBits};
 ghost use Rattle.av1_dct.specs.Operations.{Operations, AreRight32};
 ghost use Rattle.av1_dct.specs.Cosine.{evens, odds, odd_half, cosine, cosine_with};
 
-/// A law: outputs i and n - 1 - i of a transform of n values are the clamped sum and difference of output i of the
-/// transform of the n / 2 even inputs, and of one value that only the odd inputs decide. Here n is 2^(k+2).
+/// Outputs i and n - 1 - i of a transform of n values are a clamped sum and difference: of output i of the transform of
+/// the n / 2 even inputs, and of one value that depends only on the odd inputs. Here n is 2^(k+2).
 pub fn cosine_adds_halves()
     ensures sums { (range k i : ℕ) (x : List ℤ) → i < 2 ^ suc k →
         at (cosine range (suc k) x) i ≡
@@ -17,14 +17,14 @@ pub fn cosine_adds_halves()
         clamp_value (at (cosine range k (evens (2 ^ suc k) x)) i -ℤ at (odd_half range k (odds (2 ^ suc k) x)) (2 ^ suc k - 1 - i)) range }
 {}
 
-/// A law: the transform of zeros is zeros, so a row or column without coefficients need not be run.
+/// The transform of zeros is zeros, so a row or column without coefficients need not be run.
 pub fn cosine_of_zeros()
     ensures { (range k : ℕ) → cosine range k (replicate (2 * 2 ^ k) (pos 0)) ≡ replicate (2 * 2 ^ k) (pos 0) }
 {}
 
-/// A law: where every input is a number of 18 signed bits and the range is at most 18, no sum and no product of a
-/// transform leaves 32 bits. Operations that may give any number at all where a result does not fit still give the same
-/// outputs. At a range of 20, that of samples of 12 bits, a butterfly rotation does wrap.
+/// If every input is a number of 18 signed bits and the range is at most 18, no sum and no product of a transform
+/// leaves 32 bits. Operations that may give any number if a result does not fit still give the same outputs. At a range
+/// of 20, the range for samples of 12 bits, a butterfly rotation does wrap.
 pub fn cosine_never_wraps()
     ensures { (ops : Operations) → AreRight32 ops → (range k : ℕ) (x : List ℤ) → range ≤ 18 → All (FitsBits 18) x →
         cosine_with ops range k x ≡ cosine range k x }

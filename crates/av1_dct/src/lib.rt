@@ -1,24 +1,24 @@
 //! Inverse cosine transforms of 4, 8, 16, 32 and 64 values: the inverse DCT process of the AV1 specification, with the
 //! weights, the rounding and the wrapped sums of rav1e.
 //!
-//! The crate stands on the standard library and on `av1_lists`. It promises to the two-dimensional transforms above it:
+//! The crate needs the standard library and `av1_lists`. Its promises to the two-dimensional transforms above it:
 //!
-//! - `av1_idct4` to `av1_idct64` give `cosine` of `specs/Cosine.antt` for their length, and leave the rest of `output`
-//!   as it was. `cosine_words` is the one function behind them, for every length and every `Word`: an `i32`, or four
-//!   or eight of them side by side.
+//! - `av1_idct4` to `av1_idct64` give `cosine` of `specs/Cosine.antt` for their length. The rest of `output` is
+//!   unchanged. They all use `cosine_words`, for every length and every `Word`: an `i32`, or four or eight of them side
+//!   by side.
 //! - `cosine_lanes` runs eight transforms at a time over `i32x8`, with `cosine` in each lane, and counts them in a
-//!   `LaneCount`, which no other call raises. Where the range is 16 it cuts the words to lanes of 16 bits, and widens
-//!   what comes out. If there are 16 inputs or more, and they are zeros from the fifth on, it leaves out rotations of
-//!   two zeros.
+//!   `LaneCount`, which no other call raises. If the range is 16, it cuts the words to lanes of 16 bits, and widens the
+//!   results. If there are 16 inputs or more, and they are zeros from the fifth on, it leaves out rotations of two
+//!   zeros.
 //! - `half_btf` and `clamp_value`, the arithmetic of every network, are those of `specs/Operations.antt` and
 //!   `specs/Arithmetic.antt`.
-//! - Three laws, each on a function with an empty body: a transform adds and subtracts its two halves, zeros give
-//!   zeros, and at 18 bits nothing wraps.
+//! - Three laws, each on a function with an empty body: a transform adds and subtracts its two halves. Zeros give
+//!   zeros. At 18 bits nothing wraps.
 //!
-//! Within the crate, `Butterfly` is what the networks ask of lanes: butterfly rotations, whose results may be wider
-//! than a lane, and Hadamard rotations, which clamp. Each `Word` has it, and so have eight lanes of 16 bits. A
-//! transform works in place, in the order of reversed places. Its length is a constant of each instance, so that the
-//! compiler writes out its loops and knows its weights as numbers.
+//! Within the crate, `Butterfly` has the operations on lanes that the networks need: butterfly rotations, whose results
+//! may be wider than a lane, and Hadamard rotations, which clamp. Each `Word` has them, and so have eight lanes of 16
+//! bits. A transform works in place, in the order of reversed places. Its length is a constant of each instance, so
+//! that the compiler unrolls its loops and knows its weights as numbers.
 #![tactic(auto)]
 
 mod arithmetic;

@@ -9,10 +9,10 @@ use crate::arithmetic::limits;
 use crate::butterfly::Butterfly;
 use std::simd::prelude::*;
 
-/// How many bits a narrow lane has.
+/// The number of bits of a narrow lane.
 pub(crate) const SHORT_BITS: usize = 16;
 
-/// Eight values of 32 bits: what a rotation of eight lanes of 16 bits gives before it is clamped.
+/// Eight values of 32 bits: the result of a rotation of eight lanes of 16 bits before it is clamped.
 #[derive(Clone, Copy)]
 pub(crate) struct WideLanes {
     low: i32x4,
@@ -41,8 +41,8 @@ fn short_limits(range: usize) -> (i16, i16)
     (top as i16, low as i16)
 }
 
-// `clamp_value` in each lane. The first two steps and the cast are one operation, and at 16 bits the last two fall
-// away.
+// `clamp_value` in each lane. The first two steps and the cast are one operation, and at 16 bits the last two have no
+// effect.
 #[inline(always)]
 fn clamp_wide(v: i32x8, range: usize) -> i16x8
     requires { (8 ≤ range) × (range ≤ 16) }
@@ -84,13 +84,13 @@ pub(crate) trait Short: Butterfly {
     ghost sixteen: { Self.bits ≡ 16 };
 }
 
-/// Eight numbers of 16 bits. An array of these is what a proof covers, where it does not cover one of vectors.
+/// Eight numbers of 16 bits, in an array: a proof covers an array of numbers, and not one of vectors.
 #[derive(Clone, Copy)]
 pub(crate) struct ShortLanes {
     pub(crate) lanes: i16x8,
 }
 
-/// A rotation gives 32 bits, and what it gives is clamped to 16 again.
+/// The result of a rotation has 32 bits, and is clamped to 16 again.
 impl Butterfly for ShortLanes {
     type Wide = WideLanes;
 

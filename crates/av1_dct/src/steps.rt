@@ -12,7 +12,8 @@ use crate::weights::{
     group_of, inner_angle, minus_weight_of, outer_angle, place_of, power, weight_of,
 };
 
-// The places p and e become the clamped sum and difference of what two rotations gave, where `odd` the other way round.
+// The places p and e become the clamped sum and difference of the results of two rotations; if `odd`, the difference
+// and the sum.
 #[inline(always)]
 pub(crate) fn put<W: Butterfly>(
     odd: bool,
@@ -54,7 +55,7 @@ fn word_at<W: Butterfly>(v: &[W], p: usize) -> W
     v[p]
 }
 
-// As `put`, of the words that stand at places p and e.
+// As `put`, of the words at places p and e.
 #[inline(always)]
 fn put_own<W: Butterfly>(odd: bool, v: &mut [W], p: usize, e: usize, range: usize)
     requires range_in { (8 ≤ range) × (range ≤ 20) }

@@ -11,7 +11,7 @@ const COSPI_INV: [i32; 64] = [
     1567, 1474, 1380, 1285, 1189, 1092, 995, 897, 799, 700, 601, 501, 401, 301, 201, 101,
 ];
 
-/// The six bits of each number, in the other order.
+/// The six bits of each number, in reverse order.
 const REVERSED: [usize; 64] = [
     0, 32, 16, 48, 8, 40, 24, 56, 4, 36, 20, 52, 12, 44, 28, 60, 2, 34, 18, 50, 10, 42, 26, 58, 6,
     38, 22, 54, 14, 46, 30, 62, 1, 33, 17, 49, 9, 41, 25, 57, 5, 37, 21, 53, 13, 45, 29, 61, 3, 35,
@@ -28,7 +28,7 @@ pub(crate) fn weight_of(a: usize) -> i32
     COSPI_INV[a]
 }
 
-// The weight of an angle, below zero.
+// The weight of an angle, negated.
 #[inline(always)]
 pub(crate) fn minus_weight_of(a: usize) -> i32
     requires { a < 64 }
@@ -95,7 +95,7 @@ pub(crate) fn place_of(j: usize, n: usize) -> usize
     n % (1 << j)
 }
 
-// The place, among 2^(k+1), whose bits are those of p in the other order.
+// The place, among 2^(k+1), whose bits are those of p in reverse order.
 #[inline(always)]
 pub(crate) fn reversed_place(k: usize, p: usize) -> usize
     requires k_in { k ≤ 5 }

@@ -14,7 +14,7 @@ use std::simd::prelude::*;
 /// The networks are written over words, and so run one transform over `i32`, four at a time over `i32x4` and eight over
 /// `i32x8`.
 pub trait Word: Copy {
-    /// How many lanes there are.
+    /// The number of lanes.
     const LANES: usize;
 
     ghost LANES: { ℕ };

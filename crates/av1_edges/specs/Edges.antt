@@ -1,4 +1,4 @@
--- The edge round a transform's samples, as it is read from a region by place.
+-- The edge round a transform's samples, as it is read from a region by position.
 -- AV1 specification: intra prediction process: general; transform block syntax (haveAboveRt, haveBelowLft).
 use Rattle.std.specs.Prelude.{ℕ, ◌+◌, ◌-◌, ◌*◌, ◌^◌, ◌<◌, ◌≤◌, List, Bool, ◌&&◌, min, if◌then◌else◌, map, slice_index}
 use Rattle.std.specs.Prelude.{Option, unsigned_abs}
@@ -26,7 +26,7 @@ use Rattle.av1_lists.specs.Lists.{by_index}
 abbrev pub region_sample : {T : Type 0} → (T → ℕ) → PlaneRegion T → ℕ → ℕ → ℕ
 region_sample num r x y = slice_index (map num r.samples.now) (row_start r.plane_cfg.stride r.area y + x)
 
--- how many of its columns and rows lie in the visible plane
+-- the number of its columns, and then of its rows, that lie in the visible plane
 abbrev pub visible_columns : {T : Type 0} → PlaneRegion T → ℕ
 visible_columns r = min r.area.width (r.plane_cfg.xorigin + r.plane_cfg.width - r.area.x)
 
@@ -85,7 +85,7 @@ pub record Edge : Type 0 where
   pub left : List ℕ
   pub corner : ℕ
 
--- how many samples above it, and to its left, are available: past the transform at most as many as its lesser side
+-- the number of available samples above it, and then to its left: past the transform at most as many as its lesser side
 abbrev pub num_avail_above : {T : Type 0} → PlaneRegion T → TransformPosition → Bool → ℕ
 num_avail_above r at goes_on =
     num_avail (visible_columns r) at.x (tx_width at.tx_size) goes_on (min (tx_width at.tx_size) (tx_height at.tx_size))
@@ -94,18 +94,18 @@ abbrev pub num_avail_left : {T : Type 0} → PlaneRegion T → TransformPosition
 num_avail_left r at goes_on =
     num_avail (visible_rows r) at.y (tx_height at.tx_size) goes_on (min (tx_width at.tx_size) (tx_height at.tx_size))
 
--- how many places the side above has: as many as the transform has columns, and with what is above right as many more
--- as it has rows
+-- the number of places of the side above: the transform's width, and its height in addition if the samples above right
+-- are needed
 abbrev pub above_places : Parts → TxSize → ℕ
 above_places parts tx_size = tx_width tx_size + where_needed parts.above_right (tx_height tx_size)
 
--- how many the left side has, where it is prepared: as many as the transform has rows, and with what is below left as
--- many more as it has columns
+-- the number of places of the left side: the transform's height if the left side is prepared, and its width in addition
+-- if the samples below left are needed
 abbrev pub left_places : Parts → TxSize → ℕ
 left_places parts tx_size =
     where_needed parts.left (tx_height tx_size) + where_needed parts.below_left (tx_width tx_size)
 
--- the edge of which these parts are prepared
+-- the edge whose parts `parts` are prepared
 unfoldable pub edge_of_parts : {T : Type 0} → (T → ℕ) → PlaneRegion T → TransformPosition → (depth : ℕ) → Parts → Edge
 edge_of_parts num r at depth parts =
     let sample = region_sample num r in
@@ -119,7 +119,7 @@ edge_of_parts num r at depth parts =
       corner = if parts.smoothed then smoothed (left 0) corner (above 0) else corner;
     }
 
--- the edge of a mode, where one is named
+-- the edge of a mode, if one is named
 abbrev pub prepared_edge : {T : Type 0} → (T → ℕ) → PlaneRegion T → TransformPosition → (depth : ℕ) →
     Option PredictionMode → (filter : Bool) → IntraParam → Edge
 prepared_edge num r at depth mode filter param =

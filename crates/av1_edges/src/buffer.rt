@@ -1,4 +1,4 @@
-//! Where an edge is prepared.
+//! The buffer in which an edge is prepared.
 
 ghost use Rattle.std.specs.Prelude.{◌≡◌, IfOk, vec_len};
 ghost use Rattle.av1_lists.specs.Counts.{counted};
@@ -7,11 +7,11 @@ use av1_blocks::OutOfMemory;
 use av1_frame::{Pixel, zero_samples};
 use std::alloc::Global;
 
-/// The most places on one side of an edge: twice the side of the largest transform.
+/// The greatest number of places on one side of an edge: twice the side of the largest transform.
 pub(crate) const LONGEST_EDGE: usize = 128;
 
-/// Room for the samples round a transform, 257 of them: 128 to its left from the bottom up, the corner, and 128 above
-/// it from left to right. It counts the edges that are prepared in it.
+/// A buffer for the samples round a transform, 257 of them: 128 to its left from the bottom up, the corner, and 128
+/// above it from left to right. It counts the edges that are prepared in it.
 #[derive(Drop)]
 pub struct IntraEdgeBuffer<T> {
     pub(crate) samples: Vec<T>,
@@ -20,7 +20,7 @@ pub struct IntraEdgeBuffer<T> {
 }
 
 impl<T: Pixel> IntraEdgeBuffer<T> {
-    /// A buffer in which no edge has been prepared.
+    /// Allocates a buffer in which no edge has been prepared. The only error is running out of memory.
     pub fn new(alloc: Global) -> Result<IntraEdgeBuffer<T>, OutOfMemory>
         ensures { IfOk result (λ buffer. buffer.prepared ≡ 0) }
     {
@@ -30,7 +30,7 @@ impl<T: Pixel> IntraEdgeBuffer<T> {
         })
     }
 
-    /// How many edges have been prepared here, up to the last value of a `u64`.
+    /// The number of edges that have been prepared in the buffer, up to the last value of a `u64`.
     pub fn prepared(&self) -> u64
         ensures { result ≡ self.now.prepared }
     {

@@ -4,8 +4,8 @@ ghost use Rattle.std.specs.Prelude.{◌≡◌, length};
 
 use av1_frame::Pixel;
 
-/// The samples round a transform: those to its left from the bottom up, the corner above and left of it, and those
-/// above it from left to right. What is below left stands before the former, what is above right behind the latter.
+/// The samples round a transform: to its left from the bottom up, the corner above and left of it, and above it from
+/// left to right. Samples below left come first in the left side, and samples above right last in the side above.
 #[derive(Clone, Copy)]
 pub struct IntraEdge<'a, T> {
     pub(crate) left: &'a [T],
@@ -13,7 +13,7 @@ pub struct IntraEdge<'a, T> {
     pub(crate) above: &'a [T],
 }
 
-/// How many places an edge has on each side of its corner.
+/// The number of places of an edge on each side of its corner.
 #[derive(Clone, Copy, Debug, PartialEq, Eq)]
 pub struct EdgePlaces {
     /// To the left, and below that.
@@ -23,8 +23,7 @@ pub struct EdgePlaces {
 }
 
 impl<'a, T: Pixel> IntraEdge<'a, T> {
-    /// An edge of these samples: those to the left from the bottom up, the corner, which is one sample, and those
-    /// above.
+    /// An edge of these samples: to the left from the bottom up, the corner, which is one sample, and above.
     pub fn from_slices(left: &'a [T], top_left: &'a [T], above: &'a [T]) -> IntraEdge<'a, T>
         requires { length top_left.now ≡ 1 }
         ensures left { result.left.now ≡ left.now }

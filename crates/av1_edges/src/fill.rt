@@ -1,4 +1,4 @@
-//! The samples round a block, read from its region by place.
+//! The samples round a block, read from its region by position.
 //!
 //! AV1 specification: intra prediction process: general, the preparation of the arrays AboveRow and LeftCol.
 
@@ -9,7 +9,7 @@ ghost use Rattle.av1_edges.specs.Edges.{BeginsVisible, region_sample, visible_co
 
 use av1_frame::{Pixel, PlaneRegion};
 
-/// Each sample of the row becomes `value`.
+/// Sets each sample of the row to `value`.
 pub fn fill_with<T: Pixel>(row: &mut [T], value: T)
     ensures { (k : ℕ) (d : T) → k < length row.new → slice_index_or row.new k d ≡ value }
 {
@@ -18,7 +18,7 @@ pub fn fill_with<T: Pixel>(row: &mut [T], value: T)
     }
 }
 
-/// The row becomes the samples of `source`, and then the last of them again and again.
+/// Sets the row to the samples of `source`, and then to the last of them again and again.
 pub fn extend_from<T: Pixel>(row: &mut [T], source: &[T])
     requires some { 0 < length source.now }
     requires room { length source.now ≤ length row.old }
@@ -61,7 +61,7 @@ fn region_sample<T: Pixel>(dst: &PlaneRegion<'_, T>, x: usize, y: usize) -> T
     dst.row(y)[x]
 }
 
-/// The side above a block at column `x` of row `y`, as wide as `above`, of which `num_avail` samples are available.
+/// Fills the side above a block at column `x` of row `y`, as wide as `above`; `num_avail` samples are available.
 pub(crate) fn fill_above<T: Pixel>(
     above: &mut [T],
     dst: &PlaneRegion<'_, T>,
@@ -88,7 +88,7 @@ pub(crate) fn fill_above<T: Pixel>(
     }
 }
 
-/// The samples of column `x` from row `y` on, as many as `left`, from the bottom up.
+/// Copies the samples of column `x` from row `y` on, as many as `left` has, from the bottom up.
 fn copy_column<T: Pixel>(left: &mut [T], dst: &PlaneRegion<'_, T>, x: usize, y: usize)
     requires begins { BeginsVisible dst.now }
     requires column { x < visible_columns dst.now }
@@ -102,7 +102,7 @@ fn copy_column<T: Pixel>(left: &mut [T], dst: &PlaneRegion<'_, T>, x: usize, y: 
     }
 }
 
-/// As `copy_column`, in line, so that the compiler knows how many samples it copies.
+/// As `copy_column`, inlined, so that the compiler knows how many samples it copies.
 #[inline(always)]
 fn copy_rows<T: Pixel>(left: &mut [T], dst: &PlaneRegion<'_, T>, x: usize, y: usize, count: usize)
     requires begins { BeginsVisible dst.now }
@@ -116,8 +116,8 @@ fn copy_rows<T: Pixel>(left: &mut [T], dst: &PlaneRegion<'_, T>, x: usize, y: us
     }
 }
 
-/// The side to the left of a block at column `x` of row `y`, from the bottom up, as high as `left`, of which
-/// `num_avail` samples are available.
+/// Fills the side to the left of a block at column `x` of row `y`, from the bottom up, as high as `left`; `num_avail`
+/// samples are available.
 pub(crate) fn fill_left<T: Pixel>(
     left: &mut [T],
     dst: &PlaneRegion<'_, T>,
@@ -147,7 +147,7 @@ pub(crate) fn fill_left<T: Pixel>(
     }
 }
 
-/// The corner of a block at column `x` of row `y` where it is needed, else half of the samples' range.
+/// The corner of a block at column `x` of row `y` if it is needed, else half of the samples' range.
 pub(crate) fn corner_of<T: Pixel>(
     dst: &PlaneRegion<'_, T>,
     x: usize,

@@ -14,7 +14,7 @@ use crate::position::TransformPosition;
 use av1_blocks::{BlockSize, IntraParam, PredictionMode, TxSize};
 use av1_frame::{Pixel, PlaneOffset, PlaneRegion, TileBlockOffset};
 
-/// How many places the side above a transform has: with what is above right as many more as it has rows.
+/// The number of places of the side above a transform: its width, and its height in addition with samples above right.
 fn above_places(parts: Parts, tx_size: TxSize) -> usize
     ensures value { result ≡ above_places parts tx_size }
     ensures some { 0 < result }
@@ -27,7 +27,7 @@ fn above_places(parts: Parts, tx_size: TxSize) -> usize
     }
 }
 
-/// How many places the side to its left has: with what is below left as many more as it has columns.
+/// The number of places of the side to its left: its height, and its width in addition with samples below left.
 fn left_places(parts: Parts, tx_size: TxSize) -> usize
     ensures value { result ≡ left_places parts tx_size }
     ensures some { parts.left ≡ true → 0 < result }
@@ -41,7 +41,7 @@ fn left_places(parts: Parts, tx_size: TxSize) -> usize
     }
 }
 
-/// The corner of the edge of `parts` whose sides are these, smoothed where that is needed.
+/// The corner of the edge of `parts` with these sides, smoothed if that is needed.
 fn edge_corner<T: Pixel>(
     left: &[T],
     above: &[T],
@@ -68,8 +68,8 @@ fn edge_corner<T: Pixel>(
     }
 }
 
-/// Fills the samples of a buffer with the edge of `parts`, and tells how many places it has: the left side ends before
-/// the corner, which stands in the middle, and the side above begins behind it.
+/// Fills the samples of a buffer with the edge of `parts`, and returns the number of its places. The left side ends
+/// before the corner, which is in the middle, and the side above begins after it.
 fn fill_edge<T: Pixel>(
     samples: &mut [T],
     dst: &PlaneRegion<'_, T>,
@@ -107,7 +107,7 @@ fn fill_edge<T: Pixel>(
     }
 }
 
-/// The edge in a buffer, of so many places to the left and above.
+/// The edge in a buffer, of `left` places to the left and `above` places above.
 fn edge_in<T: Pixel>(edge_buf: &IntraEdgeBuffer<T>, left: usize, above: usize) -> IntraEdge<'_, T>
     requires few_left { left ≤ 128 }
     requires few_above { above ≤ 128 }
@@ -147,9 +147,9 @@ fn position_of(
     }
 }
 
-/// Prepares the samples round a transform, as `get_intra_edges` does, in 257 samples of the caller, and tells how many
-/// places the edge has. The side to its left ends before sample 128, from the bottom up; that one is the corner, and
-/// the side above begins behind it. What the other samples hold afterwards is not told.
+/// Prepares the samples round a transform, as `get_intra_edges` does, in 257 samples of the caller, and returns the
+/// number of places of the edge. The side to the left ends before sample 128, from the bottom up. Sample 128 is the
+/// corner, and the side above begins after it. The contents of the other samples afterwards are left open.
 pub fn get_intra_edges_to<T: Pixel>(
     samples: &mut [T],
     dst: &PlaneRegion<'_, T>,
@@ -197,20 +197,23 @@ pub fn get_intra_edges_to<T: Pixel>(
 /// Prepares the samples round a transform, in `edge_buf`.
 ///
 /// The transform has the size `tx_size` and its first sample at `po`, counted from the first sample of the region
-/// `dst`. Of the region only what lies in the visible plane is read. The transform is the one in column `bx` and row
-/// `by` of its block, counted in transforms; the block has the luma size `partition_size` and begins at the cell
-/// `partition_bo` of the tile.
+/// `dst`. Only the part of the region in the visible plane is read. The transform is in column `bx` and row `by` of its
+/// block, counted in transforms. The block has the luma size `partition_size` and begins at the cell `partition_bo` of
+/// the tile.
 ///
-/// The side above holds the row above the transform from its first column on, as many samples as it is wide; the side
-/// to the left holds the column before it, as many as it is high. At the region's upper end the former is the sample to
-/// the left of the transform, and at the left end the latter is the sample above it, again and again; where there is
-/// neither, they are half of the range of samples of `bit_depth` less 1 and plus 1. What continues them, where the
-/// angle of `opt_mode` and `intra_param` needs it, is read as far as the lesser side of the transform, where
-/// `has_top_right` or `has_bottom_left` says that it is coded before. Past the last sample that is available, and at
-/// the ends of the region, that one is repeated. The left side is empty for a mode that takes a mean, at the left end.
+/// The side above holds the row above the transform from its first column on, as many samples as it is wide. The side
+/// to the left holds the column before it, as many samples as it is high. In the region's first row, the side above
+/// repeats the sample to the left of the transform. In its first column, the side to the left repeats the sample above
+/// the transform. At the region's first sample the sides are half of the range of samples of `bit_depth`, less 1 and
+/// plus 1.
 ///
-/// The corner is half of the range unless the mode needs it. Where `enable_intra_edge_filter` is set, it is smoothed
-/// for an angle between 90 and 180 degrees and sides that come to 24 or more.
+/// If the angle of `opt_mode` and `intra_param` needs more samples, the sides continue as far as the lesser side of the
+/// transform, if `has_top_right` or `has_bottom_left` says that these samples are coded before. Past the last available
+/// sample, and at the ends of the region, the last sample is repeated. In the first column the left side is empty for a
+/// mode that takes a mean.
+///
+/// The corner is half of the range unless the mode needs it. If `enable_intra_edge_filter` is set, the corner is
+/// smoothed for an angle between 90 and 180 degrees if width and height sum to 24 or more.
 ///
 /// AV1 specification: intra prediction process: general; for the smoothing filter corner process.
 pub fn get_intra_edges<'a, T: Pixel>(

@@ -1,4 +1,4 @@
-//! Laws of edges, for the crates above: they do nothing when they run.
+//! Theorems about edges. Each function does nothing: its contract is the theorem.
 
 ghost use Rattle.std.specs.Prelude.{ℕ, ◌^◌, ◌<◌, ◌≤◌, Bool, Option};
 ghost use Rattle.av1_blocks.specs.declared.predict.PredictionMode.{PredictionMode};
@@ -10,8 +10,8 @@ ghost use Rattle.av1_edges.specs.Within.{EdgeIsWithin};
 
 use av1_frame::Pixel;
 
-/// The edge of a transform in the visible part of a region whose visible samples lie within the depth lies within it
-/// too, for every mode.
+/// If the visible samples of a region lie within the depth, so does the edge of a transform in its visible part, for
+/// every mode.
 pub fn prepared_edges_lie_within<T: Pixel>()
     ensures { (r : PlaneRegion T) (at : TransformPosition) (depth : ℕ) (mode : Option PredictionMode) (filter : Bool) (param : IntraParam) → 8 ≤ depth
         → at.x < visible_columns r → at.y < visible_rows r

@@ -1,4 +1,4 @@
-//! Which parts of the edge round a block are prepared.
+//! The parts of the edge round a block that are prepared.
 //!
 //! AV1 specification: intra prediction process: general.
 
@@ -8,7 +8,7 @@ ghost use Rattle.av1_edges.specs.Parts.{effective, step_of, angle, is_paeth, is_
 
 use av1_blocks::{ANGLE_STEP, IntraParam, PredictionMode, TxSize, intra_mode_to_angle};
 
-/// The parts of the edge round a block, each `true` where it is prepared. The side above always is.
+/// The parts of the edge round a block, each `true` if it is prepared. The side above always is.
 #[derive(Clone, Copy)]
 pub(crate) struct Parts {
     /// The samples to the left.
@@ -17,14 +17,14 @@ pub(crate) struct Parts {
     pub(crate) below_left: bool,
     /// The samples to the right of those above.
     pub(crate) above_right: bool,
-    /// The corner, which else is half of the samples' range.
+    /// The corner; if it is not prepared, it is half of the samples' range.
     pub(crate) corner: bool,
     /// Whether the corner is smoothed.
     pub(crate) smoothed: bool,
 }
 
-/// The mode that a block at column `x` of row `y` of its tile is predicted by: at the left and upper end Paeth
-/// prediction has fewer neighbours.
+/// The mode by which a block at column `x` of row `y` of its tile is predicted. At the left and upper end Paeth
+/// prediction has fewer neighbours, and another mode replaces it.
 pub fn effective(mode: PredictionMode, x: usize, y: usize) -> PredictionMode
     ensures { result ≡ effective mode x y }
 {
@@ -36,7 +36,7 @@ pub fn effective(mode: PredictionMode, x: usize, y: usize) -> PredictionMode
     }
 }
 
-/// The steps of 3 degrees that a directional mode turns: 0 for a parameter of another kind.
+/// The angle delta of a directional mode, in steps of 3 degrees: 0 for a parameter of another kind.
 pub fn step_of(param: IntraParam) -> i8
     ensures { result ≡ step_of param }
 {
@@ -46,14 +46,14 @@ pub fn step_of(param: IntraParam) -> i8
     }
 }
 
-/// The angle of a directional mode that turns `step` steps of 3 degrees, in degrees.
+/// The angle of a directional mode with an angle delta of `step` steps, in degrees.
 pub fn angle(mode: PredictionMode, step: i8) -> isize
     ensures { result ≡ angle mode step }
 {
     intra_mode_to_angle(mode) + isize::from(ANGLE_STEP) * isize::from(step)
 }
 
-/// Paeth prediction.
+/// Whether a mode is Paeth prediction.
 fn is_paeth(mode: PredictionMode) -> bool
     ensures { result ≡ is_paeth mode }
 {
@@ -63,7 +63,7 @@ fn is_paeth(mode: PredictionMode) -> bool
     }
 }
 
-/// The mode needs the samples to the left of a block at column `x`.
+/// Whether the mode needs the samples to the left of a block at column `x`.
 fn needs_left(mode: PredictionMode, x: usize) -> bool
     ensures value { result ≡ needs_left mode x }
     ensures inside { 0 < x → result ≡ true }
@@ -75,8 +75,8 @@ fn needs_left(mode: PredictionMode, x: usize) -> bool
 }
 
 impl Parts {
-    /// Those of a mode whose angle has so many degrees, for a block of `tx_size`. The corner is smoothed where the edge
-    /// filter is on, the angle lies between 90 and 180 degrees and the sides come to 24 or more.
+    /// The parts of a directional mode with this angle in degrees, for a block of `tx_size`. The corner is smoothed if
+    /// the edge filter is on, the angle lies between 90 and 180 degrees, and width and height sum to 24 or more.
     fn along(filter: bool, degrees: isize, tx_size: TxSize) -> Parts
         ensures { result ≡ record {
           left = true;
@@ -98,7 +98,7 @@ impl Parts {
         }
     }
 
-    /// Those of a mode without an angle, for a block at column `x`.
+    /// The parts of a mode without an angle, for a block at column `x`.
     fn level(mode: PredictionMode, x: usize) -> Parts
         ensures value { result ≡ record {
           left = needs_left mode x;
@@ -118,7 +118,7 @@ impl Parts {
         }
     }
 
-    /// Those that the mode `mode` needs where it is in effect.
+    /// The parts that the mode `mode` needs if it is in effect.
     fn needed(filter: bool, mode: PredictionMode, step: i8, x: usize, tx_size: TxSize) -> Parts
         ensures value { result ≡ parts_for filter mode step x (tx_width tx_size) (tx_height tx_size) }
         ensures inside { 0 < x → result.left ≡ true }
@@ -131,8 +131,8 @@ impl Parts {
         }
     }
 
-    /// Those that are prepared for a block of `tx_size` at column `x` of row `y`: what its mode needs, and
-    /// all but the smoothing where no mode is named.
+    /// The parts that are prepared for a block of `tx_size` at column `x` of row `y`: what its mode needs, or all
+    /// without smoothing if no mode is named.
     pub(crate) fn prepared(
         filter: bool,
         opt_mode: Option<PredictionMode>,

@@ -1,4 +1,4 @@
-//! Where a transform stands, and which samples round it are coded before it.
+//! The position of a transform, and the samples round it that are coded before it.
 
 ghost use Rattle.std.specs.Prelude.{◌≡◌, ◌+◌, ◌*◌, ◌<◌, ◌≤◌, ◌&&◌, true};
 ghost use Rattle.av1_blocks.specs.Transforms.{tx_width, tx_height};
@@ -13,7 +13,7 @@ use av1_avail::{has_bl, has_bottom_left, has_top_right, has_tr};
 use av1_blocks::{BlockSize, TxSize, supersample_chroma_bsize};
 use av1_frame::{Pixel, PlaneRegion, TileBlockOffset};
 
-/// Where a transform stands, in its region and in its block.
+/// The position of a transform, in its region and in its block.
 #[derive(Clone, Copy)]
 pub(crate) struct TransformPosition {
     /// The column of its first sample, counted from the region's first.
@@ -22,7 +22,7 @@ pub(crate) struct TransformPosition {
     pub(crate) y: usize,
     /// Its size.
     pub(crate) tx_size: TxSize,
-    /// The first cell of its block, of 4 luma samples, counted from the tile's first.
+    /// The first cell of its block (of 4x4 luma samples), counted from the tile's first.
     pub(crate) partition_bo: TileBlockOffset,
     /// The size of its block in luma.
     pub(crate) partition_size: BlockSize,
@@ -32,7 +32,7 @@ pub(crate) struct TransformPosition {
     pub(crate) by: usize,
 }
 
-/// How many columns of the region lie in the visible plane.
+/// The number of columns of the region that lie in the visible plane.
 pub(crate) fn visible_columns<T: Pixel>(dst: &PlaneRegion<'_, T>) -> usize
     requires { BeginsVisible dst.now }
     ensures { result ≡ visible_columns dst.now }
@@ -41,7 +41,7 @@ pub(crate) fn visible_columns<T: Pixel>(dst: &PlaneRegion<'_, T>) -> usize
     rect.width.min(dst.plane_cfg.width - rect.x as usize)
 }
 
-/// How many rows of the region lie in the visible plane.
+/// The number of rows of the region that lie in the visible plane.
 pub(crate) fn visible_rows<T: Pixel>(dst: &PlaneRegion<'_, T>) -> usize
     requires { BeginsVisible dst.now }
     ensures { result ≡ visible_rows dst.now }
@@ -50,16 +50,16 @@ pub(crate) fn visible_rows<T: Pixel>(dst: &PlaneRegion<'_, T>) -> usize
     rect.height.min(dst.plane_cfg.height - rect.y as usize)
 }
 
-/// The row or column before a transform lies in the tile, where the transform begins `offset` units after its
-/// block, which begins at the cell `cell`, in a plane of this decimation.
+/// Whether the row or column before a transform lies in the tile. The transform begins `offset` units after its block,
+/// which begins at the cell `cell`, in a plane of this decimation.
 fn has_before(offset: usize, cell: usize, decimation: usize) -> bool
     ensures { result ≡ has_before offset cell decimation }
 {
     offset > 0 || cell > decimation
 }
 
-/// How many samples of a side are available, whose `count` places begin at `first`: those before `limit`, and,
-/// where the side goes on, of a `run` behind them too.
+/// The number of available samples of a side whose `count` places begin at `first`: those before `limit`, and, if the
+/// side goes on, also those of a `run` after them.
 fn num_avail(limit: usize, first: usize, count: usize, goes_on: bool, run: usize) -> usize
     requires begins { first < limit }
     requires some { 0 < count }
@@ -80,8 +80,8 @@ fn num_avail(limit: usize, first: usize, count: usize, goes_on: bool, run: usize
 }
 
 impl TransformPosition {
-    /// The transform is its whole block, in a plane of these decimations that isn't halved, and no side of it is more
-    /// than twice the other: the bits of the block's place then say what is coded before it.
+    /// Whether the transform is its whole block, in a plane of these decimations that isn't halved, and no side of it
+    /// is more than twice the other. The bits of the block's position then say what is coded before it.
     fn is_told_by_bits(self, xdec: usize, ydec: usize) -> bool
         ensures near { result ≡ true → IsNearSquare self.partition_size }
         ensures whole { result ≡ true →
@@ -99,7 +99,7 @@ impl TransformPosition {
             && height <= 2 * width
     }
 
-    /// The samples above right of the transform are available.
+    /// Whether the samples above right of the transform are available.
     fn has_above_right<T: Pixel>(self, dst: &PlaneRegion<'_, T>) -> bool
         requires begins { BeginsVisible dst.now }
         requires fits { PositionFits dst.now self }
@@ -126,7 +126,7 @@ impl TransformPosition {
         )
     }
 
-    /// The samples below left of the transform are available.
+    /// Whether the samples below left of the transform are available.
     fn has_below_left<T: Pixel>(self, dst: &PlaneRegion<'_, T>) -> bool
         requires begins { BeginsVisible dst.now }
         requires fits { PositionFits dst.now self }
@@ -153,8 +153,7 @@ impl TransformPosition {
         )
     }
 
-    /// How many samples above the transform are available, where `needed` says whether those above right
-    /// are needed.
+    /// The number of available samples above the transform; `needed` says whether those above right are needed.
     pub(crate) fn num_avail_above<T: Pixel>(self, dst: &PlaneRegion<'_, T>, needed: bool) -> usize
         requires begins { BeginsVisible dst.now }
         requires fits { PositionFits dst.now self }
@@ -169,8 +168,7 @@ impl TransformPosition {
         num_avail(visible_columns(dst), self.x, width, goes_on, run)
     }
 
-    /// How many samples to the left of the transform are available, where `needed` says whether those below
-    /// left are needed.
+    /// The number of available samples to the left of the transform; `needed` says whether those below left are needed.
     pub(crate) fn num_avail_left<T: Pixel>(self, dst: &PlaneRegion<'_, T>, needed: bool) -> usize
         requires begins { BeginsVisible dst.now }
         requires fits { PositionFits dst.now self }

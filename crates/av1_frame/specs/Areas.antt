@@ -1,4 +1,4 @@
--- Rectangles of a plane: of its visible samples, of its storage, and those that an area names.
+-- Rectangles of a plane: of its visible samples, of its storage, and rectangles that an area names.
 use Rattle.std.specs.Prelude.{◌≡◌, ℕ, ◌+◌, ◌-◌, ◌*◌, ◌/◌, ◌^◌, ◌≤◌, ◌<◌, Bool, ◌&&◌, nat_le, nat_lt, ℤ, pos, ◌+ℤ◌, ◌-ℤ◌}
 use Rattle.std.specs.Prelude.{◌≤ℤ◌, unsigned_abs}
 use Rattle.av1_frame.specs.declared.plane.PlaneConfig.{PlaneConfig}
@@ -14,7 +14,7 @@ pub record VisibleArea : Type 0 where
   pub width : ℕ
   pub height : ℕ
 
--- the rectangle of storage that it is
+-- the rectangle of storage that this rectangle is
 abbrev pub stored_area : PlaneConfig → VisibleArea → StoredArea
 stored_area cfg a = record { x = cfg.xorigin + a.x; y = cfg.yorigin + a.y; width = a.width; height = a.height }
 
@@ -58,7 +58,7 @@ abbrev pub first_row : PlaneConfig → StoredArea → Area → ℤ
 first_row cfg a (Rectangle x y width height) = pos a.y +ℤ y
 first_row cfg a (BlockStartingAt bo) = pos (a.y + block_start bo.y cfg.ydec)
 
--- the rectangle of storage that it names
+-- the rectangle of storage that an area names
 abbrev pub area_from : PlaneConfig → StoredArea → Area → StoredArea
 area_from cfg a (Rectangle x y width height) =
     record { x = unsigned_abs (pos a.x +ℤ x); y = unsigned_abs (pos a.y +ℤ y); width = width; height = height }
@@ -69,7 +69,7 @@ area_from cfg a (BlockStartingAt bo) = record {
   height = a.height - block_start bo.y cfg.ydec;
 }
 
--- that rectangle begins at this column and this row of storage or after them, and ends in a
+-- this rectangle begins at this column and this row of storage or after them, and ends in a
 pub record LiesIn (column row : ℕ) (cfg : PlaneConfig) (a : StoredArea) (area : Area) : Type 0 where
   pub left : pos column ≤ℤ first_column cfg a area
   pub top : pos row ≤ℤ first_row cfg a area

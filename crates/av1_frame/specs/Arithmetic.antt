@@ -2,7 +2,7 @@
 use Rattle.std.specs.Prelude.{ℕ, ◌-◌, ◌/◌, ◌^◌, ℤ, pos, negsuc, ◌+ℤ◌, min}
 use Rattle.std.specs.Int.{int_shr}
 
--- v / 2^bit, rounded to the nearest number, and up where two are equally near (the specification's Round2)
+-- v / 2^bit, rounded to the nearest number, and up if two are equally near (the specification's Round2)
 abbrev pub round_shift : ℤ → ℕ → ℤ
 round_shift v bit = int_shr (v +ℤ pos (2 ^ bit / 2)) bit
 

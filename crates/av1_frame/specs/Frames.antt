@@ -6,7 +6,7 @@ use Rattle.av1_frame.specs.declared.plane.Plane.{Plane}
 use Rattle.av1_frame.specs.declared.slots.Slot.{Slot}
 use Rattle.av1_frame.specs.declared.frame_invariants.FrameInvariants.{FrameInvariants}
 
--- a frame of these luma sides, with all slots empty
+-- a frame with these luma dimensions, with all slots empty
 abbrev pub new_frame : {T : Type 0} → ℕ → ℕ → FilterMode → ℕ → Bool → List ℕ → FrameInvariants T
 new_frame width height filter depth edge_filter ref_frames = record {
   w_in_b = width / 4;
@@ -25,6 +25,6 @@ plane_of s zero = s.y
 plane_of s (suc zero) = s.u
 plane_of s (suc (suc p)) = s.v
 
--- plane p of the frame in a slot, where there is one
+-- plane p of the frame in a slot, if there is one
 abbrev pub slot_plane : {T : Type 0} → FrameInvariants T → ℕ → ℕ → Option (Plane T)
 slot_plane fi slot p = option_map (λ s. plane_of s p) (slice_index_or fi.slots slot None)

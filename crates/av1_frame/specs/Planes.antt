@@ -1,4 +1,4 @@
--- What planes hold.
+-- Planes, and the planes that operations on them leave.
 use Rattle.std.specs.Prelude.{ℕ, ◌+◌, ◌*◌, ◌-◌, ◌/◌, ◌%◌, ◌^◌, max, min, List, length, slice_index, map}
 use Rattle.std.specs.Int.{next_multiple_of}
 use Rattle.std.specs.Borrow.{Lends, MutBor, Fml, Array, RattleType}
@@ -10,7 +10,7 @@ use Rattle.av1_frame.specs.declared.plane_region.StoredArea.{StoredArea}
 use Rattle.av1_frame.specs.contracts.plane.Plane as plane
 use Rattle.av1_frame.specs.contracts.storage.Storage as storage
 
--- the settings of a new plane: sides rounded up to whole blocks of 64 luma samples, and pads on both sides
+-- the settings of a new plane: width and height rounded up to whole blocks of 64 luma samples, and pads on both sides
 abbrev pub new_config : ℕ → ℕ → ℕ → ℕ → ℕ → ℕ → PlaneConfig
 new_config width height xdec ydec xpad ypad = record {
   stride = xpad + next_multiple_of width (64 / 2 ^ xdec) + xpad;
@@ -25,7 +25,7 @@ new_config width height xdec ydec xpad ypad = record {
   yorigin = ypad;
 }
 
--- the settings of this many rows that stand `stride` apart, of which the rectangle a is visible
+-- the settings of this many rows that are `stride` apart, of which the rectangle a is visible
 abbrev pub bare_config : ℕ → ℕ → StoredArea → PlaneConfig
 bare_config stride rows a = record {
   stride = stride;
@@ -40,7 +40,7 @@ bare_config stride rows a = record {
   yorigin = a.y;
 }
 
--- the settings of a plane of just these rows
+-- the settings of a plane that has exactly these rows
 abbrev pub plain_config : ℕ → ℕ → PlaneConfig
 plain_config width height = bare_config width height (record { x = 0; y = 0; width = width; height = height })
 
@@ -48,7 +48,7 @@ plain_config width height = bare_config width height (record { x = 0; y = 0; wid
 abbrev pub IsWhole : {T : Type 0} → Plane T → Type 0
 IsWhole p = IsStorage p.plane_cfg (length p.samples)
 
--- the place in storage of column x of row y, counted from the first visible sample
+-- the position in storage of column x of row y, counted from the first visible sample
 abbrev pub place_at : PlaneConfig → ℕ → ℕ → ℕ
 place_at cfg x y = (cfg.yorigin + y) * cfg.stride + (cfg.xorigin + x)
 
@@ -60,11 +60,11 @@ sample_at num p x y = slice_index (map num p.samples) (place_at p.plane_cfg x y)
 abbrev pub InPlane : {T : Type 0} → VisibleArea → Plane T → Type 0
 InPlane a p = AreaFits (stored_area p.plane_cfg a) p.plane_cfg (length p.samples)
 
--- p with each sample v of the rectangle a turned to f ROW COLUMN v, by its row and column in a; all others stay
+-- p after each sample v of the rectangle a becomes f ROW COLUMN v, by its row and column in a; the others are unchanged
 abbrev pub painted_plane : {T : Type 0} → Plane T → VisibleArea → (ℕ → ℕ → T → T) → Plane T
 painted_plane p a f = record p { samples = paint p.plane_cfg.stride (stored_area p.plane_cfg a) f p.samples }
 
--- p with so many visible columns and rows
+-- p with this many visible columns and rows
 abbrev pub with_sides : {T : Type 0} → (width height : ℕ) → Plane T → Plane T
 with_sides width height p = record p { plane_cfg = record p.plane_cfg { width = width; height = height } }
 
@@ -72,7 +72,7 @@ with_sides width height p = record p { plane_cfg = record p.plane_cfg { width = 
 abbrev pub nearest : ℕ → ℕ → ℕ → ℕ
 nearest first count i = max first (min i (first + count - 1))
 
--- p with what stands at the nearest visible place at each place of storage
+-- p after each position of storage gets the sample at the nearest visible position
 abbrev pub padded : {T : Type 0} → Plane T → Plane T
 padded p =
     let cfg = p.plane_cfg in
@@ -89,11 +89,11 @@ storage_row T = storage.the_row T
 abbrev pub plane_row : RattleType → RattleType
 plane_row T = plane.the_row T
 
--- what is written through the part of s from i on stands in s
+-- what is written through the part of s from i on is in s afterwards
 abbrev pub LendsPart : (T : RattleType) → MutBor (List T.Denot) → ℕ → MutBor (List T.Denot) → Fml
 LendsPart T s i result = Lends (storage_row T) (Array T 0) s result (with_part i s.now)
 
--- the same of the part of p's samples
+-- the same for the part of p's samples
 abbrev pub LendsPlanePart : (T : RattleType) → MutBor (Plane T.Denot) → ℕ → MutBor (List T.Denot) → Fml
 LendsPlanePart T p i result =
     Lends (plane_row T) (Array T 0) p result (λ ws. record p.now { samples = with_part i p.now.samples ws })

@@ -1,14 +1,14 @@
--- Samples in rows of one stride, and what a rectangle of them becomes.
+-- Samples in rows of one stride, and the samples after a rectangle of them changes.
 use Rattle.std.specs.Prelude.{ℕ, ◌+◌, ◌-◌, ◌*◌, ◌/◌, ◌%◌, List, [], ◌∷◌, take, drop, ◌&&◌, Bool, nat_le, nat_lt}
 use Rattle.std.specs.Prelude.{if◌then◌else◌, slice_index_or}
 use Rattle.av1_frame.specs.declared.plane_region.StoredArea.{StoredArea}
 
--- each element by its place, where the first stands at i
+-- each element by its position, if the first is at i
 abbrev pub map_from : {X : Type 0} → ℕ → (ℕ → X → X) → List X → List X
 map_from i f [] = []
 map_from i f (x ∷ xs) = f i x ∷ map_from (i + 1) f xs
 
--- s with its element v at each place k turned to f k v
+-- s after its element v at each position k becomes f k v
 unfoldable pub update : {X : Type 0} → (ℕ → X → X) → List X → List X
 update f s = map_from 0 f s
 
@@ -20,11 +20,11 @@ part i w s = take w (drop i s)
 abbrev pub with_part : {X : Type 0} → ℕ → List X → List X → List X
 with_part i s ws = update (λ k v. if nat_le i k then slice_index_or ws (k - i) v else v) s
 
--- s with what stood at the place g k at each place k
+-- s after each position k gets the element at position g k
 unfoldable pub gathered : {X : Type 0} → (ℕ → ℕ) → List X → List X
 gathered g s = update (λ k v. slice_index_or s (g k) v) s
 
--- the place of the first sample of row y of the rectangle a
+-- the position of the first sample of row y of the rectangle a
 abbrev pub row_start : ℕ → StoredArea → ℕ → ℕ
 row_start stride a y = (a.y + y) * stride + a.x
 
@@ -36,15 +36,15 @@ row_of stride a y s = part (row_start stride a y) a.width s
 abbrev pub in_area : StoredArea → ℕ → ℕ → Bool
 in_area a p q = (nat_le a.x p && nat_lt p (a.x + a.width)) && (nat_le a.y q && nat_lt q (a.y + a.height))
 
--- what the sample v at column p of row q becomes
+-- the sample v at column p of row q after the change
 abbrev pub painted_at : {X : Type 0} → StoredArea → (ℕ → ℕ → X → X) → ℕ → ℕ → X → X
 painted_at a f p q v = if in_area a p q then f (q - a.y) (p - a.x) v else v
 
--- s with each sample v of the rectangle a, at row r and column c of it, turned to f r c v; all others stay
+-- s after each sample v of the rectangle a, at row r and column c of it, becomes f r c v; the others are unchanged
 unfoldable pub paint : {X : Type 0} → ℕ → StoredArea → (ℕ → ℕ → X → X) → List X → List X
 paint stride a f s = update (λ k v. painted_at a f (k % stride) (k / stride) v) s
 
--- the row s with each v of its first w samples, at column c, turned to g c v; all others stay
+-- the row s after each v of its first w samples, at column c, becomes g c v; the others are unchanged
 unfoldable pub paint_row : {X : Type 0} → ℕ → (ℕ → X → X) → List X → List X
 paint_row w g s = update (λ c v. if nat_lt c w then g c v else v) s
 

@@ -1,4 +1,4 @@
--- Slices: a place in stored samples, which may lie outside them, and what is stored from there on.
+-- Slices: a position in stored samples, which may lie outside them, and what is stored from there on.
 use Rattle.std.specs.Prelude.{ℕ, ◌+◌, ◌-◌, ◌*◌, List, drop, map, slice_index, min, ℤ, pos, negsuc, ◌+ℤ◌, ◌≤ℤ◌, ◌<ℤ◌}
 use Rattle.std.specs.Prelude.{neg_ℤ, unsigned_abs}
 use Rattle.std.specs.Int.{int_min, int_max}

@@ -1,12 +1,11 @@
-//! Places counted in cells of 4 luma samples.
+//! Positions counted in cells of 4 luma samples.
 
 ghost use Rattle.std.specs.Prelude.{◌≡◌, ◌^◌, ◌<◌, ◌≤◌, pos, ◌+ℤ◌, ◌≤ℤ◌, ◌<ℤ◌};
 ghost use Rattle.av1_frame.specs.Areas.{block_start};
 
 use crate::plane::{PlaneConfig, PlaneOffset};
 
-/// A cell of 4 luma samples, counted from the first cell of the frame, or of a tile where a
-/// `TileBlockOffset` holds it.
+/// A cell of 4 luma samples, counted from the first cell of the frame, or of a tile if it is in a `TileBlockOffset`.
 #[derive(Clone, Copy, Debug, PartialEq, Eq)]
 pub struct BlockOffset {
     /// The column of cells.
@@ -35,8 +34,8 @@ impl TileBlockOffset {
         })
     }
 
-    /// The place of the cell's first sample in a plane with the settings `cfg`, counted from the tile's
-    /// first sample.
+    /// The position of the cell's first sample in a plane with the settings `cfg`, counted from the tile's first
+    /// sample.
     pub fn plane_offset(self, cfg: &PlaneConfig) -> PlaneOffset
         requires xdec { cfg.now.xdec ≤ 1 }
         requires ydec { cfg.now.ydec ≤ 1 }

@@ -1,4 +1,4 @@
-//! What is the same for all blocks of a frame.
+//! The settings that all blocks of a frame share.
 
 ghost use Rattle.std.specs.Prelude.{◌≡◌, ◌/◌, ◌%◌, ◌<◌, ◌≤◌, IfOk, All, None, Some, slice_set, slice_index_or};
 ghost use Rattle.std.specs.Option.{option_map};
@@ -10,17 +10,17 @@ use crate::slots::{Slot, Slots};
 use av1_blocks::{FilterMode, OutOfMemory};
 use std::alloc::Global;
 
-/// What is the same for all blocks of a frame: its size, its depth, how it is predicted, and eight slots
-/// for the planes of frames before it.
+/// The settings that all blocks of a frame share: its size, its depth, how it is predicted, and eight slots for the
+/// planes of earlier frames.
 #[derive(Drop)]
 pub struct FrameInvariants<T> {
-    /// How many cells of 4 luma samples the frame is wide.
+    /// The width of the frame in cells of 4 luma samples.
     pub w_in_b: usize,
-    /// How many cells of 4 luma samples the frame is high.
+    /// The height of the frame in cells of 4 luma samples.
     pub h_in_b: usize,
     /// The interpolation filter.
     pub default_filter: FilterMode,
-    /// Whether the sharp filter gives way to the regular one along sides up to 4.
+    /// Whether the regular filter replaces the sharp one along sides up to 4.
     short_by_av1: bool,
     /// The depth of samples.
     pub bit_depth: usize,
@@ -61,8 +61,8 @@ impl<T: Pixel> FrameInvariants<T> {
         })
     }
 
-    /// Whether the sharp filter gives way to the regular one along sides up to 4, as in AV1. In rav1e, and in a new
-    /// frame, it gives way to the smooth one.
+    /// Whether the regular filter replaces the sharp one along sides up to 4, as in AV1. In rav1e, and in a new frame,
+    /// the smooth filter replaces it.
     #[inline]
     pub fn follows_av1(&self) -> bool
         ensures { result ≡ self.now.short_by_av1 }
@@ -70,8 +70,8 @@ impl<T: Pixel> FrameInvariants<T> {
         self.short_by_av1
     }
 
-    /// Says to what the sharp filter gives way along sides up to 4: where `yes`, to the regular one, as in AV1,
-    /// else to the smooth one, as in rav1e.
+    /// Chooses the filter that replaces the sharp one along sides up to 4: if `yes`, the regular one, as in AV1, else
+    /// the smooth one, as in rav1e.
     pub fn follow_av1(&mut self, yes: bool)
         ensures { self.new ≡ record self.old { short_by_av1 = yes } }
     {
@@ -86,7 +86,7 @@ impl<T: Pixel> FrameInvariants<T> {
         self.slots.set(slot, Slot { y, u, v });
     }
 
-    /// Puts the planes of a frame into slot `slot`, and gives those that stood there, where there were some.
+    /// Puts the planes of a frame into slot `slot`, and returns the planes that were there, if any.
     pub fn replace_slot(
         &mut self,
         slot: usize,
@@ -105,7 +105,7 @@ impl<T: Pixel> FrameInvariants<T> {
         }
     }
 
-    /// Plane `p` (0 for luma, 1 and 2 for chroma) of the frame in slot `slot`, where there is one.
+    /// Plane `p` (0 for luma, 1 and 2 for chroma) of the frame in slot `slot`, if there is one.
     pub fn slot(&self, slot: usize, p: usize) -> Option<&Plane<T>>
         requires slot { slot < 8 }
         requires plane { p < 3 }

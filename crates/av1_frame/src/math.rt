@@ -7,8 +7,8 @@ ghost use Rattle.av1_frame.specs.Slices.{within_pads};
 
 use crate::pixel::Pixel;
 
-/// `v` divided by 2 to the power of `bit` and rounded to the nearest number, up where two are equally near
-/// (the specification's Round2). The sum of `v` and half of that power fits.
+/// `v` divided by 2 to the power of `bit` and rounded to the nearest number, up if two are equally near (the
+/// specification's Round2). The sum of `v` and half of that power fits.
 pub fn round_shift(v: i32, bit: usize) -> i32
     requires small { bit ≤ 30 }
     requires fits { (v +ℤ pos (2 ^ bit / 2)) <ℤ pos (2 ^ 31) }

@@ -9,8 +9,8 @@ use crate::pixel::Pixel;
 use crate::plane::Plane;
 
 impl<T: Pixel> Plane<T> {
-    /// Makes each stored sample outside the visible rectangle that of the nearest visible place.
-    /// The visible samples and the settings stay.
+    /// Sets each stored sample outside the visible rectangle to the nearest visible sample. The visible samples and the
+    /// settings are unchanged.
     pub fn pad(&mut self)
         ensures all { self.new ≡ padded self.old }
         ensures samples { let cfg = self.old.plane_cfg in (x y : ℤ) → IsStoredPlace cfg x y →
@@ -43,7 +43,7 @@ impl<T: Pixel> Plane<T> {
         }
     }
 
-    /// Makes the samples left and right of the visible columns those of the nearest one, in each visible row.
+    /// Sets the samples left and right of the visible columns to the nearest visible one, in each visible row.
     fn pad_rows(&mut self)
         ensures { let cfg = self.old.plane_cfg
             in self.new ≡
@@ -65,7 +65,7 @@ impl<T: Pixel> Plane<T> {
     }
 }
 
-/// Makes the samples before and after the `width` from the place `first` on those of the nearest of these.
+/// Sets the samples before and after the `width` from position `first` on to the nearest of these.
 fn pad_row<T: Pixel>(row: &mut [T], first: usize, width: usize)
     requires some { 0 < width }
     requires fits { first + width ≤ length row.old }
@@ -76,7 +76,7 @@ fn pad_row<T: Pixel>(row: &mut [T], first: usize, width: usize)
     spread(row, first + width - 1, first + width, len);
 }
 
-/// Copies the sample at `from` to the places from `first` to before `end`.
+/// Copies the sample at `from` to the positions from `first` to before `end`.
 #[tactic(auto, using(crate::proofs::Gather::spread_none, crate::proofs::Gather::spread_more))]
 fn spread<T: Pixel>(row: &mut [T], from: usize, first: usize, end: usize)
     requires from { from < length row.old }

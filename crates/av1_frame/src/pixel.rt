@@ -8,7 +8,7 @@ ghost use Rattle.std.proofs.Common.{rules};
 ///
 /// In contracts `val` is the number of a coefficient, and `coefficient` the coefficient of a number.
 pub trait Coefficient: Copy {
-    /// How many bits a coefficient has, its sign among them.
+    /// The number of bits of a coefficient, including its sign.
     const BITS: usize;
 
     ghost BITS: { ℕ };
@@ -82,7 +82,7 @@ impl Coefficient for i32 {
 ///
 /// In contracts `num` is the number of a sample, and `pixel` the sample of a number.
 pub trait Pixel: Copy + Ord {
-    /// How many bits a sample has.
+    /// The number of bits of a sample.
     const BITS: usize;
 
     /// The coefficients of the transforms of blocks of these samples, twice as wide as they are.

@@ -18,21 +18,21 @@ use std::marker::Model;
 /// The settings of a plane, in samples.
 #[derive(Clone, Copy, Debug, PartialEq, Eq)]
 pub struct PlaneConfig {
-    /// How far apart in storage the rows stand.
+    /// The distance in storage between rows.
     pub stride: usize,
-    /// How many rows are stored.
+    /// The number of rows that are stored.
     pub alloc_height: usize,
-    /// How wide the visible rectangle is.
+    /// The width of the visible rectangle.
     pub width: usize,
-    /// How high the visible rectangle is.
+    /// The height of the visible rectangle.
     pub height: usize,
-    /// 1 where the plane has half as many columns as luma, else 0.
+    /// 1 if the plane has half as many columns as luma, else 0.
     pub xdec: usize,
-    /// 1 where the plane has half as many rows as luma, else 0.
+    /// 1 if the plane has half as many rows as luma, else 0.
     pub ydec: usize,
-    /// How many columns are stored on either side besides.
+    /// The number of further columns that are stored on either side.
     pub xpad: usize,
-    /// How many rows are stored above and below besides.
+    /// The number of further rows that are stored above and below.
     pub ypad: usize,
     /// The stored column of the first visible sample.
     pub xorigin: usize,
@@ -41,8 +41,8 @@ pub struct PlaneConfig {
 }
 
 impl PlaneConfig {
-    /// The settings of `rows` rows of samples that stand `stride` apart, of which the rectangle `visible` is visible.
-    /// They count no pads, and as many columns and rows as luma has: for others set the fields.
+    /// The settings of `rows` rows of samples that are `stride` apart, of which the rectangle `visible` is visible.
+    /// They have no pads, and as many columns and rows as luma; for other planes set the fields.
     pub fn bare(stride: usize, rows: usize, visible: StoredArea) -> PlaneConfig
         ensures { result ≡ bare_config stride rows visible }
     {
@@ -61,7 +61,7 @@ impl PlaneConfig {
     }
 }
 
-/// A place in a plane, counted in samples from the first visible one.
+/// A position in a plane, counted in samples from the first visible one.
 #[derive(Clone, Copy, Debug, PartialEq, Eq)]
 pub struct PlaneOffset {
     /// The column.
@@ -91,10 +91,10 @@ impl<T> Model for Plane<T> {
 }
 
 impl<T: Pixel> Plane<T> {
-    /// A plane of `width` by `height` visible samples, all of them and all others that are stored 0.
+    /// Allocates a plane of `width` by `height` visible samples. All samples are 0.
     ///
-    /// Storage is the sides rounded up to whole blocks of 64 luma samples, with `xpad` columns on either side
-    /// and `ypad` rows above and below. `xdec` and `ydec` are 1 where the plane has half of luma's columns or rows.
+    /// Storage is the width and height rounded up to whole blocks of 64 luma samples, with `xpad` columns on either
+    /// side and `ypad` rows above and below. `xdec` and `ydec` are 1 if the plane has half of luma's columns or rows.
     pub fn new(
         alloc: Global,
         width: usize,
@@ -132,7 +132,7 @@ impl<T: Pixel> Plane<T> {
         Ok(Plane { samples, plane_cfg })
     }
 
-    /// A plane of just the rows of `samples`, which are `stride` long: no pads and nothing rounded up.
+    /// A plane that has exactly the rows of `samples`, which are `stride` long: no pads and nothing rounded up.
     pub fn from_slice(alloc: Global, samples: &[T], stride: usize) -> Result<Plane<T>, OutOfMemory>
         requires some_columns { 0 < stride }
         requires few_columns { stride ≤ 65536 }
@@ -155,7 +155,8 @@ impl<T: Pixel> Plane<T> {
         Ok(Plane { samples, plane_cfg })
     }
 
-    /// Copies the `width` samples from the stored place `from` on to the stored place `to` on, which are others.
+    /// Copies the `width` samples from the stored position `from` on to the stored position `to` on. The two don't
+    /// overlap.
     pub(crate) fn copy_apart(&mut self, from: usize, to: usize, width: usize)
         requires from { from + width ≤ length self.old.samples }
         requires to { to + width ≤ length self.old.samples }
@@ -184,7 +185,7 @@ impl<T: Pixel> Plane<T> {
         self.plane_cfg
     }
 
-    /// Makes so many columns and rows visible, from the first visible sample on. The samples stay.
+    /// Makes `width` columns and `height` rows visible, from the first visible sample on. The samples are unchanged.
     pub fn set_sides(&mut self, width: usize, height: usize)
         requires { IsWhole (with_sides width height self.old) }
         ensures { self.new ≡ with_sides width height self.old }
@@ -200,7 +201,7 @@ impl<T: Pixel> Plane<T> {
         self.samples.as_slice()
     }
 
-    /// The `width` samples from the stored place `start` on, to write.
+    /// The `width` samples from the stored position `start` on, to write.
     pub(crate) fn part_mut(&mut self, start: usize, width: usize) -> &mut [T]
         requires { start + width ≤ length self.old.samples }
         ensures* writes_back { sem 𝓛 (LendsPlanePart T.row self.entry start result) }
@@ -210,7 +211,7 @@ impl<T: Pixel> Plane<T> {
         self.samples.part_mut(start, width)
     }
 
-    /// The place `po`, which may lie outside storage.
+    /// The position `po`, which may lie outside storage.
     pub fn slice(&self, po: PlaneOffset) -> PlaneSlice<'_, T>
         ensures samples { result.samples.now ≡ self.now.samples }
         ensures cfg { result.plane_cfg.now ≡ self.now.plane_cfg }
@@ -235,7 +236,7 @@ impl<T: Pixel> Plane<T> {
         })
     }
 
-    /// The visible rectangle, to read and write: what is written stands in the plane when the borrow ends.
+    /// The visible rectangle, to read and write: what is written is in the plane when the borrow ends.
     pub fn as_region_mut(&mut self) -> PlaneRegionMut<'_, T>
         ensures same_reference { result.plane.ghost_name ≡ self.entry.ghost_name }
         ensures plane { result.plane.now ≡ self.old }
@@ -264,7 +265,7 @@ impl<T: Pixel> Plane<T> {
         PlaneRegion::from_slice(self.samples.as_slice(), self.plane_cfg, area)
     }
 
-    /// The rectangle `area`, to read and write: what is written stands in the plane when the borrow ends.
+    /// The rectangle `area`, to read and write: what is written is in the plane when the borrow ends.
     /// A `Rect` counts from the first visible sample.
     pub fn region_mut(&mut self, area: Area) -> PlaneRegionMut<'_, T>
         requires area { IsStored self.old.plane_cfg area }

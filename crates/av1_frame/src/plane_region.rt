@@ -18,9 +18,9 @@ pub struct Rect {
     pub x: isize,
     /// The first row.
     pub y: isize,
-    /// How many columns.
+    /// The number of columns.
     pub width: usize,
-    /// How many rows.
+    /// The number of rows.
     pub height: usize,
 }
 
@@ -33,9 +33,9 @@ pub enum Area {
         x: isize,
         /// The first row.
         y: isize,
-        /// How many columns.
+        /// The number of columns.
         width: usize,
-        /// How many rows.
+        /// The number of rows.
         height: usize,
     },
     /// All from the cell `bo` of 4 luma samples on, to the right and lower end of storage or of the region.
@@ -66,9 +66,9 @@ pub struct StoredArea {
     pub x: usize,
     /// The first stored row.
     pub y: usize,
-    /// How many columns.
+    /// The number of columns.
     pub width: usize,
-    /// How many rows.
+    /// The number of rows.
     pub height: usize,
 }
 
@@ -151,7 +151,7 @@ pub struct PlaneRegion<'a, T> {
     pub(crate) rect: Rect,
 }
 
-/// A rectangle of a plane, to read and to write: what is written stands in the plane when the borrow ends.
+/// A rectangle of a plane, to read and to write: what is written is in the plane when the borrow ends.
 #[derive(Drop)]
 pub struct PlaneRegionMut<'a, T> {
     pub(crate) plane: &'a mut Plane<T>,

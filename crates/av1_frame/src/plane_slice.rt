@@ -1,4 +1,4 @@
-//! Places in stored samples, to read from.
+//! Positions in stored samples, to read from.
 
 ghost use Rattle.std.specs.Prelude.{◌≡◌, ◌-◌, ◌^◌, pos, ◌+ℤ◌, ◌-ℤ◌, ◌≤ℤ◌, ◌<ℤ◌, ◌<◌, length, FitsSigned, ⊤};
 ghost use Rattle.std.specs.Int.{w64};
@@ -60,8 +60,8 @@ impl<'a, T: Pixel> PlaneSlice<'a, T> {
         }
     }
 
-    /// The nearest place that is at most the pads left of and above the visible samples, and at most the
-    /// first column and row past them.
+    /// The nearest position that is at most the pads left of and above the visible samples, and at most the first
+    /// column and row past them.
     pub fn clamp(&self) -> PlaneSlice<'a, T>
         ensures { let cfg = self.now.plane_cfg.now
             in result ≡ record self.now { x = within_pads self.now.x cfg.xpad cfg.width; y = within_pads self.now.y cfg.ypad cfg.height } }
@@ -73,7 +73,7 @@ impl<'a, T: Pixel> PlaneSlice<'a, T> {
         place
     }
 
-    /// The place `xo` columns to the right and `yo` rows below.
+    /// The position `xo` columns to the right and `yo` rows below.
     pub fn subslice(&self, xo: usize, yo: usize) -> PlaneSlice<'a, T>
         requires column { FitsSigned w64 (self.now.x +ℤ pos xo) }
         requires row { FitsSigned w64 (self.now.y +ℤ pos yo) }
@@ -85,7 +85,7 @@ impl<'a, T: Pixel> PlaneSlice<'a, T> {
         place
     }
 
-    /// The place `i` rows above.
+    /// The position `i` rows above.
     pub fn go_up(&self, i: usize) -> PlaneSlice<'a, T>
         requires { FitsSigned w64 (self.now.y -ℤ pos i) }
         ensures { result ≡ record self.now { y = self.now.y -ℤ pos i } }
@@ -95,7 +95,7 @@ impl<'a, T: Pixel> PlaneSlice<'a, T> {
         place
     }
 
-    /// The place `i` columns to the left.
+    /// The position `i` columns to the left.
     pub fn go_left(&self, i: usize) -> PlaneSlice<'a, T>
         requires { FitsSigned w64 (self.now.x -ℤ pos i) }
         ensures { result ≡ record self.now { x = self.now.x -ℤ pos i } }
@@ -105,7 +105,7 @@ impl<'a, T: Pixel> PlaneSlice<'a, T> {
         place
     }
 
-    /// Row `r` from the place on: the samples from its column to the end of the stored row.
+    /// Row `r` from the position on: the samples from its column to the end of the stored row.
     #[tactic(auto, using(crate::proofs::Fits::row_end_le))]
     pub fn row(&self, r: usize) -> &[T]
         requires { RowIsStored self.now r }
@@ -118,7 +118,7 @@ impl<'a, T: Pixel> PlaneSlice<'a, T> {
         part_of(self.samples, start, stride - column)
     }
 
-    /// All that is stored from the place on: row `r` of it begins at `r * stride()`.
+    /// All that is stored from the position on: row `r` of it begins at `r * stride()`.
     #[inline]
     #[tactic(auto, using(crate::proofs::Fits::row_end_le))]
     pub fn samples(&self) -> &[T]
@@ -130,7 +130,7 @@ impl<'a, T: Pixel> PlaneSlice<'a, T> {
         rest
     }
 
-    /// How far apart in storage the rows stand.
+    /// The distance in storage between rows.
     #[inline]
     pub fn stride(&self) -> usize
         ensures { result ≡ self.now.plane_cfg.now.stride }
@@ -138,7 +138,7 @@ impl<'a, T: Pixel> PlaneSlice<'a, T> {
         self.plane_cfg.stride
     }
 
-    /// The stored column of the place.
+    /// The stored column of the position.
     fn stored_column(&self) -> usize
         requires left { let cfg = self.now.plane_cfg.now in pos 0 ≤ℤ (pos cfg.xorigin +ℤ self.now.x) }
         requires right { let cfg = self.now.plane_cfg.now in (pos cfg.xorigin +ℤ self.now.x) <ℤ pos cfg.stride }
@@ -148,7 +148,7 @@ impl<'a, T: Pixel> PlaneSlice<'a, T> {
         (self.plane_cfg.xorigin as isize + self.x) as usize
     }
 
-    /// The stored row of row `r` from the place on.
+    /// The stored row of row `r` from the position on.
     fn stored_row(&self, r: usize) -> usize
         requires top { let cfg = self.now.plane_cfg.now in pos 0 ≤ℤ (pos cfg.yorigin +ℤ (self.now.y +ℤ pos r)) }
         requires bottom { let cfg = self.now.plane_cfg.now in (pos cfg.yorigin +ℤ (self.now.y +ℤ pos r)) <ℤ pos cfg.alloc_height }

@@ -8,10 +8,10 @@ use crate::pixel::Pixel;
 use crate::plane_region::StoredArea;
 use std::alloc::{AllocError, Global};
 
-/// How many values are written at a time.
+/// The number of values that are written at a time.
 const RUN: usize = 512;
 
-/// The first `width` samples of the row become `value`.
+/// Sets the first `width` samples of the row to `value`.
 #[inline]
 #[tactic(auto, using(crate::proofs::Paint::row_painting))]
 pub fn fill_row<T: Copy>(row: &mut [T], value: T, width: usize)
@@ -23,7 +23,7 @@ pub fn fill_row<T: Copy>(row: &mut [T], value: T, width: usize)
     }
 }
 
-/// Each sample of the rectangle becomes `value`. The rows of `samples` stand `stride` apart.
+/// Sets each sample of the rectangle to `value`. The rows of `samples` are `stride` apart.
 #[inline(always)]
 #[tactic(auto, using(crate::proofs::Paint::rectangle_painting))]
 pub fn fill_area<T: Copy>(samples: &mut [T], stride: usize, area: StoredArea, value: T)
@@ -36,7 +36,7 @@ pub fn fill_area<T: Copy>(samples: &mut [T], stride: usize, area: StoredArea, va
     }
 }
 
-/// The first `width` samples of the row become those of `source`.
+/// Sets the first `width` samples of the row to those of `source`.
 #[inline]
 pub fn copy_row<T: Pixel>(row: &mut [T], source: &[T], width: usize)
     requires row_long { width ≤ length row.old }
@@ -46,7 +46,7 @@ pub fn copy_row<T: Pixel>(row: &mut [T], source: &[T], width: usize)
     row[..width].copy_from_slice(&source[..width]);
 }
 
-/// `value`, `count` times: room is taken once, and filled piece by piece.
+/// `value`, `count` times: memory is allocated once, and filled piece by piece.
 pub fn repeated<T: Copy>(alloc: Global, value: T, count: usize) -> Result<Vec<T>, AllocError>
     ensures items { IfOk result (λ values. values.items ≡ replicate count value) }
     ensures len { IfOk result (λ values. vec_len values ≡ count) }

@@ -9,7 +9,7 @@ use crate::plane::Plane;
 use std::alloc::{AllocError, Global};
 use std::marker::Model;
 
-/// How many slots there are.
+/// The number of slots.
 const SLOTS: usize = 8;
 
 /// The planes of a frame.
@@ -71,7 +71,7 @@ impl<T: Pixel> Slots<T> {
         self.slots[slot] = Some(frame);
     }
 
-    /// Puts a frame into slot `slot`, and gives the one that stood there, where there was one.
+    /// Puts a frame into slot `slot`, and returns the one that was there, if any.
     pub(crate) fn replace(&mut self, slot: usize, frame: Slot<T>) -> Option<Slot<T>>
         requires { slot < 8 }
         ensures value { result ≡ slice_index_or self.old slot None }
@@ -80,7 +80,7 @@ impl<T: Pixel> Slots<T> {
         self.slots[slot].replace(frame)
     }
 
-    /// The frame in slot `slot`, where there is one.
+    /// The frame in slot `slot`, if there is one.
     pub(crate) fn get(&self, slot: usize) -> Option<&Slot<T>>
         requires { slot < 8 }
         ensures { option_map (λ frame. frame.now) result ≡ slice_index_or self.now slot None }

@@ -40,7 +40,7 @@ impl<T> Storage<T> {
         self.samples.as_mut_slice()
     }
 
-    /// The `width` samples from the place `start` on, to write.
+    /// The `width` samples from position `start` on, to write.
     pub(crate) fn part_mut(&mut self, start: usize, width: usize) -> &mut [T]
         requires { start + width ≤ length self.old }
         ensures* writes_back { sem 𝓛 (LendsPart T.row self.entry start result) }
@@ -98,7 +98,7 @@ fn copy_apart_in<T: Pixel>(samples: &mut [T], from: usize, to: usize, width: usi
     }
 }
 
-/// The `width` samples of `s` from the place `start` on.
+/// The `width` samples of `s` from position `start` on.
 pub(crate) fn part_of<T>(s: &[T], start: usize, width: usize) -> &[T]
     requires { start + width ≤ length s.now }
     ensures value { result.now ≡ part start width s.now }

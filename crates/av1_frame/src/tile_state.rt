@@ -15,14 +15,14 @@ pub struct TileRect {
     pub x: usize,
     /// The first row.
     pub y: usize,
-    /// How many columns.
+    /// The number of columns.
     pub width: usize,
-    /// How many rows.
+    /// The number of rows.
     pub height: usize,
 }
 
 impl TileRect {
-    /// The place in the plane of a place `po` that counts from the tile's first sample.
+    /// The position in the plane of a position `po` that counts from the tile's first sample.
     pub fn to_frame_plane_offset(&self, po: PlaneOffset) -> PlaneOffset
         requires x { self.now.x < 2 ^ 63 }
         requires y { self.now.y < 2 ^ 63 }
@@ -38,7 +38,7 @@ impl TileRect {
     }
 }
 
-/// What a block is predicted from.
+/// The modes and references of a block.
 #[derive(Clone, Copy, Debug, PartialEq, Eq)]
 pub struct CodedBlockInfo {
     /// The mode of its luma samples.

@@ -1,16 +1,16 @@
--- Which interpolation filter is used: block inter prediction process.
+-- The choice of the interpolation filter: block inter prediction process.
 use Rattle.std.specs.Prelude.{ℕ, List, [], ℤ, Bool, true, nat_lt, if◌then◌else◌, slice_index_or}
 use Rattle.av1_blocks.specs.declared.mc.FilterMode.{FilterMode}
 use Rattle.av1_blocks.specs.declared.mc.FilterMode.TheVariants.{REGULAR, SMOOTH, SHARP, BILINEAR, SWITCHABLE}
 use Rattle.av1_blocks.specs.Filters.{filter_number, subpel_filters}
 
--- the mode that a frame's filter has along a side of a block: where `by_av1` says so, the regular one for the sharp one
--- along sides up to 4, as AV1 has it
+-- the filter of a frame along a side of a block. With `by_av1` the regular filter replaces the sharp one along sides up
+-- to 4, as in AV1
 abbrev pub mode_along : (by_av1 : Bool) → FilterMode → (side : ℕ) → FilterMode
 mode_along true SHARP side = if nat_lt 4 side then SHARP else REGULAR
 mode_along by_av1 mode side = mode
 
--- the family of a mode for sides up to 4, as rav1e has it
+-- the family of a mode for sides up to 4, as in rav1e
 abbrev pub short_family : FilterMode → ℕ
 short_family REGULAR = 4
 short_family SMOOTH = 5

@@ -1,4 +1,4 @@
--- Laws of motion compensation.
+-- Theorems about motion compensation.
 use Rattle.std.specs.Prelude.{◌≡◌, ℕ, ◌+◌, ◌^◌, ◌<◌, FitsSigned}
 use Rattle.std.specs.Int.{w16}
 use Rattle.av1_blocks.specs.declared.mc.FilterMode.{FilterMode}
@@ -6,8 +6,8 @@ use Rattle.av1_inter.specs.Filters.{filter_of}
 use Rattle.av1_inter.specs.Motion.{prepared, single}
 use Rattle.av1_blocks.specs.Depths.{IsDepth}
 
--- A reference that has one number wherever the taps for a sample stand gives that number, at every fraction and with
--- every filter: the weights of each filter sum to 128, and no rounding moves such a sum.
+-- If all samples under the taps of a sample have one value, the prediction is that value, at every fraction and with
+-- every filter. The weights of each filter sum to 128, and no rounding changes such a sum.
 abbrev pub ConstantsStay : Type 0
 ConstantsStay =
     (depth fx fy : ℕ) (mode_x mode_y : FilterMode) (width height : ℕ) (samples : ℕ → ℕ → ℕ) (r c value : ℕ) →

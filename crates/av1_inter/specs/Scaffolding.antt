@@ -1,4 +1,4 @@
--- What the crate's own functions promise one another on the way. No public contract cites this file.
+-- What the functions inside the crate promise one another. No public contract cites this file.
 use Rattle.std.specs.Prelude.{◌≡◌, ℕ, zero, suc, ◌+◌, ◌-◌, ◌*◌, ◌^◌, ◌≤◌, ◌<◌, ◌⊎◌, List, []}
 use Rattle.std.specs.Prelude.{◌∷◌, length, map, slice_index, nat_lt, if◌then◌else◌, ℤ, pos, negsuc, neg_ℤ, ◌+ℤ◌}
 use Rattle.std.specs.Prelude.{◌-ℤ◌, ◌*ℤ◌, ◌≤ℤ◌}
@@ -14,7 +14,7 @@ use Rattle.av1_frame.specs.Arithmetic.{clip}
 use Rattle.av1_inter.specs.Motion.{bias, entry, intermediate_bits, weighted}
 use Rattle.av1_inter.specs.Places.{AreWithinDepth}
 
--- the sums of a filter's positive weights, and of its negative ones without their sign
+-- the sum of a filter's positive weights, and then of its negative weights without their sign
 abbrev pub gains : List ℤ → ℕ
 gains [] = 0
 gains (pos n ∷ taps) = n + gains taps
@@ -25,8 +25,8 @@ losses [] = 0
 losses (pos n ∷ taps) = losses taps
 losses (negsuc n ∷ taps) = suc n + losses taps
 
--- eight even weights that sum to 128, of which the positive ones sum to at most 184 and the negative ones to at least
--- -56, as those of every filter do
+-- eight even weights that sum to 128. The positive ones sum to at most 184 and the negative ones to at least -56, as in
+-- every filter
 pub record IsFilter (taps : List ℤ) : Type 0 where
   pub size : length taps ≡ 8
   pub whole : gains taps ≡ 128 + losses taps
@@ -52,23 +52,23 @@ pub record IsWithin (n : ℕ) (z : ℤ) : Type 0 where
   pub low : neg_ℤ (pos n) ≤ℤ z
   pub high : z ≤ℤ pos n
 
--- a sum of eight numbers, each times half its weight: they stand `step` apart, from `start` on
+-- a sum of eight numbers, each times half its weight; the numbers are `step` apart, from `start` on
 abbrev pub sum_from : (halves : List ℤ) → (ℕ → ℤ) → (start step : ℕ) → ℤ
 sum_from halves number start step = weighted halves (λ t. number (start + t * step))
 
--- what such a sum becomes in 16 bits
+-- the value of such a sum in 16 bits
 abbrev pub settled : Rounding → ℤ → ℤ
 settled rounding sum = saturate_signed w16 (int_shr (sum +ℤ rounding.add) rounding.shift -ℤ rounding.bias)
 
--- how a rounding may be
+-- the roundings that occur
 pub record IsRounding (rounding : Rounding) : Type 0 where
   pub add : Between 0 512 rounding.add
   pub bias : Between 8192 16384 rounding.bias
   pub shift : (rounding.shift ≡ 2) ⊎
       ((rounding.shift ≡ 4) ⊎ ((rounding.shift ≡ 6) ⊎ ((rounding.shift ≡ 8) ⊎ (rounding.shift ≡ 10))))
 
--- The roundings at a depth. Values between the filters are moved up by 8192, so that they have no sign: since halved
--- weights sum to 64, that moves a sum of them up by 64 * 8192, which is taken off behind it.
+-- The roundings at a depth. Values between the filters are raised by 8192, so that they have no sign. Halved weights
+-- sum to 64, so a sum of such values is 64 * 8192 too great, which is subtracted afterwards.
 abbrev pub between_filters : ℕ → Rounding
 between_filters depth = record {
   add = pos (2 ^ (5 - intermediate_bits depth));
@@ -99,8 +99,8 @@ one_prepared depth = record {
 abbrev pub both_prepared : ℕ → Rounding
 both_prepared depth = record { add = pos 32; shift = 6; bias = pos 8192 +ℤ bias depth }
 
--- those of a block that gives samples, of one whose values go to the filter down the columns, and of one that is
--- prepared
+-- the roundings of a block that gives samples, of a block whose values go to the filter down the columns, and of a
+-- prepared block
 abbrev pub put_roundings : ℕ → Roundings
 put_roundings depth = record { rows = row_put depth; columns = column_put; both = both_put depth }
 
@@ -112,13 +112,13 @@ abbrev pub prepared_roundings : ℕ → Roundings
 prepared_roundings depth =
     record { rows = one_prepared depth; columns = one_prepared depth; both = both_prepared depth }
 
--- a rounding of sums that become values by one filter alone, among the roundings of a block: but for what is added
--- they are alike
+-- a rounding of sums that become values by only one filter, among the roundings of a block: all of these are alike
+-- except for what is added
 pub record IsAlone (roundings : Roundings) (rounding : Rounding) : Type 0 where
   pub shift : rounding.shift ≡ roundings.rows.shift
   pub bias : rounding.bias ≡ roundings.rows.bias
 
--- how each of a block's roundings may be
+-- the roundings of a block that occur
 pub record AreRoundings (roundings : Roundings) : Type 0 where
   pub rows : IsRounding roundings.rows
   pub columns : IsRounding roundings.columns
@@ -129,13 +129,13 @@ pub record AreRoundings (roundings : Roundings) : Type 0 where
 abbrev pub number_at : {T : Type 0} → (T → ℕ) → Strip T → ℕ → ℤ
 number_at num strip i = pos (slice_index (map num strip.source.now) i)
 
--- what a filter gives for row r and column c of a strip
+-- the value that a filter gives for row r and column c of a strip
 abbrev pub filtered : {T : Type 0} → (T → ℕ) → Strip T → Taps → (r c : ℕ) → ℤ
 filtered num strip taps r c =
     settled taps.rounding (sum_from taps.halves (number_at num strip)
     (taps.start + r * strip.source_stride + c) taps.step)
 
--- A filter that is laid on a strip: what it reads is stored, and has 15 bits at most.
+-- A filter that is laid on a strip: the numbers that it reads are stored, and have at most 15 bits.
 pub record IsLaid {T : Type 0} (num : T → ℕ) (strip : Strip T) (taps : Taps) : Type 0 where
   pub filter : IsFilter (doubled taps.halves)
   pub rounding : IsRounding taps.rounding
@@ -148,7 +148,7 @@ pub record IsLaid {T : Type 0} (num : T → ℕ) (strip : Strip T) (taps : Taps)
 abbrev pub sample_of : {T : Type 0} → (T → ℕ) → Strip T → (x y : ℕ) → ℕ
 sample_of num strip x y = slice_index (map num strip.source.now) (y * strip.source_stride + x)
 
--- A block whose taps are stored: 7 columns and 7 rows more than it has, with samples of the depth.
+-- A block whose taps are stored: 7 columns and 7 rows more than the block has, with samples of the depth.
 pub record IsBlock {T : Type 0} (num : T → ℕ) (block : Strip T) : Type 0 where
   pub wide : block.area.width ≤ 128
   pub high : block.area.height ≤ 128
@@ -161,8 +161,8 @@ pub record IsBlock {T : Type 0} (num : T → ℕ) (block : Strip T) : Type 0 whe
 abbrev pub halved : List ℤ → List ℤ
 halved taps = map (λ z. int_shr z 1) taps
 
--- What filters give for row r and column c of a block, over its samples and by halved weights: along its rows alone,
--- down its columns alone, and both, where the values of rows are kept as numbers of 15 bits.
+-- The values that filters give for row r and column c of a block, over its samples and by halved weights: only along
+-- its rows, only down its columns, and both ways. Between the two filters, values are kept as numbers of 15 bits.
 abbrev pub along : Rounding → List ℤ → (ℕ → ℕ → ℕ) → (y c : ℕ) → ℤ
 along rounding halves samples y c = settled rounding (weighted halves (λ t. pos (samples (c + t) y)))
 
@@ -179,21 +179,21 @@ value_of roundings depth zero (suc _) across down samples r c = down_alone round
 value_of roundings depth (suc _) (suc _) across down samples r c =
     both_ways roundings.both depth across down samples r c
 
--- halved weights along rows and down columns, of filters
+-- halved weights of filters along rows and down columns
 pub record AreFilters (halves : Halves) : Type 0 where
   pub across : IsFilter (doubled halves.across)
   pub down : IsFilter (doubled halves.down)
 
--- what they give for row r and column c of a block, one after the other
+-- the values that both filters give for row r and column c of a block, one after the other
 abbrev pub twice_filtered : {T : Type 0} → (T → ℕ) → Roundings → Strip T → Halves → (r c : ℕ) → ℤ
 twice_filtered num roundings block halves r c =
     both_ways roundings.both block.bit_depth halves.across halves.down (sample_of num block) r c
 
--- how many columns a strip may have
+-- the widths of strips
 abbrev pub IsStripWidth : ℕ → Type 0
 IsStripWidth n = (n ≡ 16) ⊎ ((n ≡ 8) ⊎ ((n ≡ 4) ⊎ (n ≡ 1)))
 
--- the place of a column among 16 of which those from 4 to 7 and those from 8 to 11 have changed places
+-- the place of a column among 16, if columns 4 to 7 and columns 8 to 11 are exchanged
 abbrev pub crossed : ℕ → ℕ
 crossed c = if nat_lt c 4 then c else (if nat_lt c 8 then c + 4 else (if nat_lt c 12 then c - 4 else c))
 
@@ -201,6 +201,6 @@ crossed c = if nat_lt c 4 then c else (if nat_lt c 8 then c + 4 else (if nat_lt 
 abbrev pub part_of : StoredArea → (x y width height : ℕ) → StoredArea
 part_of a x y width height = record { x = a.x + x; y = a.y + y; width = width; height = height }
 
--- so many columns of the first rows of a rectangle, from a column on
+-- `columns` columns of the first `rows` rows of a rectangle, from column `start` on
 abbrev pub strip_of : StoredArea → (start columns rows : ℕ) → StoredArea
 strip_of a start columns rows = record { x = a.x + start; y = a.y; width = columns; height = rows }

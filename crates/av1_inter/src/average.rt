@@ -1,6 +1,6 @@
 //! The average of two prepared blocks.
 //!
-//! Sums that 16 bits don't hold are cut to them: their samples are the greatest or the least in any case.
+//! Sums that 16 bits don't hold are cut to 16 bits: their samples are the greatest or the least in any case.
 //!
 //! AV1 specification: block inter prediction process, and the average of its two predictions.
 
@@ -17,7 +17,7 @@ use crate::copies::copy_each;
 use crate::rounding::{greatest, intermediate_bits};
 use av1_frame::{Pixel, PlaneRegionMut, StoredArea};
 
-/// The sum of two numbers, or the number of 16 bits that is nearest to it.
+/// The sum of two numbers, or the nearest number of 16 bits.
 #[inline(always)]
 fn held_sum(first: i16, second: i16) -> i16
     ensures { result ≡ saturate_signed w16 (first +ℤ second) }
@@ -27,7 +27,7 @@ fn held_sum(first: i16, second: i16) -> i16
         .min(32767) as i16
 }
 
-/// What the sum of two prepared values is moved up by: both biases, and half of what it is divided by.
+/// The number that is added to the sum of two prepared values: both biases, and half of the divisor.
 #[inline(always)]
 fn rise(bit_depth: usize) -> i16
     requires { IsDepth bit_depth }
@@ -49,11 +49,11 @@ fn raised(number: i16, rise: i16) -> i16
     requires { Between 0 16400 rise }
     ensures { result ≡ saturate_signed w16 (number +ℤ rise) }
 {
-    // Cut before the sum, it never leaves 16 bits.
+    // The number is cut before the sum, so the sum never leaves 16 bits.
     number.min(32767 - rise) + rise
 }
 
-/// The number of the sample of two prepared values.
+/// The number of the sample that is the average of two prepared values.
 #[inline(always)]
 fn average_number(first: i16, second: i16, bit_depth: usize) -> i16
     requires { IsDepth bit_depth }
@@ -65,7 +65,7 @@ fn average_number(first: i16, second: i16, bit_depth: usize) -> i16
         .min(greatest(bit_depth))
 }
 
-/// The sample of two prepared values.
+/// The sample that is the average of two prepared values.
 #[inline(always)]
 fn average_of<T: Pixel>(first: i16, second: i16, bit_depth: usize) -> T
     requires depths { IsDepth bit_depth }
@@ -75,7 +75,7 @@ fn average_of<T: Pixel>(first: i16, second: i16, bit_depth: usize) -> T
     T::from_u32(average_number(first, second, bit_depth) as u32)
 }
 
-/// The first `width` samples of the row become the averages of the values from `start` on.
+/// Sets the first `width` samples of the row to the averages of the values from `start` on.
 #[inline(always)]
 #[tactic(auto, using(av1_frame::proofs::Paint::row_painting))]
 fn average_row<T: Pixel>(
@@ -98,7 +98,7 @@ fn average_row<T: Pixel>(
     }
 }
 
-/// The same by an array of its own: then nothing that is read can be what is written.
+/// As `average_row`, through an array of its own, so that nothing that is read can be what is written.
 #[inline(always)]
 fn average_by_array<T: Pixel, const N: usize>(
     row: &mut [T],
@@ -120,8 +120,8 @@ fn average_by_array<T: Pixel, const N: usize>(
     copy_each::<T, N>(row, &line);
 }
 
-/// The first `width` samples of the row become the averages of the values from `start` on, by an array of its own
-/// unless `ANY` is true: there are `N` of them then.
+/// Sets the first `width` samples of the row to the averages of the values from `start` on. If `ANY` is false, `width`
+/// is `N`, and the averages go through an array.
 #[inline(always)]
 fn average_row_of<T: Pixel, const N: usize, const ANY: bool>(
     row: &mut [T],
@@ -147,8 +147,8 @@ fn average_row_of<T: Pixel, const N: usize, const ANY: bool>(
     }
 }
 
-/// The rectangle's samples become the averages of the values, which stand row by row. It has `N` columns unless `ANY`
-/// is true.
+/// Sets the samples of a rectangle to the averages of the values, which are stored row by row. The rectangle has `N`
+/// columns unless `ANY` is true.
 #[inline(never)]
 #[tactic(auto, using(av1_frame::proofs::Paint::rectangle_painting, av1_frame::proofs::Fits::row_end_le))]
 fn average_rows<T: Pixel, const N: usize, const ANY: bool>(
@@ -176,8 +176,8 @@ fn average_rows<T: Pixel, const N: usize, const ANY: bool>(
     }
 }
 
-/// Each sample of a rectangle becomes the average of its two prepared values, which stand row by row in `tmp1` and
-/// `tmp2`. The rows of `samples` stand `stride` apart.
+/// Sets each sample of a rectangle to the average of its two prepared values, which are stored row by row in `tmp1` and
+/// `tmp2`. The rows of `samples` are `stride` apart.
 pub fn mc_avg_to<T: Pixel>(
     samples: &mut [T],
     stride: usize,
@@ -211,8 +211,8 @@ pub fn mc_avg_to<T: Pixel>(
     }
 }
 
-/// Each sample of the first `height` rows and `width` columns of `dst` becomes the average of its two prepared values,
-/// which stand row by row in `tmp1` and `tmp2`.
+/// Sets each sample of the first `height` rows and `width` columns of `dst` to the average of its two prepared values,
+/// which are stored row by row in `tmp1` and `tmp2`.
 #[tactic(auto, using(av1_frame::proofs::Regions::region_lending))]
 pub fn mc_avg<T: Pixel>(
     dst: &mut PlaneRegionMut<'_, T>,

@@ -1,4 +1,4 @@
-//! A block that is filtered, at every fraction.
+//! A block that is filtered, for every fraction.
 //!
 //! AV1 specification: block inter prediction process.
 
@@ -16,7 +16,7 @@ use crate::writer::Writer;
 use av1_blocks::FilterMode;
 use av1_frame::Pixel;
 
-/// How far a block is moved, in sixteenths of a sample to the right and down, and the filters that it takes for that.
+/// How far a block is moved, in sixteenths of a sample to the right and down, and the filters for these directions.
 #[derive(Clone, Copy)]
 pub(crate) struct Moved {
     pub(crate) col_frac: i32,
@@ -25,7 +25,7 @@ pub(crate) struct Moved {
     pub(crate) mode_y: FilterMode,
 }
 
-/// The entries of a block that is moved by part of a sample.
+/// Writes the entries of a block that is moved by part of a sample.
 #[inline(always)]
 pub(crate) fn filter_block<T: Pixel, E: Copy, W: Writer<E>>(
     target: &mut [E],

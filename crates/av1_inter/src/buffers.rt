@@ -1,4 +1,4 @@
-//! Room for the two prepared blocks of a compound prediction.
+//! Buffers for the two prepared blocks of a compound prediction.
 
 ghost use Rattle.std.specs.Prelude.{◌≡◌, IfOk, pos, replicate, vec_len};
 
@@ -6,11 +6,11 @@ use av1_blocks::OutOfMemory;
 use av1_frame::repeated;
 use std::alloc::Global;
 
-/// How many entries the greatest block has.
+/// The number of entries of the largest block.
 const BUFFER_SIZE: usize = 128 * 128;
 
-/// The prepared values of a block from each of two references. It is made once, and each compound prediction writes it
-/// anew.
+/// The prepared values of a block from each of two references. It is allocated once, and each compound prediction
+/// overwrites it.
 #[derive(Debug, Drop)]
 pub struct InterCompoundBuffers {
     pub(crate) first: Vec<i16>,
@@ -20,7 +20,7 @@ pub struct InterCompoundBuffers {
 }
 
 impl InterCompoundBuffers {
-    /// Two buffers of 16,384 entries, all 0.
+    /// Allocates two buffers of 16,384 entries, all 0. The only error is running out of memory.
     pub fn new(alloc: Global) -> Result<InterCompoundBuffers, OutOfMemory>
         ensures first { IfOk result (λ buffers. buffers.first.items ≡ replicate 16384 (pos 0)) }
         ensures second { IfOk result (λ buffers. buffers.second.items ≡ replicate 16384 (pos 0)) }

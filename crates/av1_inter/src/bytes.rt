@@ -1,7 +1,7 @@
 //! Samples of one byte that are filtered in 16 bits.
 //!
-//! Every weight is even, so that half a sum of eight samples is the sum by halved weights: over samples of 8 bits it
-//! lies from -7140 to 23460, and so do the sums of its first products.
+//! Every weight is even, so half of a sum of eight samples is the sum by halved weights. Over samples of 8 bits it lies
+//! from -7140 to 23460, and so do the partial sums of its products.
 //!
 //! AV1 specification: block inter prediction process.
 
@@ -13,7 +13,7 @@ use crate::rounding::Rounding;
 use av1_blocks::SUBPEL_FILTER_SIZE;
 use av1_frame::Pixel;
 
-/// The sample at a place.
+/// The sample at a position.
 #[inline(always)]
 fn byte_at<T: Pixel>(source: &[T], place: usize) -> i16
     requires inside { place < length source.now }
@@ -24,8 +24,8 @@ fn byte_at<T: Pixel>(source: &[T], place: usize) -> i16
     source[place].to_i32() as i16
 }
 
-/// The sum of eight samples, each times its halved weight. The outer `ZEROS` weights on either side are 0, so that
-/// these products are left out.
+/// The sum of eight samples, each times its halved weight. The outer `ZEROS` weights on either side are 0, so their
+/// products are left out.
 #[inline(always)]
 fn weigh_bytes<const ZEROS: usize>(
     halves: &[i16; SUBPEL_FILTER_SIZE],
@@ -45,7 +45,7 @@ fn weigh_bytes<const ZEROS: usize>(
     sum
 }
 
-/// The sum of eight samples that stand `step` apart, each times its halved weight.
+/// The sum of eight samples that are `step` apart, each times its halved weight.
 #[inline(always)]
 fn sum_bytes<T: Pixel, const ZEROS: usize>(
     source: &[T],
@@ -74,7 +74,7 @@ fn sum_bytes<T: Pixel, const ZEROS: usize>(
     weigh_bytes::<ZEROS>(halves, values)
 }
 
-/// What such a sum becomes.
+/// The value of such a sum.
 #[inline(always)]
 fn settle_short(sum: i16, rounding: Rounding) -> i16
     requires rounding { IsRounding rounding }
@@ -84,7 +84,7 @@ fn settle_short(sum: i16, rounding: Rounding) -> i16
     ((sum + rounding.add) >> rounding.shift) - rounding.bias
 }
 
-/// What the sums from each of `N` places on become.
+/// The values of the sums from each of `N` positions on.
 #[inline(always)]
 pub(crate) fn filter_bytes<T: Pixel, const N: usize, const ZEROS: usize>(
     source: &[T],

@@ -1,4 +1,4 @@
-//! A block whose samples stand in its reference as they are.
+//! A block whose samples are in its reference unchanged.
 //!
 //! AV1 specification: block inter prediction process.
 
@@ -13,7 +13,7 @@ use crate::rounding::{intermediate_bits, prep_bias};
 use crate::strip::{Strip, part_at, strip_width};
 use av1_frame::{Pixel, copy_row};
 
-/// The first `N` samples of the row become those of `source`, one after another.
+/// Sets the first `N` samples of the row to those of `source`.
 #[inline(always)]
 #[tactic(auto, using(av1_frame::proofs::Paint::row_painting))]
 pub(crate) fn copy_each<E: Copy, const N: usize>(row: &mut [E], source: &[E])
@@ -27,7 +27,7 @@ pub(crate) fn copy_each<E: Copy, const N: usize>(row: &mut [E], source: &[E])
     }
 }
 
-/// The same by an array of its own: then nothing that is read can be what is written.
+/// As `copy_each`, through an array of its own, so that nothing that is read can be what is written.
 #[inline(always)]
 fn copy_by_array<T: Pixel, const N: usize>(row: &mut [T], source: &[T])
     requires row_long { N ≤ length row.old }
@@ -41,7 +41,7 @@ fn copy_by_array<T: Pixel, const N: usize>(row: &mut [T], source: &[T])
     copy_each::<T, N>(row, &line);
 }
 
-/// The same of twice as many, by an array for either half.
+/// As `copy_by_array`, of twice as many samples, by one array for each half.
 #[inline(always)]
 fn copy_by_halves<T: Pixel, const N: usize>(row: &mut [T], source: &[T])
     requires row_long { N + N ≤ length row.old }
@@ -56,7 +56,7 @@ fn copy_by_halves<T: Pixel, const N: usize>(row: &mut [T], source: &[T])
     copy_by_array::<T, N>(back, second);
 }
 
-/// The same of a row of a block. A loop over 64 samples would become two calls of a function that copies.
+/// As `copy_by_array`, of a row of a block. A loop over 64 samples would become two calls of a function that copies.
 #[inline(always)]
 fn copy_line<T: Pixel, const N: usize>(row: &mut [T], source: &[T])
     requires row_long { N ≤ length row.old }
@@ -72,7 +72,7 @@ fn copy_line<T: Pixel, const N: usize>(row: &mut [T], source: &[T])
     }
 }
 
-/// The samples of a block of `N` columns, whose rows are copied by a few moves.
+/// Writes the samples of a block of `N` columns, whose rows are copied by a few moves.
 #[tactic(auto, using(av1_frame::proofs::Paint::rectangle_painting))]
 fn copy_rows<T: Pixel, const N: usize>(samples: &mut [T], stride: usize, block: &Strip<'_, T>)
     requires rows { AreRows stride block.now.area (length samples.old) }
@@ -89,7 +89,7 @@ fn copy_rows<T: Pixel, const N: usize>(samples: &mut [T], stride: usize, block: 
     }
 }
 
-/// The same of a block of any width.
+/// Writes the samples of a block of any width.
 #[tactic(auto, using(av1_frame::proofs::Paint::rectangle_painting))]
 fn copy_any_rows<T: Pixel>(samples: &mut [T], stride: usize, block: &Strip<'_, T>)
     requires rows { AreRows stride block.now.area (length samples.old) }
@@ -103,7 +103,7 @@ fn copy_any_rows<T: Pixel>(samples: &mut [T], stride: usize, block: &Strip<'_, T
     }
 }
 
-/// The samples of a block that is not moved by part of a sample.
+/// Writes the samples of a block that is not moved by part of a sample.
 #[inline(always)]
 pub(crate) fn put_copy<T: Pixel>(samples: &mut [T], stride: usize, block: &Strip<'_, T>)
     requires rows { AreRows stride block.now.area (length samples.old) }
@@ -133,7 +133,7 @@ fn widen<T: Pixel>(sample: T, bit_depth: usize) -> i16
     value as i16
 }
 
-/// The same of the first `N` samples of a row.
+/// The first `N` samples of a row in the intermediate bits, less the bias.
 #[inline(always)]
 fn widen_row<T: Pixel, const N: usize>(source: &[T], bit_depth: usize) -> [i16; N]
     requires short { N ≤ 128 }
@@ -149,7 +149,7 @@ fn widen_row<T: Pixel, const N: usize>(source: &[T], bit_depth: usize) -> [i16; 
     values
 }
 
-/// The prepared values of a strip of `N` columns.
+/// Writes the prepared values of a strip of `N` columns.
 #[tactic(auto, using(av1_frame::proofs::Paint::rectangle_painting))]
 fn widen_rows<T: Pixel, const N: usize>(tmp: &mut [i16], stride: usize, strip: &Strip<'_, T>)
     requires rows { AreRows stride strip.now.area (length tmp.old) }
@@ -168,7 +168,7 @@ fn widen_rows<T: Pixel, const N: usize>(tmp: &mut [i16], stride: usize, strip: &
     }
 }
 
-/// The same of a strip of 16, 8, 4 or 1 columns.
+/// Writes the prepared values of a strip of 16, 8, 4 or 1 columns.
 fn widen_columns<T: Pixel>(tmp: &mut [i16], stride: usize, strip: &Strip<'_, T>)
     requires rows { AreRows stride strip.now.area (length tmp.old) }
     requires kind { IsStripWidth strip.now.area.width }
@@ -188,7 +188,7 @@ fn widen_columns<T: Pixel>(tmp: &mut [i16], stride: usize, strip: &Strip<'_, T>)
     }
 }
 
-/// The prepared values of a block that is not moved by part of a sample.
+/// Writes the prepared values of a block that is not moved by part of a sample.
 pub(crate) fn prepare_copy<T: Pixel>(tmp: &mut [i16], stride: usize, block: &Strip<'_, T>)
     requires rows { AreRows stride block.now.area (length tmp.old) }
     requires block { IsBlock T.num block.now }

@@ -10,9 +10,8 @@ ghost use Rattle.av1_inter.specs.Scaffolding.{AreZero, doubled, halved, IsFilter
 
 use av1_blocks::{FilterMode, SUBPEL_FILTER_SIZE, SUBPEL_FILTERS};
 
-/// The mode that a frame's filter has along a side of `length` samples. Where `by_av1` says so, the regular one takes
-/// the place of the sharp one along sides up to 4, as AV1 has it; rav1e's filters for such sides have the smooth one
-/// there.
+/// The filter of a frame along a side of `length` samples. With `by_av1` the regular filter replaces the sharp one
+/// along sides up to 4, as in AV1. rav1e has a smooth filter there.
 ///
 /// AV1 specification: block inter prediction process.
 #[inline(always)]
@@ -31,7 +30,7 @@ pub fn mode_along(by_av1: bool, mode: FilterMode, length: usize) -> FilterMode
     }
 }
 
-/// The family of a mode for sides up to 4, as rav1e has it.
+/// The family of a mode for sides up to 4, as in rav1e.
 fn short_family(mode: FilterMode) -> usize
     ensures { result ≡ short_family mode }
 {
@@ -87,8 +86,8 @@ fn halves_of(taps: &[i32; SUBPEL_FILTER_SIZE]) -> [i16; SUBPEL_FILTER_SIZE]
     halves
 }
 
-/// Half of each weight of the filter of a mode at `frac` sixteenths, along a side of `length` samples: those of the
-/// samples at the offsets -3 to 4, in parts of 64.
+/// Half of each weight of the filter of a mode at `frac` sixteenths, along a side of `length` samples. The weights
+/// belong to the samples at the offsets -3 to 4. The halves are in parts of 64.
 #[inline(always)]
 pub(crate) fn get_filter(mode: FilterMode, frac: i32, length: usize) -> [i16; SUBPEL_FILTER_SIZE]
     requires low { pos 0 ≤ℤ frac }
@@ -99,8 +98,8 @@ pub(crate) fn get_filter(mode: FilterMode, frac: i32, length: usize) -> [i16; SU
     halves_of(&taps_at(mode, frac, length))
 }
 
-/// How many of the outer weights are 0 on either side, counted up to 2: these are two in the filters for sides up to 4,
-/// and at least one in all others but the sharp one.
+/// The number of outer weights that are 0 on either side, counted up to 2. Filters for sides up to 4 have two, and all
+/// others have at least one, except the sharp filter.
 #[inline(always)]
 pub(crate) fn outer_zeros(halves: &[i16; SUBPEL_FILTER_SIZE]) -> usize
     ensures few { result ≤ 2 }

@@ -1,4 +1,4 @@
-//! Laws of motion compensation, for the crates above: they do nothing when they run.
+//! Theorems about motion compensation. Each function does nothing: its contract is the theorem.
 
 ghost use Rattle.std.specs.Prelude.{ℕ, ◌^◌, ◌<◌};
 ghost use Rattle.av1_blocks.specs.declared.mc.FilterMode.{FilterMode};
@@ -12,7 +12,7 @@ ghost use Rattle.av1_inter.specs.Reference.{IsPadded, ReferencePlane};
 
 use av1_frame::Pixel;
 
-/// A constant reference within the depth is predicted as that constant, whatever the fractions and the filters.
+/// A constant reference within the depth is predicted as this constant, for all fractions and filters.
 pub fn constant_references_stay()
     ensures { ConstantsStay }
 {}
@@ -22,14 +22,14 @@ pub fn prepared_values_fit()
     ensures { PreparedFits }
 {}
 
-/// What `Plane::pad` leaves of a whole plane is padded as references have to be: each stored sample outside the visible
-/// ones is that of the nearest visible place.
+/// A whole plane after `Plane::pad` is padded as references have to be: each stored sample outside the visible ones
+/// equals the nearest visible sample.
 pub fn padded_planes_serve<T: Pixel>()
     ensures { (plane : Plane T) → IsWhole plane → IsPadded T.num (padded plane) }
 {}
 
-/// A sample that is predicted from a reference whose visible samples lie within the depth lies within it too, whatever
-/// the vector. One that is predicted from two does in any case: their mean is clipped.
+/// A sample that is predicted from one reference lies within the depth if the reference's visible samples do, for every
+/// vector. A sample that is predicted from two always does, since their average is clipped.
 pub fn motion_lies_within()
     ensures single { (depth : ℕ) (mode : ℕ → FilterMode) (reference : ReferencePlane) (mv : MotionVector) (a : VisibleArea)
         (r c : ℕ) → 0 < reference.width → 0 < reference.height

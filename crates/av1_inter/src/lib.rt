@@ -1,51 +1,52 @@
-//! Motion compensation: the samples of a block from those of a reference, moved by a vector to a sixteenth of a sample.
+//! Motion compensation: the samples of a block from a reference, moved by a vector to a sixteenth of a sample.
 //!
 //! AV1 specification: block inter prediction process, rounding variables derivation process.
 //!
-//! The crate stands on `av1_blocks`, for the interpolation filters, and on `av1_frame`, for planes, regions and slices.
-//! Its functions have the names and the values of rav1e's.
+//! The crate takes the interpolation filters from `av1_blocks`, and planes, regions and slices from `av1_frame`. Its
+//! functions have the names and the values of rav1e's.
 //!
-//! To the crates above it promises:
-//! - `put_8tap` turns each sample of a block into `single` of `specs/Motion.antt`, over the stored samples round the
-//!   block's place in the reference, and leaves all others.
-//! - `prep_8tap` writes `prepared` of them row by row to the first entries of a buffer, and leaves the others.
-//! - `mc_avg` turns each sample of a block into `averaged` of two prepared values.
-//! - `put_8tap_to` and `mc_avg_to` do the same to a rectangle of a slice, in memory of any caller: `put_8tap` and
+//! Its promises:
+//! - `put_8tap` sets each sample of a block to `single` of `specs/Motion.antt`, over the stored samples round the
+//!   block's position in the reference. All other samples are unchanged.
+//! - `prep_8tap` writes `prepared` of them, row by row, to the first entries of a buffer. The others are unchanged.
+//! - `mc_avg` sets each sample of a block to `averaged` of two prepared values.
+//! - `put_8tap_to` and `mc_avg_to` do the same to a rectangle of a slice, in memory of any caller. `put_8tap` and
 //!   `mc_avg` lend them the samples of a region.
-//! - `predict_inter_single`, `predict_inter_compound` and `predict_inter` do the same over the planes in a frame's
-//!   slots, moved by vectors: `PredictsSingle` and `PredictsCompound` of `specs/Prediction.antt`. The planes are
-//!   padded, and whatever the vector, a place outside reads the nearest visible sample. Where the slot of a single
-//!   reference is empty nothing is written; what an empty slot gives to a compound prediction is not said.
+//! - `predict_inter_single`, `predict_inter_compound` and `predict_inter` predict a block from the planes in a frame's
+//!   slots, moved by vectors (`PredictsSingle` and `PredictsCompound` of `specs/Prediction.antt`). The planes are
+//!   padded, and for every vector a position outside the frame reads the nearest visible sample. If the slot of a
+//!   single reference is empty, nothing is written. What an empty slot gives to a compound prediction is left open.
 //! - `sixteenths` is the part of a sample by which a component of a vector moves a block: `sixteenths` of
 //!   `specs/Reference.antt`.
 //! - `constant_references_stay`, `prepared_values_fit`, `padded_planes_serve` and `motion_lies_within` are laws of
 //!   these definitions.
 //!
-//! `specs/Reference.antt` defines motion over a function of places, `moved_in`, and `specs/Prediction.antt` the samples
-//! of a plane's whole area, `single_prediction` and `compound_prediction`: words that need no plane in storage.
+//! `specs/Reference.antt` defines motion over a function of positions, `moved_in`. `specs/Prediction.antt` defines the
+//! samples of a plane's whole area, `single_prediction` and `compound_prediction`. These definitions need no plane in
+//! storage.
 //!
-//! No intermediate value wraps, and every prepared value fits 16 bits. No call but `InterCompoundBuffers::new`
-//! allocates, and no other can fail. Sides and places are counted in samples, vectors in eighths of a luma sample,
+//! No intermediate value wraps, and every prepared value fits 16 bits. Only `InterCompoundBuffers::new` allocates, and
+//! no other call can fail. Widths, heights and positions are counted in samples, vectors in eighths of a luma sample,
 //! fractions in sixteenths of a sample. A filter has eight taps, so a block needs 3 stored columns and rows before it
 //! and 4 after it, at every fraction.
 //!
-//! Which way a block takes hangs on its fractions, its sides and the bytes of a sample. `put_8tap` and `prep_8tap`
-//! share the filters, and a `Writer` makes samples or prepared values of what they give:
+//! Fractions, width and height, and the bytes of a sample choose the functions that compute a block. `put_8tap` and
+//! `prep_8tap` share the filters, and a `Writer` turns the filtered values into samples or prepared values:
 //!
 //! | fractions | sides | one byte a sample: 8 bits | two bytes: 8, 10 or 12 bits |
 //! |---|---|---|---|
 //! | none, put | a width of 4, 8, 16, 32, 64 or 128 | `put_copy`: `copy_rows` | the same |
 //! | none, put | any other width | `put_copy`: `copy_any_rows` | the same |
 //! | none, prepared | any: strips of 16, 8, 4 or 1 columns | `prepare_copy`: `widen_rows` | the same |
-//! | one alone | 4x4, by four weights | `filter_by`: `filter_four` or `filter_words` | as other sides |
-//! | across alone | any other: strips of 16 or 8 columns | `filter_once`: `filter_bytes` | `filter_once`: `filter_words` |
-//! | across alone | the rest: strips of 4 columns or 1 | `filter_once`: `filter_four` or `filter_words` | `filter_once`: `filter_words` |
-//! | down alone | the same strips | the same, in steps of a row | the same, in steps of a row |
+//! | only one | 4x4, by four weights | `filter_by`: `filter_four` or `filter_words` | as other sides |
+//! | only across | any other: strips of 16 or 8 columns | `filter_once`: `filter_bytes` | `filter_once`: `filter_words` |
+//! | only across | the rest: strips of 4 columns or 1 | `filter_once`: `filter_four` or `filter_words` | `filter_once`: `filter_words` |
+//! | only down | the same strips | the same, in steps of a row | the same, in steps of a row |
 //! | both | any: parts of 16 or 8 columns and up to 32 rows | `filter_twice`: `filter_bytes`, then `filter_words` | `filter_twice`: `filter_words`, twice |
 //! | both | the rest: parts of 4 columns or 1 | `filter_twice`: `filter_four` or `filter_words`, then `filter_words` | `filter_twice`: `filter_words`, twice |
 //!
-//! Within a sum the outer weights that are 0 are left out, up to two on either side: `outer_zeros` counts them.
-//! `filter_four` takes four bytes side by side that have four weights left.
+//! Within a sum, the outer weights that are 0 are left out, up to two on either side: `outer_zeros` counts them.
+//! `filter_four` computes four bytes side by side that have four weights left.
 #![tactic(auto)]
 
 mod average;

@@ -16,7 +16,7 @@ use crate::put::put_8tap;
 use av1_blocks::{FilterMode, MotionVector};
 use av1_frame::{FrameInvariants, Pixel, Plane, PlaneOffset, PlaneRegionMut, PlaneSlice};
 
-/// A rectangle of a plane that is predicted: where it begins, counted from the first visible sample, and its sides.
+/// A rectangle of a plane that is predicted: its position, counted from the first visible sample, its width and height.
 #[derive(Clone, Copy)]
 pub(crate) struct MovedArea {
     pub(crate) at: PlaneOffset,
@@ -24,8 +24,8 @@ pub(crate) struct MovedArea {
     pub(crate) height: usize,
 }
 
-/// The part of a sample, in sixteenths, by which a vector's component moves a block: the component is in eighths of a
-/// luma sample, and `decimation` is 1 where the plane has half as many samples along it, and else 0.
+/// The part of a sample, in sixteenths, by which a component of a vector moves a block. The component is in eighths of
+/// a luma sample. `decimation` is 1 if the plane has half as many samples in its direction, and else 0.
 ///
 /// AV1 specification: motion vector scaling process.
 pub fn sixteenths(component: i16, decimation: usize) -> i32
@@ -37,7 +37,7 @@ pub fn sixteenths(component: i16, decimation: usize) -> i32
     (i32::from(component) * scale).rem_euclid(16)
 }
 
-/// The column or row 3 before the one to which a component moves `at`. It saturates.
+/// The column or row 3 before the one to which a component moves `at`. The result saturates.
 fn moved_place(at: isize, component: i16, decimation: usize) -> isize
     requires { decimation ≤ 1 }
     ensures { result ≡ saturate_signed w64 (at +ℤ (whole_part component decimation -ℤ pos 3)) }
@@ -45,8 +45,8 @@ fn moved_place(at: isize, component: i16, decimation: usize) -> isize
     at.saturating_add(isize::from(component >> (3 + decimation)) - 3)
 }
 
-/// The place to which a vector moves a block at `at`. Past the pads all samples are those at the frame's side, so it
-/// stays within them.
+/// The position to which a vector moves a block at `at`, kept within the pads. Past the pads all samples are those at
+/// the frame's end.
 fn moved_slice<T: Pixel>(plane: &Plane<T>, at: PlaneOffset, mv: MotionVector) -> PlaneSlice<'_, T>
     requires padded { IsPadded T.num plane.now }
     requires xpad { 3 ≤ plane.now.plane_cfg.xpad }

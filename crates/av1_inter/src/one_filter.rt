@@ -1,6 +1,6 @@
 //! Blocks that are filtered along one direction: along their rows, or down their columns.
 //!
-//! Both are one loop. The eight samples of a sum stand 1 apart along a row, and as far apart as rows do down a column.
+//! Both are one loop. The eight samples of a sum are 1 apart along a row, and one row's distance apart down a column.
 //!
 //! AV1 specification: block inter prediction process.
 
@@ -18,7 +18,7 @@ use crate::words::{filter_four, filter_words};
 use crate::writer::Writer;
 use av1_frame::Pixel;
 
-/// What the filter gives for `N` columns from a place on. Bytes are filtered in 16 bits where they fill a vector.
+/// The values of the filter for `N` columns from a position on. Bytes are filtered in 16 bits if they fill a vector.
 #[inline(always)]
 fn filter_line<T: Pixel, const N: usize, const ZEROS: usize>(
     source: &[T],
@@ -44,7 +44,7 @@ fn filter_line<T: Pixel, const N: usize, const ZEROS: usize>(
     }
 }
 
-/// The first `N` entries of the row become those of the values.
+/// Sets the first `N` entries of the row to the entries of the values.
 #[inline(always)]
 #[tactic(auto, using(av1_frame::proofs::Paint::row_painting))]
 fn write_row<E: Copy, W: Writer<E>, const N: usize>(
@@ -63,8 +63,8 @@ fn write_row<E: Copy, W: Writer<E>, const N: usize>(
     }
 }
 
-/// The entries of row `r` of a strip of `N` columns become what a filter gives, whose outer `ZEROS` weights on either
-/// side are 0.
+/// Sets the entries of row `r` of a strip of `N` columns to the values of a filter, whose outer `ZEROS` weights on
+/// either side are 0.
 #[inline(always)]
 #[tactic(auto, using(av1_frame::proofs::Paint::rectangle_painting))]
 fn filter_row<T: Pixel, E: Copy, W: Writer<E>, const N: usize, const ZEROS: usize>(
@@ -95,8 +95,8 @@ fn filter_row<T: Pixel, E: Copy, W: Writer<E>, const N: usize, const ZEROS: usiz
     write_row::<E, W, N>(row, &values, strip.bit_depth);
 }
 
-/// The same taps. Where `ALONE` is true no other filter is laid, and a compiler knows how far its sums are shifted and
-/// what is taken off. For 16 columns of two-byte samples it isn't told: then it holds sums within their limits and cuts
+/// Returns the same taps. If `ALONE` is true, no other filter is laid, and the compiler knows the shift of its sums and
+/// the bias. For 16 columns of two-byte samples it doesn't know them: then it holds sums within their limits and cuts
 /// them to 16 bits in one step, and else in two.
 #[inline(always)]
 fn known_taps<T: Pixel, E: Copy, W: Writer<E>, const N: usize, const ALONE: bool>(
@@ -116,8 +116,8 @@ fn known_taps<T: Pixel, E: Copy, W: Writer<E>, const N: usize, const ALONE: bool
     known
 }
 
-/// The entries of a strip of `N` columns become what a filter gives, whose outer `ZEROS` weights on either side are 0.
-/// `ALONE` says that the block is filtered by no other.
+/// Sets the entries of a strip of `N` columns to the values of a filter, whose outer `ZEROS` weights on either side are
+/// 0. `ALONE` says that no other filter is applied to the block.
 #[inline(always)]
 #[tactic(auto, using(av1_frame::proofs::Paint::rectangle_painting))]
 fn filter_by<
@@ -147,8 +147,8 @@ fn filter_by<
     }
 }
 
-/// The same by any filter. It is a function of its own, to which the step between samples is a number like any other:
-/// eight samples side by side are then read at once, also where the next eight overlap them.
+/// As `filter_by`, for any filter. It is a function of its own, for which the step between samples is a number like any
+/// other. So eight samples side by side are read at once, even if the next eight overlap them.
 #[inline(never)]
 pub(crate) fn filter_strip<T: Pixel, E: Copy, W: Writer<E>, const N: usize, const ALONE: bool>(
     target: &mut [E],
@@ -175,7 +175,7 @@ pub(crate) fn filter_strip<T: Pixel, E: Copy, W: Writer<E>, const N: usize, cons
     }
 }
 
-/// The same of a strip of 16, 8, 4 or 1 columns.
+/// As `filter_strip`, for a strip of 16, 8, 4 or 1 columns.
 #[inline(always)]
 fn filter_columns<T: Pixel, E: Copy, W: Writer<E>>(
     target: &mut [E],
@@ -202,8 +202,8 @@ fn filter_columns<T: Pixel, E: Copy, W: Writer<E>>(
     }
 }
 
-/// The same of a block, strip by strip. One of 4x4 bytes that takes four weights is filtered in place: a compiler
-/// writes its four rows out.
+/// Filters a block, strip by strip. A block of 4x4 bytes with four weights is filtered in place: the compiler unrolls
+/// its four rows.
 #[inline(always)]
 pub(crate) fn filter_once<T: Pixel, E: Copy, W: Writer<E>>(
     target: &mut [E],

@@ -34,19 +34,20 @@ fn slot_of<T: Pixel>(fi: &FrameInvariants<T>, reference: RefType) -> usize
     fi.ref_frames[reference.to_index()] as usize
 }
 
-/// Whether it is a reference to another frame.
+/// Whether this is a reference to another frame.
 fn is_reference(reference: RefType) -> bool
     ensures { result ≡ is_reference reference }
 {
     !matches!(reference, RefType::INTRA_FRAME | RefType::NONE_FRAME)
 }
 
-/// Predicts a block from one reference: each sample of the first `height` rows and `width` columns of `dst` becomes
-/// that of plane `p` (0 for luma, 1 and 2 for chroma) of the reference, moved by `mv` and interpolated with the frame's
-/// filter. What the sharp filter is along sides up to 4, `follows_av1` of the frame says.
+/// Predicts a block from one reference. Each sample of the first `height` rows and `width` columns of `dst` becomes the
+/// sample of plane `p` (0 for luma, 1 and 2 for chroma) of the reference, moved by `mv` and interpolated with the
+/// frame's filter. `follows_av1` of the frame says what the sharp filter is along sides up to 4.
 ///
-/// The block begins at `po`, counted from the tile's first sample. The reference's plane is padded, and reads past its
-/// sides give the nearest visible sample, however far the vector leads. Where the slot is empty, nothing is written.
+/// The block begins at `po`, counted from the tile's first sample. The reference's plane is padded, and a position
+/// outside the frame gives the nearest visible sample, however far the vector leads. If the slot is empty, nothing is
+/// written.
 pub fn predict_inter_single<T: Pixel>(
     mode: PredictionMode,
     fi: &FrameInvariants<T>,
@@ -84,7 +85,7 @@ pub fn predict_inter_single<T: Pixel>(
     }
 }
 
-/// Prepares a block from one of two references, where its slot is filled.
+/// Prepares a block from one of two references, if its slot is filled.
 fn prepare_from<T: Pixel>(
     tmp: &mut [i16],
     fi: &FrameInvariants<T>,
@@ -108,7 +109,7 @@ fn prepare_from<T: Pixel>(
     }
 }
 
-/// Predicts a block from two references, over room for what is prepared of each.
+/// Predicts a block from two references, with a buffer for what is prepared of each.
 fn predict_over<T: Pixel>(
     tmp1: &mut [i16],
     tmp2: &mut [i16],
@@ -140,9 +141,9 @@ fn predict_over<T: Pixel>(
     mc_avg(dst, tmp1, tmp2, block.width, block.height, fi.bit_depth);
 }
 
-/// Predicts a block from two references: each sample of the first `height` rows and `width` columns of `dst` becomes
-/// the average of the two that `predict_inter_single` interpolates, which are rounded only then. Conditions and places
-/// are those of `predict_inter_single`. What a reference whose slot is empty gives is not said.
+/// Predicts a block from two references. Each sample of the first `height` rows and `width` columns of `dst` becomes
+/// the average of two values, which `predict_inter_single` would interpolate; they are rounded only then. Conditions
+/// and positions are those of `predict_inter_single`. The result is left open if a reference's slot is empty.
 pub fn predict_inter_compound<T: Pixel>(
     mode: PredictionMode,
     fi: &FrameInvariants<T>,
@@ -190,7 +191,7 @@ pub fn predict_inter_compound<T: Pixel>(
     );
 }
 
-/// Predicts a block from one reference, or from two where the second is one: neither `INTRA_FRAME` nor `NONE_FRAME`.
+/// Predicts a block from two references if the second is neither `INTRA_FRAME` nor `NONE_FRAME`, else from the first.
 pub fn predict_inter<T: Pixel>(
     mode: PredictionMode,
     fi: &FrameInvariants<T>,

@@ -16,12 +16,12 @@ use crate::writer::Prepared;
 use av1_blocks::FilterMode;
 use av1_frame::{Pixel, PlaneSlice, StoredArea};
 
-/// Prepares a block for the average with another: entry `r * width + c` of `tmp` becomes the value for row r and column
-/// c of the block at its place from `src` on, moved right by `col_frac` and down by `row_frac` sixteenths of a sample.
-/// It keeps more bits than a sample, and is moved down by a bias where the depth is over 8, so that it fits 16 bits.
-/// All other entries stay.
+/// Prepares a block for the average with another. Entry `r * width + c` of `tmp` becomes the value for row r and column
+/// c of the block at the position `src`, moved right by `col_frac` and down by `row_frac` sixteenths of a sample. The
+/// value has more bits than a sample. If the depth is over 8, a bias is subtracted, so that it fits 16 bits. All other
+/// entries are unchanged.
 ///
-/// The filters are those of `put_8tap`, and so is what has to be stored round the block.
+/// Filters and stored samples are as in `put_8tap`.
 pub fn prep_8tap<T: Pixel>(
     tmp: &mut [i16],
     src: PlaneSlice<'_, T>,

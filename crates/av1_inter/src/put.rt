@@ -19,12 +19,12 @@ use crate::writer::Samples;
 use av1_blocks::FilterMode;
 use av1_frame::{Pixel, PlaneRegionMut, PlaneSlice, StoredArea};
 
-/// Predicts the samples of a rectangle from one reference: each becomes the one at its place from `src` on, moved right
-/// by `col_frac` and down by `row_frac` sixteenths of a sample. The rows of `samples` stand `stride` apart.
+/// Predicts the samples of a rectangle from one reference. Each becomes the sample of the block at the position `src`,
+/// moved right by `col_frac` and down by `row_frac` sixteenths of a sample. The rows of `samples` are `stride` apart.
 ///
-/// `mode_x` filters along the rows and `mode_y` down the columns; a side up to 4 takes the filters for such sides. The
-/// sums are rounded once after each filter, and at the end clipped to the depth. From the place on 3 columns and rows
-/// before the block and 4 after it have to be stored, at every fraction.
+/// `mode_x` filters along the rows and `mode_y` down the columns; a side up to 4 has filters of its own. The sums are
+/// rounded once after each filter, and at the end clipped to the depth. At every fraction, 3 columns and rows before
+/// the block and 4 after it have to be stored.
 pub fn put_8tap_to<T: Pixel>(
     samples: &mut [T],
     stride: usize,
@@ -64,12 +64,12 @@ pub fn put_8tap_to<T: Pixel>(
     }
 }
 
-/// Predicts a block from one reference: each sample of the first `height` rows and `width` columns of `dst` becomes the
-/// one at its place from `src` on, moved right by `col_frac` and down by `row_frac` sixteenths of a sample.
+/// Predicts a block from one reference. Each sample of the first `height` rows and `width` columns of `dst` becomes the
+/// sample of the block at the position `src`, moved right by `col_frac` and down by `row_frac` sixteenths of a sample.
 ///
-/// `mode_x` filters along the rows and `mode_y` down the columns; a side up to 4 takes the filters for such sides. The
-/// sums are rounded once after each filter, and at the end clipped to the depth. From the place on 3 columns and rows
-/// before the block and 4 after it have to be stored, at every fraction.
+/// `mode_x` filters along the rows and `mode_y` down the columns; a side up to 4 has filters of its own. The sums are
+/// rounded once after each filter, and at the end clipped to the depth. At every fraction, 3 columns and rows before
+/// the block and 4 after it have to be stored.
 #[tactic(auto, using(av1_frame::proofs::Regions::region_lending))]
 pub fn put_8tap<T: Pixel>(
     dst: &mut PlaneRegionMut<'_, T>,

@@ -1,11 +1,11 @@
-//! How sums are rounded.
+//! The rounding of sums.
 //!
-//! All weights are even, and sums are formed by half of each. So a sum that the specification shifts by 7 is shifted by
-//! 6 here, and where it rounds twice, along a row of one reference, both are one: `(s + 32 + h) >> 6`, where h is half
-//! of the first step.
+//! All weights are even, and sums are formed with half of each. So a sum that the specification shifts by 7 is shifted
+//! by 6 here. The specification rounds twice along a row of one reference; here one step does both: `(s + 32 + h) >>
+//! 6`, with half of the first step as h.
 //!
-//! Between the two filters values are moved up by 8192, so that they have no sign, as samples have none. Halved weights
-//! sum to 64: so a sum of such values is 64 * 8192 too great, which is taken off behind it.
+//! Between the two filters values are raised by 8192, so that they have no sign, as samples have none. Halved weights
+//! sum to 64, so a sum of such values is 64 * 8192 too great, which is subtracted afterwards.
 //!
 //! AV1 specification: rounding variables derivation process.
 
@@ -15,8 +15,8 @@ ghost use Rattle.av1_inter.specs.Motion.{bias, intermediate_bits};
 ghost use Rattle.av1_inter.specs.Scaffolding.{AreRoundings, IsRounding, between_filters, both_prepared, both_put, column_put, kept_roundings, one_prepared};
 ghost use Rattle.av1_inter.specs.Scaffolding.{prepared_roundings, put_roundings, row_put};
 
-/// What a sum by halved weights becomes: `add` is added, the sum is shifted down by `shift` bits, and `bias` is taken
-/// off.
+/// The rounding of a sum by halved weights: `add` is added, the sum is shifted down by `shift` bits, and `bias` is
+/// subtracted.
 #[derive(Clone, Copy)]
 pub(crate) struct Rounding {
     pub(crate) add: i16,
@@ -24,8 +24,8 @@ pub(crate) struct Rounding {
     pub(crate) bias: i16,
 }
 
-/// How the sums of a block become values: those along its rows where it is filtered so alone, those down its columns
-/// alone, and those down the columns of filtered rows.
+/// The roundings of the sums of a block: along its rows if only they are filtered, down its columns if only they are,
+/// and down the columns of filtered rows.
 #[derive(Clone, Copy)]
 pub(crate) struct Roundings {
     pub(crate) rows: Rounding,
@@ -33,7 +33,7 @@ pub(crate) struct Roundings {
     pub(crate) both: Rounding,
 }
 
-/// How many bits more than samples the values between the two filters have.
+/// The number of bits that values between the two filters have more than samples.
 #[inline(always)]
 pub(crate) fn intermediate_bits(bit_depth: usize) -> usize
     ensures value { result ≡ intermediate_bits bit_depth }
@@ -42,7 +42,7 @@ pub(crate) fn intermediate_bits(bit_depth: usize) -> usize
     if bit_depth == 12 { 2 } else { 4 }
 }
 
-/// What is taken from a prepared value, so that it fits 16 bits.
+/// What is subtracted from a prepared value, so that it fits 16 bits.
 #[inline(always)]
 pub(crate) fn prep_bias(bit_depth: usize) -> i16
     ensures { result ≡ bias bit_depth }
@@ -65,7 +65,7 @@ pub(crate) fn greatest(bit_depth: usize) -> i16
     }
 }
 
-/// Of a row, on its way to the filter down the columns.
+/// The rounding of a row, before the filter down the columns.
 #[inline(always)]
 pub(crate) fn between_filters(bit_depth: usize) -> Rounding
     requires { IsDepth bit_depth }
@@ -87,7 +87,7 @@ pub(crate) fn between_filters(bit_depth: usize) -> Rounding
     }
 }
 
-/// Of a row that gives samples.
+/// The rounding of a row that gives samples.
 #[inline(always)]
 fn row_put(bit_depth: usize) -> Rounding
     requires { IsDepth bit_depth }
@@ -101,7 +101,7 @@ fn row_put(bit_depth: usize) -> Rounding
     }
 }
 
-/// Of a column that gives samples.
+/// The rounding of a column that gives samples.
 #[inline(always)]
 fn column_put() -> Rounding
     ensures value { result ≡ column_put }
@@ -114,7 +114,7 @@ fn column_put() -> Rounding
     }
 }
 
-/// Of a column of filtered rows that gives samples.
+/// The rounding of a column of filtered rows that gives samples.
 #[inline(always)]
 fn both_put(bit_depth: usize) -> Rounding
     requires { IsDepth bit_depth }
@@ -136,7 +136,7 @@ fn both_put(bit_depth: usize) -> Rounding
     }
 }
 
-/// Of a row or a column that is prepared.
+/// The rounding of a row or a column that is prepared.
 #[inline(always)]
 fn one_prepared(bit_depth: usize) -> Rounding
     requires { IsDepth bit_depth }
@@ -151,7 +151,7 @@ fn one_prepared(bit_depth: usize) -> Rounding
     }
 }
 
-/// Of a column of filtered rows that is prepared.
+/// The rounding of a column of filtered rows that is prepared.
 #[inline(always)]
 fn both_prepared(bit_depth: usize) -> Rounding
     requires { IsDepth bit_depth }
@@ -165,7 +165,7 @@ fn both_prepared(bit_depth: usize) -> Rounding
     }
 }
 
-/// Of a block that gives samples.
+/// The roundings of a block that gives samples.
 #[inline(always)]
 pub(crate) fn put_roundings(bit_depth: usize) -> Roundings
     requires { IsDepth bit_depth }
@@ -179,7 +179,7 @@ pub(crate) fn put_roundings(bit_depth: usize) -> Roundings
     }
 }
 
-/// Of a block whose values go to the filter down the columns, whichever way they were filtered.
+/// The roundings of a block whose values go to the filter down the columns.
 #[inline(always)]
 pub(crate) fn kept_roundings(bit_depth: usize) -> Roundings
     requires { IsDepth bit_depth }
@@ -194,7 +194,7 @@ pub(crate) fn kept_roundings(bit_depth: usize) -> Roundings
     }
 }
 
-/// Of a block that is prepared.
+/// The roundings of a block that is prepared.
 #[inline(always)]
 pub(crate) fn prepared_roundings(bit_depth: usize) -> Roundings
     requires { IsDepth bit_depth }

@@ -9,21 +9,21 @@ use crate::rounding::Rounding;
 use av1_blocks::SUBPEL_FILTER_SIZE;
 use av1_frame::{Pixel, PlaneSlice, StoredArea};
 
-/// A rectangle that is filtered, and what it is filtered from.
+/// A rectangle that is filtered, and the samples that it is filtered from.
 #[derive(Clone, Copy)]
 pub(crate) struct Strip<'a, T> {
-    /// Where its values are written.
+    /// The rectangle to which its values are written.
     pub(crate) area: StoredArea,
-    /// All that is stored from 3 columns left of and 3 rows above its place in the reference on.
+    /// All stored samples from the position 3 columns left of and 3 rows above its position in the reference on.
     pub(crate) source: &'a [T],
-    /// How far apart the rows of `source` stand.
+    /// The distance between the rows of `source`.
     pub(crate) source_stride: usize,
-    /// How many bits a sample has.
+    /// The number of bits of a sample.
     pub(crate) bit_depth: usize,
 }
 
-/// A filter that is laid on a strip. The eight samples for row `r` and column `c` stand `step` apart, from `start` and
-/// r rows and c columns on; half of each weight is in `halves`.
+/// A filter that is laid on a strip. The eight samples for row `r` and column `c` are `step` apart, from the position r
+/// rows and c columns after `start` on. `halves` has half of each weight.
 #[derive(Clone, Copy)]
 pub(crate) struct Taps {
     pub(crate) start: usize,
@@ -58,7 +58,7 @@ pub(crate) fn block_at<'a, T: Pixel>(
     }
 }
 
-/// The part of a block that begins at column `x` and row `y` of it.
+/// The part of a block that begins at its column `x` and row `y`.
 #[inline(always)]
 pub(crate) fn part_at<'a, T: Pixel>(
     block: &Strip<'a, T>,
@@ -93,7 +93,7 @@ pub(crate) fn part_at<'a, T: Pixel>(
     }
 }
 
-/// How many columns the next strip has, where so many are left: 16 at most.
+/// The width of the next strip if `left` columns are left: at most 16.
 #[inline(always)]
 pub(crate) fn strip_width(left: usize) -> usize
     requires { 0 < left }

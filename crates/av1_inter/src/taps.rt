@@ -1,4 +1,4 @@
-//! Where the taps for a block begin.
+//! The position at which the taps for a block begin.
 //!
 //! AV1 specification: block inter prediction process.
 
@@ -7,7 +7,7 @@ ghost use Rattle.av1_inter.specs.Places.{AreWithinDepth, corner_of, IsStoredFrom
 
 use av1_frame::{Pixel, PlaneSlice};
 
-/// The place 3 columns to the left of a block and 3 rows above it.
+/// The position 3 columns to the left of a block and 3 rows above it.
 #[inline(always)]
 pub(crate) fn taps_of_block<T: Pixel>(src: PlaneSlice<'_, T>) -> PlaneSlice<'_, T>
     requires { (columns : ℕ) × (rows : ℕ) × IsStoredFrom (corner_of src) columns rows }

@@ -1,8 +1,8 @@
 //! Blocks that are filtered along their rows, and then down their columns.
 //!
-//! Both steps are those of one filter. What the first one gives is kept as samples of 15 bits, from which the second
-//! one reads. A block is cut into parts of up to 16 columns and 32 rows, so that what is kept of a part is small; a
-//! part keeps 7 rows more than it has.
+//! Both steps are those of one filter. The values of the first step are kept as samples of 15 bits, which the second
+//! step reads. A block is cut into parts of up to 16 columns and 32 rows, so that few values are kept; 7 rows more are
+//! kept than the part has.
 //!
 //! AV1 specification: block inter prediction process.
 
@@ -18,13 +18,13 @@ use crate::writer::{Between, Writer};
 use av1_blocks::SUBPEL_FILTER_SIZE;
 use av1_frame::{Pixel, StoredArea};
 
-/// How many columns a part has at most.
+/// The greatest number of columns of a part.
 const COLUMNS: usize = 16;
 
-/// How many rows a part has at most.
+/// The greatest number of rows of a part.
 const ROWS: usize = 32;
 
-/// How many values are kept of a part.
+/// The greatest number of values that are kept of a part.
 const KEPT: usize = COLUMNS * (ROWS + 7);
 
 /// Halved weights along rows and down columns.
@@ -34,7 +34,7 @@ pub(crate) struct Halves {
     pub(crate) down: [i16; SUBPEL_FILTER_SIZE],
 }
 
-/// The entries of a part of `N` columns.
+/// Writes the entries of a part of `N` columns.
 fn filter_part<T: Pixel, E: Copy, W: Writer<E>, const N: usize>(
     target: &mut [E],
     stride: usize,
@@ -85,7 +85,7 @@ fn filter_part<T: Pixel, E: Copy, W: Writer<E>, const N: usize>(
     filter_strip::<u16, E, W, N, false>(target, stride, &columns, &down);
 }
 
-/// The same of a part of 16, 8, 4 or 1 columns.
+/// Writes the entries of a part of 16, 8, 4 or 1 columns.
 fn filter_part_of<T: Pixel, E: Copy, W: Writer<E>>(
     target: &mut [E],
     stride: usize,
@@ -112,7 +112,7 @@ fn filter_part_of<T: Pixel, E: Copy, W: Writer<E>>(
     }
 }
 
-/// The same of a strip of 16, 8, 4 or 1 columns, part by part.
+/// Writes the entries of a strip of 16, 8, 4 or 1 columns, part by part.
 fn filter_parts<T: Pixel, E: Copy, W: Writer<E>>(
     target: &mut [E],
     stride: usize,
@@ -136,7 +136,7 @@ fn filter_parts<T: Pixel, E: Copy, W: Writer<E>>(
     }
 }
 
-/// The same of a block, strip by strip.
+/// Writes the entries of a block, strip by strip.
 pub(crate) fn filter_twice<T: Pixel, E: Copy, W: Writer<E>>(
     target: &mut [E],
     stride: usize,

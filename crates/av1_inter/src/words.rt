@@ -1,8 +1,8 @@
-//! Samples that are filtered in 32 bits, two products at a time: those of two bytes, and those of one byte where fewer
+//! Samples that are filtered in 32 bits, two products at a time: samples of two bytes, and samples of one byte if fewer
 //! than 8 columns are filtered at once.
 //!
-//! A machine multiplies eight or 16 numbers of 16 bits by as many others and adds each two neighbouring products in one
-//! step. So the samples that two of the weights belong to are put side by side, for eight or 16 columns at once.
+//! In one step, a machine multiplies eight or 16 numbers of 16 bits by as many others and adds each two neighbouring
+//! products. So the samples of two weights are put side by side, for eight or 16 columns at once.
 //!
 //! AV1 specification: block inter prediction process.
 
@@ -15,30 +15,30 @@ use av1_blocks::SUBPEL_FILTER_SIZE;
 use av1_frame::Pixel;
 use std::simd::prelude::*;
 
-/// The places of all lanes of two vectors of eight.
+/// The positions of all lanes of two vectors of eight.
 const EACH: [usize; 16] = [0, 1, 2, 3, 4, 5, 6, 7, 8, 9, 10, 11, 12, 13, 14, 15];
 
-/// The places of all lanes of two vectors of sixteen.
+/// The positions of all lanes of two vectors of sixteen.
 const EACH_OF_32: [usize; 32] = [
     0, 1, 2, 3, 4, 5, 6, 7, 8, 9, 10, 11, 12, 13, 14, 15, 16, 17, 18, 19, 20, 21, 22, 23, 24, 25,
     26, 27, 28, 29, 30, 31,
 ];
 
-/// The lanes of two vectors of eight side by side: those of columns 0 to 3, and those of the others.
+/// The lanes of two vectors of eight, interleaved: columns 0 to 3, and then the others.
 const LOW: [usize; 8] = [0, 8, 1, 9, 2, 10, 3, 11];
 
 const HIGH: [usize; 8] = [4, 12, 5, 13, 6, 14, 7, 15];
 
-/// The lanes of two vectors of sixteen side by side: those of columns 0 to 3 and 8 to 11, and those of the others. A
-/// register of 256 bits puts side by side what stands in each of its halves.
+/// The lanes of two vectors of sixteen, interleaved: columns 0 to 3 and 8 to 11, and then the others. A register of 256
+/// bits interleaves each of its halves separately.
 const NEAR: [usize; 16] = [0, 16, 1, 17, 2, 18, 3, 19, 8, 24, 9, 25, 10, 26, 11, 27];
 
 const FAR: [usize; 16] = [4, 20, 5, 21, 6, 22, 7, 23, 12, 28, 13, 29, 14, 30, 15, 31];
 
-/// Where the columns 0 to 15 stand among the columns of `NEAR` with those of `FAR` behind them.
+/// The positions of the columns 0 to 15 if the columns of `FAR` follow those of `NEAR`.
 const IN_ORDER: [usize; 16] = [0, 1, 2, 3, 8, 9, 10, 11, 4, 5, 6, 7, 12, 13, 14, 15];
 
-/// Sample `c` of the `N` from a place on, and 0 behind them.
+/// Sample `c` of the `N` samples from a position on, and 0 after them.
 #[inline(always)]
 fn sample_or_none<T: Pixel, const N: usize>(source: &[T], start: usize, c: usize) -> i32
     requires reach { start + N ≤ length source.now }
@@ -47,7 +47,7 @@ fn sample_or_none<T: Pixel, const N: usize>(source: &[T], start: usize, c: usize
     if c < N { source[start + c].to_i32() } else { 0 }
 }
 
-/// `N` samples from a place on, and 0 behind them.
+/// `N` samples from a position on, and 0 after them.
 #[inline(always)]
 fn eight_from<T: Pixel, const N: usize>(source: &[T], start: usize) -> [i16; 8]
     requires reach { start + N ≤ length source.now }
@@ -62,7 +62,7 @@ fn eight_from<T: Pixel, const N: usize>(source: &[T], start: usize) -> [i16; 8]
     i32x8::from_array(values).cast::<i16>().to_array()
 }
 
-/// Each of eight numbers times a weight, and the one at the same place of eight others times another.
+/// Each of eight numbers times a weight, plus the number at the same position of eight others times another weight.
 #[inline(always)]
 fn pair_sums(first: [i16; 8], second: [i16; 8], weight: i16, other: i16) -> [i32; 8]
     requires first { (c : ℕ) → c < 8 → Between 0 32767 (entry first c) }
@@ -76,7 +76,7 @@ fn pair_sums(first: [i16; 8], second: [i16; 8], weight: i16, other: i16) -> [i32
     let low: i16x8 = first.shuffle(second, LOW);
     let high: i16x8 = first.shuffle(second, HIGH);
     let weights = i16x8::from_array([weight, other, weight, other, weight, other, weight, other]);
-    // Both factors are widened at once: weights by themselves would be widened before a loop, and narrowed in it again.
+    // Both factors are widened at the same time: a compiler would widen weights before a loop, and narrow them in it.
     let low: i16x16 = low.shuffle(weights, EACH);
     let high: i16x16 = high.shuffle(weights, EACH);
     let low = low.cast::<i32>();
@@ -88,7 +88,7 @@ fn pair_sums(first: [i16; 8], second: [i16; 8], weight: i16, other: i16) -> [i32
     low.shuffle(high, [0, 1, 2, 3, 4, 5, 6, 7]).to_array()
 }
 
-/// The sample at a place.
+/// The sample at a position.
 #[inline(always)]
 fn sample_at<T: Pixel>(source: &[T], place: usize) -> i32
     requires { place < length source.now }
@@ -97,7 +97,7 @@ fn sample_at<T: Pixel>(source: &[T], place: usize) -> i32
     source[place].to_i32()
 }
 
-/// 16 samples from a place on.
+/// 16 samples from a position on.
 #[inline(always)]
 fn sixteen_from<T: Pixel>(source: &[T], start: usize) -> [i16; 16]
     requires reach { start + 16 ≤ length source.now }
@@ -112,8 +112,8 @@ fn sixteen_from<T: Pixel>(source: &[T], start: usize) -> [i16; 16]
     i32x16::from_array(values).cast::<i16>().to_array()
 }
 
-/// Each of 16 numbers times a weight, and the one at the same place of 16 others times another. Those of the columns 0
-/// to 3 and 8 to 11 stand before the others: `crossed` says where.
+/// Each of 16 numbers times a weight, plus the number at the same position of 16 others times another weight. Columns 0
+/// to 3 and 8 to 11 come before the others, as `crossed` says.
 #[inline(always)]
 fn wide_pair_sums(first: [i16; 16], second: [i16; 16], weight: i16, other: i16) -> [i32; 16]
     requires first { (c : ℕ) → c < 16 → Between 0 32767 (entry first c) }
@@ -143,7 +143,7 @@ fn wide_pair_sums(first: [i16; 16], second: [i16; 16], weight: i16, other: i16) 
     near.shuffle(far, EACH).to_array()
 }
 
-/// Two of the eight products of a sum, added: those of the halved weights `at` and `at + 1`, from each of `N` places
+/// The sum of two of the eight products of a sum, for the halved weights `at` and `at + 1`, from each of `N` positions
 /// on.
 #[inline(always)]
 fn pair_from<T: Pixel, const N: usize>(
@@ -170,7 +170,7 @@ fn pair_from<T: Pixel, const N: usize>(
     )
 }
 
-/// The same from each of 16 places on, in crossed order.
+/// As `pair_from`, from each of 16 positions on, in crossed order.
 #[inline(always)]
 fn wide_pair_from<T: Pixel>(
     source: &[T],
@@ -196,7 +196,7 @@ fn wide_pair_from<T: Pixel>(
     )
 }
 
-/// Numbers are added to as many others, place by place.
+/// Adds numbers to as many others, position by position.
 #[inline(always)]
 fn add_products<const L: usize>(sums: &mut [i32; L], products: &[i32; L])
     requires sums { (c : ℕ) → c < L → IsWithin (2 ^ 25) (entry sums.old c) }
@@ -208,8 +208,8 @@ fn add_products<const L: usize>(sums: &mut [i32; L], products: &[i32; L])
     }
 }
 
-/// The sums of eight samples that stand `step` apart, each times its halved weight, from each of `N` places on. The
-/// outer `ZEROS` weights on either side are 0, so that these products are left out.
+/// The sums of eight samples that are `step` apart, each times its halved weight, from each of `N` positions on. The
+/// outer `ZEROS` weights on either side are 0, so their products are left out.
 #[inline(always)]
 fn eight_sums<T: Pixel, const N: usize, const ZEROS: usize>(
     source: &[T],
@@ -233,7 +233,7 @@ fn eight_sums<T: Pixel, const N: usize, const ZEROS: usize>(
     sums
 }
 
-/// The same from each of 16 places on, in crossed order.
+/// As `eight_sums`, from each of 16 positions on, in crossed order.
 #[inline(always)]
 fn sixteen_sums<T: Pixel, const ZEROS: usize>(
     source: &[T],
@@ -257,9 +257,8 @@ fn sixteen_sums<T: Pixel, const ZEROS: usize>(
     sums
 }
 
-/// The sums of samples side by side, each times its halved weight, from each of the first four places of `values` on:
-/// these are the samples that the third weight belongs to, and those behind them. The outer two weights on either side
-/// are 0.
+/// The sums of samples side by side, each times its halved weight, from each of the first four positions of `values`
+/// on. The first of these samples belongs to the third weight. The outer two weights on either side are 0.
 #[inline(always)]
 fn sums_along(values: [i16; 8], halves: &[i16; SUBPEL_FILTER_SIZE]) -> [i32; 8]
     requires filter { IsFilter (doubled halves.now) }
@@ -279,7 +278,7 @@ fn sums_along(values: [i16; 8], halves: &[i16; SUBPEL_FILTER_SIZE]) -> [i32; 8]
     sums
 }
 
-/// What such a sum becomes. All that is added to it and taken off behind it is added at once.
+/// The value of such a sum. All that is added before the shift and subtracted after it is added at once.
 #[inline(always)]
 fn settle(sum: i32, rounding: Rounding) -> i32
     requires rounding { IsRounding rounding }
@@ -290,7 +289,7 @@ fn settle(sum: i32, rounding: Rounding) -> i32
     ((sum + add) >> rounding.shift).max(-32768).min(32767)
 }
 
-/// What eight such sums become. They are cut to 16 bits at once, also where fewer of them are wanted.
+/// The values of eight such sums. All are cut to 16 bits at once, even if fewer are needed.
 #[inline(always)]
 fn settle_eight(sums: &[i32; 8], rounding: Rounding) -> [i16; 8]
     requires rounding { IsRounding rounding }
@@ -304,8 +303,8 @@ fn settle_eight(sums: &[i32; 8], rounding: Rounding) -> [i16; 8]
     i32x8::from_array(values).cast::<i16>().to_array()
 }
 
-/// What 16 such sums become that stand in crossed order: they are put in order. A compiler would do that where sums
-/// begin, but doesn't move it past their limits.
+/// The values of 16 such sums in crossed order: this call puts them in order. A compiler would do so at the start of
+/// the sums, but doesn't move it past their limits.
 #[inline(always)]
 fn settle_sixteen(sums: &[i32; 16], rounding: Rounding) -> [i16; 16]
     requires rounding { IsRounding rounding }
@@ -333,7 +332,7 @@ fn first_of<const L: usize, const N: usize>(numbers: &[i16; L]) -> [i16; N]
     values
 }
 
-/// The first `N` of what eight such sums become.
+/// The first `N` values of eight such sums.
 #[inline(always)]
 fn settle_first<const N: usize>(sums: &[i32; 8], rounding: Rounding) -> [i16; N]
     requires narrow { N ≤ 8 }
@@ -344,7 +343,7 @@ fn settle_first<const N: usize>(sums: &[i32; 8], rounding: Rounding) -> [i16; N]
     first_of::<8, N>(&settle_eight(sums, rounding))
 }
 
-/// What the sums from each of at most eight places on become.
+/// The values of the sums from each of at most eight positions on.
 #[inline(always)]
 fn filter_group<T: Pixel, const N: usize, const ZEROS: usize>(
     source: &[T],
@@ -366,8 +365,8 @@ fn filter_group<T: Pixel, const N: usize, const ZEROS: usize>(
     settle_first::<N>(&sums, rounding)
 }
 
-/// The same of four bytes side by side, by four weights. Each byte is read once: a compiler doesn't read four at once
-/// where the next four overlap them.
+/// As `filter_group`, for four bytes side by side and four weights. Each byte is read once: a compiler doesn't read
+/// four at once if the next four overlap them.
 #[inline(always)]
 pub(crate) fn filter_four<T: Pixel, const N: usize, const ZEROS: usize>(
     source: &[T],
@@ -390,7 +389,7 @@ pub(crate) fn filter_four<T: Pixel, const N: usize, const ZEROS: usize>(
     settle_first::<N>(&sums, rounding)
 }
 
-/// The same from each of any number of places on, one by one. No strip is so wide.
+/// As `filter_group`, from any number of positions on, one by one. No strip is so wide.
 #[inline(never)]
 fn filter_each<T: Pixel, const N: usize, const ZEROS: usize>(
     source: &[T],
@@ -416,7 +415,7 @@ fn filter_each<T: Pixel, const N: usize, const ZEROS: usize>(
     values
 }
 
-/// The same, at once where there are 16.
+/// As `filter_group`, at once if there are 16 positions.
 #[inline(always)]
 pub(crate) fn filter_words<T: Pixel, const N: usize, const ZEROS: usize>(
     source: &[T],

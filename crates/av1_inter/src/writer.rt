@@ -1,4 +1,4 @@
-//! What becomes of filtered values: samples of one reference, or what is prepared for an average.
+//! The use of filtered values: samples of one reference, or values that are prepared for an average.
 
 ghost use Rattle.std.specs.Prelude.{◌≡◌, ℕ, ℤ, ◌≤◌};
 ghost use Rattle.av1_blocks.specs.Depths.{IsDepth};
@@ -9,7 +9,7 @@ ghost use Rattle.av1_inter.specs.declared.rounding.Roundings.{Roundings as Round
 use crate::rounding::{Roundings, greatest, kept_roundings, prepared_roundings, put_roundings};
 use av1_frame::Pixel;
 
-/// Writes values of 16 bits as entries of type `E`, and says how the sums that they come from are rounded.
+/// Writes values of 16 bits as entries of type `E`, and gives the rounding of the sums that they come from.
 pub(crate) trait Writer<E: Copy> {
     // the depths that it serves
     ghost serves: { ℕ → Type 0 };
@@ -20,7 +20,7 @@ pub(crate) trait Writer<E: Copy> {
     // the entry of a value, at a depth
     ghost written: { ℕ → ℤ → E };
 
-    /// How sums are rounded.
+    /// The roundings of sums.
     fn roundings(bit_depth: usize) -> Roundings
         requires { IsDepth bit_depth }
         ensures value { result ≡ roundings bit_depth }
@@ -33,7 +33,7 @@ pub(crate) trait Writer<E: Copy> {
         ensures { result ≡ written bit_depth value };
 }
 
-/// The depth of samples of a type: it needn't be asked for where they have one byte.
+/// The depth of samples of a type, which the compiler knows if they have one byte.
 #[inline(always)]
 fn depth_of<T: Pixel>(bit_depth: usize) -> usize
     requires depths { IsDepth bit_depth }
@@ -64,7 +64,7 @@ impl<T: Pixel> Writer<T> for Samples {
     }
 }
 
-/// Values of rows are kept for the filter down the columns, as samples of 15 bits: they are moved up so far that they
+/// Values of rows are kept for the filter down the columns, as samples of 15 bits: they are raised so far that they
 /// have no sign.
 pub(crate) struct Between {}
 

@@ -7,7 +7,7 @@ use Rattle.av1_blocks.specs.declared.predict.PredictionMode.TheVariants.{D157_PR
 use Rattle.av1_blocks.specs.Modes.{intra_mode_to_angle}
 use Rattle.av1_intra.specs.Sides.{distance}
 
--- the number beside a in a table of pairs, and 0 where a has none
+-- the number paired with a in a table of pairs, and 0 if a isn't in the table
 abbrev pub beside : ℕ → List (ℕ × ℕ) → ℕ
 beside a [] = 0
 beside a (x ∷ xs) = if a == x.0 then x.1 else beside a xs
@@ -33,8 +33,8 @@ abbrev pub near_mode : ℕ → List ℕ → Bool
 near_mode p [] = false
 near_mode p (angle ∷ angles) = (nat_le (distance p angle) 9 && distance p angle % 3 == 0) || near_mode p angles
 
--- whether an edge is interpolated along the angle p: one that a mode and its step give, or one with a derivative; 90
--- and 180 copy the edge
+-- whether an edge is interpolated along the angle p: an angle that a mode and its step give, or one with a derivative.
+-- 90 and 180 degrees copy the edge
 unfoldable pub is_interpolated : ℕ → Bool
 is_interpolated p = not (derivative p == 0) || (near_mode p mode_angles && not (p == 90 || p == 180))
 

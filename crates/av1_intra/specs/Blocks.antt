@@ -1,4 +1,4 @@
--- What holds of a block that is predicted where it lies, and of a block of chroma over its luma.
+-- Conditions on a block that is predicted in place, and on a block of chroma over its luma.
 use Rattle.std.specs.Prelude.{ℕ, ◌^◌, ◌<◌, ◌≤◌, ◌≡◌}
 use Rattle.av1_frame.specs.Areas.{AreRows}
 use Rattle.av1_frame.specs.Regions.{IsReadable}
@@ -9,7 +9,7 @@ use Rattle.av1_intra.specs.ChromaFromLuma.{columns_read, rows_read}
 use Rattle.av1_intra.specs.declared.directional.DirectionalBlock.{DirectionalBlock}
 use Rattle.av1_intra.specs.declared.luma.ChromaBlock.{ChromaBlock}
 
--- the block is the rectangle a of n samples whose rows stand so far apart, and has at most 64 columns and rows
+-- the block is the rectangle a of n samples, whose rows are `stride` apart, and has at most 64 columns and rows
 pub record IsRectangle (b : DirectionalBlock) (stride : ℕ) (a : StoredArea) (n : ℕ) : Type 0 where
   pub rows : AreRows stride a n
   pub width : a.width ≡ b.width

@@ -1,6 +1,6 @@
 -- DC prediction. AV1 specification: DC intra prediction process.
 use Rattle.std.specs.Prelude.{ℕ, ◌+◌, ◌/◌, List, length, sum}
 
--- the mean of numbers, rounded to the nearest one, and up where two are equally near
+-- the mean of numbers, rounded to the nearest number, and up if two are equally near
 abbrev pub mean : List ℕ → ℕ
 mean xs = (sum xs + length xs / 2) / length xs

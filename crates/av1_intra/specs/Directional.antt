@@ -18,16 +18,16 @@ side corner places = entries (corner ∷ places)
 abbrev pub blend : ℕ → Side → ℕ → ℕ → ℕ
 blend depth E e z = clip depth (pos ((E e * (32 - z) + E (e + 1) * z + 16) / 32))
 
--- the entry at n/64 of a place past the corner, k places further; u is 1 where the side is upsampled, else 0
+-- the entry at n/64 past the corner, k places further; u is 1 if the side is upsampled, else 0
 abbrev pub entry : ℕ → ℕ → ℕ → ℕ
 entry u n k = n / 2 ^ (6 - u) + k * 2 ^ u
 
--- the number at that place of the side E
+-- the number at that entry of the side E, interpolated
 unfoldable pub at : ℕ → Side → ℕ → ℕ → ℕ → ℕ
 at depth E u n k = blend depth E (entry u n k) (n * 2 ^ u / 2 % 32)
 
--- An angle below 90, in column j of the row whose line meets the side above at n/64 past the corner; past the last of
--- its s places that is repeated.
+-- An angle below 90, in column j of the row whose line meets the side above at n/64 past the corner. Past the last of
+-- the s places, the last place is repeated.
 unfoldable pub below_90 : ℕ → Side → ℕ → ℕ → ℕ → ℕ → ℕ
 below_90 depth E u s n j =
     if nat_lt (entry u n j) (s * 2 ^ u) then at depth E u n j else clip depth (pos (E (s * 2 ^ u)))
@@ -39,12 +39,12 @@ between depth Ea ua El ul dx dy i j =
     then at depth Ea ua (64 * (j + 1) - (i + 1) * dx) 0
     else at depth El ul (64 * (i + 1) - (j + 1) * dy) 0
 
--- what the edge filter's choice gives, and x where the filter is off
+-- what the edge filter's choice gives, and x if the filter is off
 abbrev pub filter_choice : {X : Type 0} → Option Bool → X → (Bool → X) → X
 filter_choice None x f = x
 filter_choice (Some smooth) x f = f smooth
 
--- 1 where a side of the block b is upsampled, else 0; the angle is d degrees from the side's own
+-- 1 if a side of the block b is upsampled, else 0; the angle is d degrees from the side's own
 abbrev pub upsampling : DirectionalBlock → ℕ → ℕ
 upsampling b d = filter_choice b.smooth_filter 0 (λ smooth. if is_upsampled (b.width + b.height) smooth d then 1 else 0)
 
@@ -55,23 +55,23 @@ prepared b d n m A =
     let F = filtered n (filter_strength (b.width + b.height) smooth d) A in
     if is_upsampled (b.width + b.height) smooth d then upsampled b.bit_depth m F else F)
 
--- how many places past the block's own are read: above where the angle is below 90, and on the left where it is past
--- 180
+-- the number of places past the block's own that are read: above if the angle is below 90, and on the left if it is
+-- over 180
 abbrev pub more_above : DirectionalBlock → ℕ
 more_above b = if nat_lt b.p_angle 90 then b.height else 0
 
 abbrev pub more_left : DirectionalBlock → ℕ
 more_left b = if nat_lt 180 b.p_angle then b.width else 0
 
--- The side above, prepared: the block's own places count as far as they are visible where the side is smoothed. The
--- places run from the left.
+-- The side above, prepared. The filter smooths the block's own places only in visible columns. The places run from the
+-- left.
 abbrev pub above_side : DirectionalBlock → ℕ → List ℕ → Side
 above_side b corner above =
     let places = b.width + more_above b in
     prepared b (distance b.p_angle 90)
     (min b.width b.visible_columns + more_above b) places (side corner (take places above))
 
--- The left side in the same way. The places run from the top.
+-- The left side, prepared in the same way. The places run from the top.
 abbrev pub left_side : DirectionalBlock → ℕ → List ℕ → Side
 left_side b corner left =
     let places = b.height + more_left b in

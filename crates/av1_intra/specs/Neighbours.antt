@@ -1,4 +1,4 @@
--- What the edge filter is told of a block's neighbours. AV1 specification: intra filter type process.
+-- What the edge filter reads of a block's neighbours. AV1 specification: intra filter type process.
 use Rattle.std.specs.Prelude.{ℕ, zero, suc, Bool, true, false, ◌==◌, ◌||◌, ◌&&◌, List, ◌∷◌, Option, Some}
 use Rattle.std.specs.Option.{option_map}
 use Rattle.av1_blocks.specs.declared.predict.PredictionMode.{PredictionMode}
@@ -13,7 +13,7 @@ abbrev pub mode_in : ℕ → CodedBlockInfo → PredictionMode
 mode_in zero block = block.luma_mode
 mode_in (suc p) block = block.chroma_mode
 
--- what is kept of the neighbours above and to the left, where there are any
+-- what is kept of the neighbours above and to the left, if there are any
 abbrev pub parameters_of : ℕ → Option CodedBlockInfo → Option CodedBlockInfo → IntraEdgeFilterParameters
 parameters_of plane above left = record {
   plane = plane;
@@ -35,7 +35,7 @@ abbrev pub is_intra : Option (List RefType) → Bool
 is_intra (Some (INTRA_FRAME ∷ types)) = true
 is_intra types = false
 
--- whether a neighbour has a smooth mode, and in a plane of chroma is intra, too
+-- whether a neighbour has a smooth mode, and in a plane of chroma is also intra
 abbrev pub is_smooth_in : ℕ → Option (List RefType) → Option PredictionMode → Bool
 is_smooth_in plane types mode = is_smooth mode && (plane == 0 || is_intra types)
 

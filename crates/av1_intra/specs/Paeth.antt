@@ -2,8 +2,8 @@
 use Rattle.std.specs.Prelude.{ℕ, ◌+◌, ◌&&◌, nat_le, if◌then◌else◌}
 use Rattle.av1_intra.specs.Sides.{distance}
 
--- The one of the sample above, the left one and the corner that is nearest to above + left - corner. Where two are
--- equally near, the left one goes before the one above, and that before the corner.
+-- The sample above, the left one or the corner: whichever is nearest to above + left - corner. If two are equally near,
+-- the left one is chosen before the one above, and the one above before the corner.
 unfoldable pub paeth : ℕ → ℕ → ℕ → ℕ
 paeth above left corner =
     let off = λ (x : ℕ). distance (x + corner) (above + left) in

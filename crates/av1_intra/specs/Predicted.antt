@@ -21,7 +21,7 @@ use Rattle.av1_intra.specs.Smooth.{smooth, smooth_v, smooth_h}
 use Rattle.av1_intra.specs.Directional.{directional}
 use Rattle.av1_intra.specs.ChromaFromLuma.{from_luma}
 
--- the edge of a left side, which is stored from the bottom up, a corner and a side above
+-- the edge of a left side (stored from the bottom up), a corner and a side above
 abbrev pub edge_round : {T : Type 0} → (T → ℕ) → List T → ℕ → List T → Edge
 edge_round num left corner above = record { above = map num above; left = reverse (map num left); corner = corner }
 
@@ -32,7 +32,7 @@ variant_at (suc x) zero = LEFT
 variant_at zero (suc y) = TOP
 variant_at (suc x) (suc y) = BOTH
 
--- DC prediction of w columns and h rows: the mean of these sides, and half of the range where there is none
+-- DC prediction of w columns and h rows: the mean of the sides in the tile, or half of the range if there is none
 abbrev pub dc : PredictionVariant → (depth w h : ℕ) → Edge → ℕ
 dc NONE depth w h e = base depth
 dc LEFT depth w h e = mean (take h e.left)
@@ -53,8 +53,8 @@ along b e r c =
     else if b.p_angle == 180 then entries e.left r
     else directional b e.corner e.above e.left r c
 
--- The sample at row r and column c of the block b. Luma's difference from its mean at row r and column c is `ac r c`,
--- and it weighs alpha eighths. Inter modes are not predicted from an edge.
+-- The sample at row r and column c of the block b. `ac r c` is luma's difference from its mean there, and `alpha` its
+-- weight, both in eighths. Inter modes are not predicted from an edge.
 unfoldable pub predicted : DirectionalBlock → PredictionVariant → PredictionMode → (alpha : ℤ) → (ac : ℕ → ℕ → ℤ) →
     Edge → ℕ → ℕ → ℕ
 predicted b v DC_PRED alpha ac e r c = dc v b.bit_depth b.width b.height e
@@ -70,7 +70,7 @@ abbrev pub alpha_of : IntraParam → ℤ
 alpha_of (Alpha alpha) = alpha
 alpha_of param = pos 0
 
--- the angle of a mode and its parameter, and for chroma from luma the weight
+-- the angle of a mode and its parameter; for chroma from luma, the weight
 abbrev pub angle_or_alpha : PredictionMode → IntraParam → ℤ
 angle_or_alpha UV_CFL_PRED param = alpha_of param
 angle_or_alpha mode param = angle mode (step_of param)
@@ -82,7 +82,7 @@ is_angle_of mode p =
     let turned = unsigned_abs (p -ℤ intra_mode_to_angle mode) in
     if is_directional mode then nat_le turned 9 && turned % 3 == 0 else true
 
--- how many places above the block DC prediction reads, and how many to its left
+-- the number of places above the block that DC prediction reads, and then of places to its left
 abbrev pub dc_above : PredictionVariant → (w : ℕ) → ℕ
 dc_above NONE w = 0
 dc_above LEFT w = 0
@@ -95,14 +95,14 @@ dc_left LEFT h = h
 dc_left TOP h = 0
 dc_left BOTH h = h
 
--- how many an angle reads
+-- the number of places that prediction along an angle reads: above, and then to the left
 abbrev pub along_above : (p w h : ℕ) → ℕ
 along_above p w h = if nat_lt p 90 then w + h else if nat_lt p 180 then w else 0
 
 abbrev pub along_left : (p w h : ℕ) → ℕ
 along_left p w h = if nat_le p 90 then 0 else if nat_le p 180 then h else h + w
 
--- how many a mode reads
+-- the number of places that a mode reads: above, and then to the left
 abbrev pub places_above : PredictionMode → PredictionVariant → (p w h : ℕ) → ℕ
 places_above DC_PRED v p w h = dc_above v w
 places_above UV_CFL_PRED v p w h = dc_above v w

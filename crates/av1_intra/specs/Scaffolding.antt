@@ -1,4 +1,4 @@
--- What the crate's own functions promise one another on the way. No public contract cites this file.
+-- What the functions inside the crate promise one another. No public contract cites this file.
 use Rattle.std.specs.Prelude.{◌≡◌, ℕ, ◌-◌, List}
 use Rattle.av1_frame.specs.Samples.{paint_row}
 use Rattle.av1_intra.specs.Sides.{numbers}

@@ -13,8 +13,8 @@ entries xs = λ k. slice_index xs k
 abbrev pub numbers : {X : Type 0} → (X → ℕ) → List X → Side
 numbers num xs = entries (map num xs)
 
--- the numbers of the first n samples from the last of them to the first: a left side from the top down, of samples that
--- run from the bottom up
+-- the numbers of the first n samples, from the last to the first: a left side from the top down, if its samples run
+-- from the bottom up
 abbrev pub from_top : {X : Type 0} → (X → ℕ) → ℕ → List X → Side
 from_top num n xs = λ r. numbers num xs (n - 1 - r)
 

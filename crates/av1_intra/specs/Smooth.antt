@@ -33,10 +33,10 @@ across w above left r c = mix (slice_index (weights w) c) (left r) (above (w - 1
 abbrev pub smooth : ℕ → ℕ → Side → Side → ℕ → ℕ → ℕ
 smooth w h above left r c = (down h above left r c + across w above left r c + 256) / 512
 
--- the same of the mean along the columns alone
+-- the same with only the mean along the columns
 abbrev pub smooth_v : ℕ → Side → Side → ℕ → ℕ → ℕ
 smooth_v h above left r c = (down h above left r c + 128) / 256
 
--- and of that along the rows alone
+-- the same with only the mean along the rows
 abbrev pub smooth_h : ℕ → Side → Side → ℕ → ℕ → ℕ
 smooth_h w above left r c = (across w above left r c + 128) / 256

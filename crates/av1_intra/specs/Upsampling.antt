@@ -3,14 +3,14 @@ use Rattle.std.specs.Prelude.{ℕ, ◌+◌, ◌-◌, ◌*◌, ◌/◌, ◌%◌, 
 use Rattle.av1_frame.specs.Arithmetic.{clip}
 use Rattle.av1_intra.specs.Sides.{Side}
 
--- Whether a side is upsampled, by the sum s of the block's sides, whether a neighbour is smooth, and how far the angle
--- is from the side's own, d degrees. AV1 specification: intra edge upsample selection process.
+-- Whether a side is upsampled, by the sum s of the block's width and height, whether a neighbour is smooth, and the
+-- degrees d from the side's own angle. AV1 specification: intra edge upsample selection process.
 abbrev pub is_upsampled : ℕ → Bool → ℕ → Bool
 is_upsampled s smooth d = (nat_le 1 d && nat_le d 39) && nat_le s (if smooth then 8 else 16)
 
--- Twice as many entries for the corner and the first m places: entry 2e is what entry e was, and between it and the
--- next stands a number that four of the entries give, clipped to the depth; a difference below 0 counts as 0. All
--- entries past 2m stay. AV1 specification: intra edge upsample process.
+-- Twice as many entries for the corner and the first m places. Entry 2e is the old entry e. Entry 2e + 1 is computed
+-- from four entries, two on either side, and clipped to the depth; a difference below 0 counts as 0. Entries past 2m
+-- are unchanged. AV1 specification: intra edge upsample process.
 unfoldable pub upsampled : ℕ → ℕ → Side → Side
 upsampled depth m A = λ e.
     let h = e / 2 in

@@ -1,4 +1,4 @@
-//! The directions of prediction: the angle of a mode with its parameter, and how far lines of an angle lead.
+//! The directions of prediction: the angle of a mode with its parameter, and the slope of an angle.
 
 ghost use Rattle.std.specs.Prelude.{◌≡◌};
 ghost use Rattle.av1_intra.specs.Angles.{derivative};
@@ -8,7 +8,7 @@ use av1_blocks::{IntraParam, PredictionMode};
 use av1_edges::{angle, step_of};
 
 /// How far a line of the angle `p_angle`, in degrees, moves along an edge for each sample away from it, in 64ths of a
-/// sample; 0 for an angle that no directional mode asks for.
+/// sample. It is 0 for an angle that no directional mode has.
 ///
 /// AV1 specification: directional intra prediction process (Dr_Intra_Derivative).
 #[tactic(auto, unfolding(crate::specs::Angles::derivative))]
@@ -47,7 +47,7 @@ pub fn dr_intra_derivative(p_angle: usize) -> usize
     }
 }
 
-/// The weight of luma in eighths: 0 in a parameter of another kind.
+/// The weight of luma in eighths: 0 for a parameter of another kind.
 pub fn alpha_of(intra_param: IntraParam) -> i16
     ensures { result ≡ alpha_of intra_param }
 {
@@ -57,7 +57,7 @@ pub fn alpha_of(intra_param: IntraParam) -> i16
     }
 }
 
-/// The angle of a mode and its parameter in degrees, and for chroma from luma the weight.
+/// The angle of a mode and its parameter in degrees; for chroma from luma, the weight in eighths.
 pub fn angle_or_alpha(mode: PredictionMode, intra_param: IntraParam) -> isize
     ensures { result ≡ angle_or_alpha mode intra_param }
 {

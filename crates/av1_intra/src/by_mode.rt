@@ -23,7 +23,7 @@ use crate::variant::PredictionVariant;
 use av1_blocks::PredictionMode;
 use av1_frame::{Pixel, StoredArea};
 
-/// Returns the samples of a left side that lie beside a block of `height` rows: the last ones.
+/// Returns the samples of a left side next to a block of `height` rows: the last ones.
 fn beside<T: Pixel>(left: &[T], height: usize) -> &[T]
     ensures last { result.now ≡ drop (length left.now - height) left.now }
     ensures len { length result.now ≡ min height (length left.now) }
@@ -31,7 +31,7 @@ fn beside<T: Pixel>(left: &[T], height: usize) -> &[T]
     &left[left.len().saturating_sub(height)..]
 }
 
-/// Returns the sample of DC prediction, by the sides that lie in the tile.
+/// Returns the sample of DC prediction, from the sides that lie in the tile.
 fn dc_sample<T: Pixel>(
     variant: PredictionVariant,
     above: &[T],
@@ -109,18 +109,19 @@ fn predict_smooth<T: Pixel>(
     }
 }
 
-/// Predicts the samples of a rectangle by an intra mode, from the sides round it. The rows of `samples` stand `stride`
-/// apart. All samples outside the rectangle stay.
+/// Predicts the samples of a rectangle by an intra mode, from the sides round it. The rows of `samples` are `stride`
+/// apart. Samples outside the rectangle are unchanged.
 ///
-/// `block` is the rectangle: its sides are those of a transform, and its angle, from 0 to 270 degrees, is that of a
-/// directional mode. With `smooth_filter` the edge filter is on, and tells whether a neighbour has a smooth mode; of
-/// the places beside the block only those are smoothed that lie in its visible columns and rows. `variant` tells which
-/// sides lie in the tile, for the modes that take a mean. `UV_CFL_PRED` adds to the mean the differences of luma in
-/// `ac`, row by row, at the weight `alpha`; both are in eighths.
+/// `block` is the rectangle. Its width and height are those of a transform, and its angle, from 0 to 270 degrees, is
+/// the angle of a directional mode. `smooth_filter` is `None` if the edge filter is off, and else says whether a
+/// neighbour has a smooth mode. Next to the block, the filter smooths only samples in its visible columns and rows.
 ///
-/// `left` runs from the bottom up, and its last sample stands beside the first row; `above` runs from the left, and
-/// `corner` stands between them. Of each side a mode reads as many places as `places_left` and `places_above` say,
-/// those nearest to the corner.
+/// `variant` says which sides lie in the tile, for the modes that take a mean. `UV_CFL_PRED` adds to the mean the
+/// differences of luma in `ac`, row by row, at the weight `alpha`; both are in eighths.
+///
+/// `left` runs from the bottom up, and its last sample is next to the first row. `above` runs from the left, and
+/// `corner` is between both. A mode reads `places_left` and `places_above` samples of the sides: the ones nearest to
+/// the corner.
 ///
 /// AV1 specification: intra prediction process.
 pub fn dispatch_predict_intra_to<T: Pixel>(

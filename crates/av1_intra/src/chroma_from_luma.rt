@@ -1,4 +1,4 @@
-//! Chroma from luma: the DC prediction of chroma, and what luma adds to it.
+//! Chroma from luma: the DC prediction of chroma, plus the difference of luma from its mean.
 //!
 //! AV1 specification: predict chroma from luma process.
 
@@ -92,11 +92,11 @@ fn block_from_luma<T: Pixel>(
     }
 }
 
-/// Predicts the samples of a rectangle from luma: each becomes the DC prediction `dc`, and what its difference in `ac`
-/// adds to it at the weight `alpha`, clipped to the depth. The rows of `samples` stand `stride` apart.
+/// Predicts the samples of a rectangle from luma. Each becomes the DC prediction `dc` plus its difference in `ac` at
+/// the weight `alpha`, clipped to the depth. The rows of `samples` are `stride` apart.
 ///
-/// `ac` holds the differences of luma from its mean in eighths, row by row (see `pred_cfl_ac`), and `alpha` is in
-/// also in eighths. Without a weight `dc` is kept as it is, and `ac` is not read.
+/// `ac` holds the differences of luma from its mean in eighths, row by row (see `pred_cfl_ac`). `alpha` is also in
+/// eighths. With a weight of 0 each sample is `dc`, and `ac` is not read.
 pub fn pred_cfl_to<T: Pixel>(
     samples: &mut [T],
     stride: usize,

@@ -1,5 +1,6 @@
-//! Directional prediction past 90 degrees. What the left side gives is made and written column by column, because down
-//! a column each sample lies equally far between two entries; what the side above gives, row by row.
+//! Directional prediction past 90 degrees. Samples from the left side are computed and written column by column,
+//! because all samples of a column lie equally far between two entries. Samples from the side above are written row by
+//! row.
 
 ghost use Rattle.std.specs.Prelude.{◌≡◌, ◌+◌, ◌-◌, ◌*◌, ◌^◌, ◌<◌, ◌≤◌, ℕ, length, nat_le, slice_index, if◌then◌else◌};
 ghost use Rattle.av1_frame.specs.Areas.{AreRows};
@@ -22,8 +23,8 @@ pub(crate) struct Slopes {
     pub(crate) dy: usize,
 }
 
-/// Predicts those of the first `width` samples of a row whose lines meet the side above. The line of column `j` meets
-/// it at `64 * (j + 1) - line` 64ths past the corner, if that isn't below 0. Other samples stay.
+/// Predicts the samples whose lines meet the side above, among the first `width` of a row. The line of column `j` meets
+/// it at `64 * (j + 1) - line` 64ths past the corner, if that isn't below 0. Other samples are unchanged.
 fn row_from_above<T: Pixel>(
     row: &mut [T],
     above: &FilteredSide,
@@ -48,7 +49,7 @@ fn row_from_above<T: Pixel>(
 }
 
 /// Predicts the samples of a rectangle whose lines meet the side above, at an angle between 90 and 180. Lines move `dx`
-/// 64ths along the side for each row. Other samples stay.
+/// 64ths along the side for each row. Other samples are unchanged.
 #[tactic(auto, using(av1_frame::proofs::Paint::rectangle_painting))]
 fn rows_from_above<T: Pixel>(
     samples: &mut [T],
@@ -80,7 +81,7 @@ fn rows_from_above<T: Pixel>(
 }
 
 /// Interpolates `4 * fours` numbers from `n / 64` past the corner on, four in each turn, which the compiler computes at
-/// once. `UPSAMPLING` is that of the side, known to the compiler.
+/// the same time. `UPSAMPLING` is the side's upsampling, known to the compiler.
 fn fours_by<const UPSAMPLING: usize>(
     row: &mut [u16],
     side: &FilteredSide,
@@ -158,7 +159,7 @@ fn column_of(area: StoredArea, j: usize, first: usize) -> StoredArea
 }
 
 /// Predicts the samples of a rectangle whose lines meet the left side, at an angle between 90 and 180, column by
-/// column. Other samples stay. `UPSAMPLING` is that of the side, known to the compiler.
+/// column. Other samples are unchanged. `UPSAMPLING` is the side's upsampling, known to the compiler.
 fn columns_by<T: Pixel, const UPSAMPLING: usize>(
     samples: &mut [T],
     stride: usize,
@@ -192,7 +193,7 @@ fn columns_by<T: Pixel, const UPSAMPLING: usize>(
 }
 
 /// Predicts the samples of a rectangle whose lines meet the left side, at an angle between 90 and 180. Other samples
-/// stay.
+/// are unchanged.
 fn columns_from_left<T: Pixel>(
     samples: &mut [T],
     stride: usize,
@@ -221,8 +222,8 @@ fn columns_from_left<T: Pixel>(
     }
 }
 
-/// Predicts a rectangle at an angle between 90 and 180 with these slopes: the samples of the left side by columns, then
-/// the samples of the side above by rows.
+/// Predicts a rectangle at an angle between 90 and 180 with these slopes: samples from the left side by columns, then
+/// samples from the side above by rows.
 pub(crate) fn rows_between<T: Pixel>(
     samples: &mut [T],
     stride: usize,
@@ -249,8 +250,8 @@ pub(crate) fn rows_between<T: Pixel>(
     rows_from_above(samples, stride, area, above, slopes.dx, bit_depth);
 }
 
-/// Predicts a rectangle at an angle past 180 of derivative `dy`, column by column. `UPSAMPLING` is that of the side,
-/// known to the compiler.
+/// Predicts a rectangle at an angle past 180 with the derivative `dy`, column by column. `UPSAMPLING` is the side's
+/// upsampling, known to the compiler.
 fn columns_past_180_by<T: Pixel, const UPSAMPLING: usize>(
     samples: &mut [T],
     stride: usize,
@@ -275,7 +276,7 @@ fn columns_past_180_by<T: Pixel, const UPSAMPLING: usize>(
     }
 }
 
-/// Predicts a rectangle at an angle past 180 of derivative `dy`.
+/// Predicts a rectangle at an angle past 180 with the derivative `dy`.
 pub(crate) fn columns_past_180<T: Pixel>(
     samples: &mut [T],
     stride: usize,

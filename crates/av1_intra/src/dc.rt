@@ -23,7 +23,7 @@ pub fn sum_of<T: Pixel>(samples: &[T]) -> u32
     total
 }
 
-/// The mean of the samples of two sides, of which one may be empty, rounded: the DC prediction of a block between them.
+/// The rounded mean of the samples of two sides, of which one may be empty: the DC prediction of a block between them.
 pub fn mean_of<T: Pixel>(left: &[T], above: &[T]) -> T
     requires some { 0 < length left.now + length above.now }
     requires left_short { length left.now ≤ 64 }
@@ -34,7 +34,7 @@ pub fn mean_of<T: Pixel>(left: &[T], above: &[T]) -> T
     T::from_u32((sum_of(left) + sum_of(above) + count / 2) / count)
 }
 
-/// The mean of the samples of one side.
+/// The rounded mean of the samples of one side.
 pub fn side_mean<T: Pixel>(side: &[T]) -> T
     requires some { 0 < length side.now }
     requires short { length side.now ≤ 64 }

@@ -1,4 +1,4 @@
-//! Directional prediction: a sample is what a line through it meets on a side.
+//! Directional prediction: a sample is taken from the point where a line through it meets a side.
 //!
 //! AV1 specification: directional intra prediction process.
 
@@ -19,17 +19,17 @@ use av1_frame::{Pixel, StoredArea};
 pub struct DirectionalBlock {
     /// The angle, in degrees. Only directional modes read it.
     pub p_angle: usize,
-    /// How many columns the block has.
+    /// The number of columns of the block.
     pub width: usize,
-    /// How many rows the block has.
+    /// The number of rows of the block.
     pub height: usize,
     /// The depth of its samples, in bits.
     pub bit_depth: usize,
     /// Whether a neighbour has a smooth mode; `None` if the edge filter is off.
     pub smooth_filter: Option<bool>,
-    /// How many visible columns of the plane there are from the block's first on.
+    /// The number of coded columns of the plane from the block's first column on. The filter smooths no more columns.
     pub visible_columns: usize,
-    /// How many visible rows of the plane there are from the block's first on.
+    /// The number of coded rows of the plane from the block's first row on. The filter smooths no more rows.
     pub visible_rows: usize,
 }
 
@@ -147,12 +147,12 @@ fn directional_past_180<T: Pixel>(
     columns_past_180(samples, stride, area, &side, dy, block.bit_depth);
 }
 
-/// Predicts the samples of a rectangle along the angle of `block`: one that a directional mode and an angle step from
-/// -3 to 3 give, except 90 and 180, which copy a side. The rows of `samples` stand `stride` apart.
+/// Predicts the samples of a rectangle along the angle of `block`. A directional mode and an angle step from -3 to 3
+/// give the angle; 90 and 180, which copy a side, are left out. The rows of `samples` are `stride` apart.
 ///
 /// `above` runs from the left, and has `block.height` more samples if the angle is below 90. `left` runs from the
-/// bottom up, its last sample stands beside the first row, and it has `block.width` more samples if the angle is past
-/// 180. `corner` stands between them. A side that the angle doesn't meet is not read.
+/// bottom up, its last sample is next to the first row, and it has `block.width` more samples if the angle is past 180.
+/// `corner` is between both. A side that the angle doesn't meet is not read.
 ///
 /// AV1 specification: directional intra prediction process.
 pub fn pred_directional_to<T: Pixel>(

@@ -8,11 +8,11 @@ ghost use Rattle.av1_intra.specs.Scaffolding.{IsSmoothed};
 
 use av1_frame::Pixel;
 
-/// How strongly a side of a block of `width` by `height` samples is smoothed, from 0 for not at all to 3.
-/// `smooth_filter` says that a neighbour has a smooth mode, and `angle_delta` is how far the angle is from the side's
-/// own, 90 above and 180 on the left, in degrees.
+/// How strongly a side of a block of `width` by `height` samples is smoothed, from 0 (not at all) to 3. `smooth_filter`
+/// says that a neighbour has a smooth mode. `angle_delta` is the distance in degrees from the side's own angle, which
+/// is 90 above and 180 on the left.
 ///
-/// Without `smooth_filter`, sides that sum to 25 to 32 are smoothed even where the angle is less than 4 degrees off.
+/// Without `smooth_filter`, if width and height sum to 25 to 32, a side is smoothed even at less than 4 degrees.
 ///
 /// AV1 specification: intra edge filter strength selection process.
 #[tactic(auto, using(std::proofs::lemmas::Bool::Decides::nat_tests))]
@@ -94,8 +94,8 @@ fn smoothed<const STRENGTH: usize>(a: u32, b: u32, c: u32, d: u32, e: u32) -> u3
     (sum + 8) / 16
 }
 
-/// Smooths entry `i` and returns what it was. `next` and `second` are the indices of the two entries on its right; `a`
-/// and `b` are what the two entries before it were.
+/// Smooths entry `i` and returns its old value. `next` and `second` are the indices of the two entries on its right.
+/// `a` and `b` are the old values of the two entries before it.
 fn smooth_entry<T: Pixel, const STRENGTH: usize>(
     edge: &mut [T],
     i: usize,
@@ -121,8 +121,8 @@ fn smooth_entry<T: Pixel, const STRENGTH: usize>(
     c
 }
 
-/// Smooths four entries that two others follow, and returns what the last two of the four were. The compiler smooths
-/// the four at once. `a` and `b` are what the two entries before them were.
+/// Smooths four entries that are followed by two others, and returns the old values of the last two of the four. The
+/// compiler smooths the four at the same time. `a` and `b` are the old values of the two entries before them.
 fn smooth_four<T: Pixel, const STRENGTH: usize>(
     edge: &mut [T],
     first: usize,
@@ -151,8 +151,8 @@ fn smooth_four<T: Pixel, const STRENGTH: usize>(
     (a, b)
 }
 
-/// Smooths the entries from `first` to `size - 1`, of which the last is repeated; `a` and `b` are what the two before
-/// them were.
+/// Smooths the entries from `first` to `size - 1`; past the end the last one is repeated. `a` and `b` are the old
+/// values of the two entries before them.
 fn smooth_rest<T: Pixel, const STRENGTH: usize>(
     edge: &mut [T],
     first: usize,
@@ -198,9 +198,9 @@ fn filter_by<T: Pixel, const STRENGTH: usize>(size: usize, edge: &mut [T])
     smooth_rest::<T, STRENGTH>(edge, 4 * fours + 1, size, a, b);
 }
 
-/// Smooths the entries of `edge` from 1 to `size - 1` by the kernel of `strength`, from 1 to 3; strength 0 changes
-/// nothing. Entry 0 is the corner and stays, as all entries from `size` on do. Past either end of the first `size`
-/// entries its last one is repeated.
+/// Smooths the entries of `edge` from 1 to `size - 1` by the kernel of `strength`, from 1 to 3. Strength 0 has no
+/// effect. Entry 0, which is the corner, and the entries from `size` on are unchanged. Past either end of the first
+/// `size` entries, the entry at that end is repeated.
 ///
 /// AV1 specification: intra edge filter process.
 pub fn filter_edge<T: Pixel>(size: usize, strength: u8, edge: &mut [T])

@@ -1,4 +1,4 @@
-//! How many samples of each side of a block its mode reads.
+//! The number of samples of each side of a block that its mode reads.
 
 ghost use Rattle.std.specs.Prelude.{◌≡◌, ◌≤◌};
 ghost use Rattle.av1_intra.specs.Predicted.{dc_above, dc_left, along_above, along_left, places_above, places_left};
@@ -6,7 +6,7 @@ ghost use Rattle.av1_intra.specs.Predicted.{dc_above, dc_left, along_above, alon
 use crate::variant::PredictionVariant;
 use av1_blocks::PredictionMode;
 
-/// How many samples above a block DC prediction reads.
+/// The number of samples above a block that DC prediction reads.
 fn dc_above(variant: PredictionVariant, width: usize) -> usize
     ensures { result ≡ dc_above variant width }
 {
@@ -16,7 +16,7 @@ fn dc_above(variant: PredictionVariant, width: usize) -> usize
     }
 }
 
-/// How many samples to the left of a block DC prediction reads.
+/// The number of samples to the left of a block that DC prediction reads.
 fn dc_left(variant: PredictionVariant, height: usize) -> usize
     ensures { result ≡ dc_left variant height }
 {
@@ -26,7 +26,7 @@ fn dc_left(variant: PredictionVariant, height: usize) -> usize
     }
 }
 
-/// How many samples above a block prediction along an angle reads.
+/// The number of samples above a block that prediction along an angle reads.
 fn along_above(p_angle: usize, width: usize, height: usize) -> usize
     requires width { width ≤ 64 }
     requires height { height ≤ 64 }
@@ -41,7 +41,7 @@ fn along_above(p_angle: usize, width: usize, height: usize) -> usize
     }
 }
 
-/// How many samples to the left of a block prediction along an angle reads.
+/// The number of samples to the left of a block that prediction along an angle reads.
 fn along_left(p_angle: usize, width: usize, height: usize) -> usize
     requires width { width ≤ 64 }
     requires height { height ≤ 64 }
@@ -56,7 +56,7 @@ fn along_left(p_angle: usize, width: usize, height: usize) -> usize
     }
 }
 
-/// How many samples of the side above a block its mode reads, from the sample above the first column on.
+/// The number of samples above a block that its mode reads, from the sample above the first column on.
 pub fn places_above(
     mode: PredictionMode,
     variant: PredictionVariant,
@@ -80,7 +80,7 @@ pub fn places_above(
     }
 }
 
-/// How many samples of the left side of a block its mode reads, from the sample beside the first row down.
+/// The number of samples to the left of a block that its mode reads, from the sample next to the first row down.
 pub fn places_left(
     mode: PredictionMode,
     variant: PredictionVariant,

@@ -6,8 +6,8 @@ ghost use Rattle.av1_frame.specs.Samples.{paint};
 
 use av1_frame::{Pixel, StoredArea, fill_area};
 
-/// Each sample of the rectangle becomes `value`. The rows of `samples` stand `stride` apart. This is `fill_area` with
-/// the widths of transforms known to the compiler.
+/// Sets each sample of the rectangle to `value`. The rows of `samples` are `stride` apart. This is `fill_area` with the
+/// widths of transforms known to the compiler.
 pub fn fill_block<T: Pixel>(samples: &mut [T], stride: usize, area: StoredArea, value: T)
     requires rows { AreRows stride area (length samples.old) }
     ensures { samples.new ≡ paint stride area (λ _ _ _. value) samples.old }
@@ -22,7 +22,7 @@ pub fn fill_block<T: Pixel>(samples: &mut [T], stride: usize, area: StoredArea, 
     }
 }
 
-/// As `fill_block`, in line, so that the compiler knows the width of the rows that it fills.
+/// As `fill_block`, inlined, so that the compiler knows the width of the rows that it fills.
 #[inline(always)]
 fn fill_columns<T: Pixel>(
     samples: &mut [T],

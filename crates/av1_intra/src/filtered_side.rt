@@ -11,7 +11,7 @@ use crate::edge_filter::{filter_edge, select_ief_strength};
 use crate::upsampling::{select_ief_upsample, upsample_edge};
 use av1_frame::{Pixel, clip};
 
-/// The most entries that a side has: a corner and 128 places, upsampled.
+/// The greatest number of entries of a side: a corner and 128 places, upsampled.
 const ENTRIES: usize = 257;
 
 /// A side of a block, filtered and upsampled.

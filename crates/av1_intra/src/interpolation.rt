@@ -1,4 +1,4 @@
-//! Rows of a block that a line interpolates between the samples of one side.
+//! Rows of a block that are interpolated between the samples of one side.
 
 ghost use Rattle.std.specs.Prelude.{◌≡◌, ◌+◌, ◌-◌, ◌*◌, ◌/◌, ◌^◌, ◌<◌, ◌≤◌, length};
 ghost use Rattle.av1_frame.specs.Areas.{AreRows};
@@ -9,8 +9,8 @@ ghost use Rattle.av1_intra.specs.Directional.{at, below_90};
 use crate::filtered_side::FilteredSide;
 use av1_frame::{Pixel, StoredArea, clip, fill_row};
 
-/// Interpolates a row of samples from `n / 64` past the corner of the side on. `UPSAMPLING` is that of the side, known
-/// to the compiler.
+/// Interpolates a row of samples from `n / 64` past the corner of the side on. `UPSAMPLING` is the side's upsampling,
+/// known to the compiler.
 #[tactic(auto, using(av1_frame::proofs::Paint::row_painting), unfolding(crate::specs::Directional::at))]
 pub(crate) fn interpolate_by<T: Pixel, const UPSAMPLING: usize>(
     row: &mut [T],
@@ -54,7 +54,7 @@ pub(crate) fn interpolate_row<T: Pixel>(
 }
 
 /// Predicts the first `width` samples of a row whose line meets the side above at `n / 64` past the corner. Past the
-/// last of its `sides` samples that sample is repeated.
+/// last of the `sides` samples of the side, the last sample is repeated.
 #[tactic(auto, unfolding(crate::specs::Directional::below_90))]
 fn row_below_90<T: Pixel>(
     row: &mut [T],
@@ -80,8 +80,8 @@ fn row_below_90<T: Pixel>(
     fill_row(&mut row[count..width], end, width - count);
 }
 
-/// Predicts a rectangle at an angle below 90 of derivative `dx`. Past the last of the `sides` samples above, that
-/// sample is repeated.
+/// Predicts a rectangle at an angle below 90 with the derivative `dx`. Past the last of the `sides` samples above, the
+/// last sample is repeated.
 #[tactic(auto, using(av1_frame::proofs::Paint::rectangle_painting))]
 pub(crate) fn rows_below_90<T: Pixel>(
     samples: &mut [T],

@@ -1,4 +1,4 @@
-//! Laws of intra prediction.
+//! Theorems about intra prediction. Each function does nothing: its contract is the theorem.
 
 ghost use Rattle.std.specs.Prelude.{◌≡◌, ◌≢◌, ℤ, pos, ◌+ℤ◌, ◌*ℤ◌, unsigned_abs, ℕ, ◌+◌, ◌-◌, ◌*◌, ◌^◌, ◌<◌, ◌≤◌, IsTrue, FitsSigned, Bool};
 ghost use Rattle.av1_blocks.specs.declared.predict.PredictionMode.{PredictionMode};
@@ -17,11 +17,11 @@ ghost use Rattle.av1_intra.specs.declared.luma.LumaLeaf.{LumaLeaf};
 ghost use Rattle.av1_intra.specs.ChromaFromLuma.{chroma_block, columns_read, rows_read, first_luma_column, first_luma_row, leaf_difference};
 ghost use Rattle.av1_intra.specs.Predicted.{predicted, variant_at, angle_or_alpha, places_above, places_left};
 
-/// Every entry that a line reads lies on its side, of the corner and as many places as the angle asks for, upsampled or
-/// not. Below 90 degrees the definition itself stops at the last place.
+/// Every entry that a line reads lies on its side, whether the side is upsampled or not. A side has the corner and as
+/// many places as the angle requires. Below 90 degrees the definition itself stops at the last place.
 ///
-/// Between 90 and 180 degrees a line that misses the side above meets the left side below the corner, so that none runs
-/// past both.
+/// Between 90 and 180 degrees, a line that misses the side above meets the left side below the corner. So no line
+/// misses both.
 pub fn lines_meet_their_sides()
     ensures above { (p w u i j : ℕ) → IsTrue (is_interpolated p) → 90 < p → p < 180 → u ≤ 1 → w ≤ 64 → j < w
         → (i + 1) * derivative (180 - p) ≤ 64 * (j + 1)
@@ -35,15 +35,15 @@ pub fn lines_meet_their_sides()
         → entry u ((j + 1) * derivative (270 - p) + 64) i + 1 ≤ (w + h) * 2 ^ u }
 {}
 
-/// A directional mode turned by at most three steps of 3 degrees has an angle that `pred_directional_to` takes, except
-/// 90 and 180.
+/// A directional mode with an angle delta of at most three steps of 3 degrees has an angle that `pred_directional_to`
+/// accepts, except 90 and 180.
 pub fn modes_have_angles()
     ensures { (mode : PredictionMode) (step : ℤ) (p : ℕ) → IsTrue (is_directional mode) → unsigned_abs step ≤ 3
         → pos p ≡ intra_mode_to_angle mode +ℤ pos 3 *ℤ step → p ≢ 90 → p ≢ 180 → IsTrue (is_interpolated p) }
 {}
 
-/// Luma's differences from its mean fit 16 bits, in each block of chroma of a leaf whose samples of luma have at most
-/// 12 bits.
+/// Luma's differences from its mean fit 16 bits in each chroma block of a leaf, if its luma samples have at most 12
+/// bits.
 pub fn luma_differences_fit()
     ensures { (luma : ℕ → ℕ → ℕ) (leaf : LumaLeaf) (r c : ℕ) → leaf.xdec ≤ 1 → leaf.ydec ≤ leaf.xdec → r < (chroma_block leaf).height →
         c < (chroma_block leaf).width
@@ -52,8 +52,8 @@ pub fn luma_differences_fit()
         → FitsSigned w16 (leaf_difference luma leaf r c) }
 {}
 
-/// An edge that is prepared for an intra mode at column x of row y, of w by h samples, has as many places above and to
-/// the left as the mode that is then in effect reads there.
+/// An edge that is prepared for an intra mode at column x of row y, of w by h samples, has enough places above and to
+/// the left. The mode that is then in effect reads no more.
 pub fn prepared_edges_suffice()
     ensures above { (filter : Bool) (mode : PredictionMode) (param : IntraParam) (x y w h : ℕ) →
         let m = effective mode x y in
@@ -64,7 +64,8 @@ pub fn prepared_edges_suffice()
         places_left m (variant_at x y) (unsigned_abs (angle_or_alpha m param)) w h ≤ where_needed parts.left h + where_needed parts.below_left w }
 {}
 
-/// A sample that is predicted from an edge within the depth lies within it too, for every mode, luma and weight.
+/// A sample that is predicted from an edge within the depth also lies within the depth, for every mode, luma and
+/// weight.
 pub fn predictions_lie_within()
     ensures { (b : DirectionalBlock) (v : PredictionVariant) (mode : PredictionMode) (alpha : ℤ) (ac : ℕ → ℕ → ℤ) (e : Edge) (r c : ℕ) → 8 ≤ b.bit_depth →
         EdgeIsWithin b.bit_depth e

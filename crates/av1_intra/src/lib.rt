@@ -1,29 +1,28 @@
-//! Intra prediction: the samples of a block from those round it.
+//! Intra prediction: the samples of a block from the samples round it.
 //!
-//! The crate stands on `av1_frame` for samples, on `av1_edges` for the samples round a block, and on `av1_blocks` for
-//! modes and references. Its names and values are those of rav1e. Each predictor takes a slice whose rows stand a
-//! stride apart, and a rectangle of it; `av1_rav1e` has the names of rav1e over regions. It promises to the crates
-//! above it:
+//! The crate takes samples from `av1_frame`, the samples round a block from `av1_edges`, and modes and references from
+//! `av1_blocks`. Its names and values are those of rav1e. Each predictor takes a slice whose rows are a stride apart,
+//! and a rectangle of it; `av1_rav1e` has the names of rav1e over regions. Its promises:
 //!
-//! - `dispatch_predict_intra_to` predicts the rectangle from the sides of a block, by one definition for all intra
-//!   modes, `predicted` (`specs/Predicted.antt`), and leaves all other samples as they were, in one equation,
-//!   `samples.new ≡ paint stride area f samples.old`.
+//! - `dispatch_predict_intra_to` predicts the rectangle from the sides of a block. One definition covers all intra
+//!   modes, `predicted` (`specs/Predicted.antt`). All other samples are unchanged. One equation says both: `samples.new
+//!   ≡ paint stride area f samples.old`.
 //! - So do the predictors of one kind, each by its own definition: `pred_v_to`, `pred_h_to`, `pred_paeth_to`,
 //!   `pred_smooth_to`, `pred_smooth_v_to`, `pred_smooth_h_to`, `pred_directional_to` and `pred_cfl_to`. DC prediction
-//!   is `fill_block` by `mean_of` two sides, by `side_mean` of one, or by `half_sample` without.
+//!   is `fill_block` with `mean_of` two sides, `side_mean` of one side, or `half_sample` without sides.
 //! - `angle_or_alpha` and `alpha_of` give the angle of a mode and its parameter, and the weight of luma.
-//! - `leaf_luma_ac` and `pred_cfl_ac` put into a slice, row by row, how far the luma over each sample of chroma is from
-//!   its mean, and leave the rest of the slice (`specs/ChromaFromLuma.antt`).
-//! - `filter_edge` and `upsample_edge` prepare a side in a slice, entry by entry, and leave the rest of the slice.
-//! - `select_ief_strength`, `select_ief_upsample` and `dr_intra_derivative` are their tables, and
-//!   `IntraEdgeFilterParameters` tells whether a neighbour has a smooth mode.
-//! - the laws: every entry of a side that a direction reads is there, the modes have angles that
-//!   `pred_directional_to` takes, prepared edges are as long as their modes read, luma's differences fit 16 bits, and
-//!   what is predicted from samples within their depth lies within it.
+//! - `leaf_luma_ac` and `pred_cfl_ac` write to a slice, row by row, how far the luma over each chroma sample is from
+//!   its mean. The rest of the slice is unchanged (`specs/ChromaFromLuma.antt`).
+//! - `filter_edge` and `upsample_edge` prepare a side in a slice, entry by entry. The rest of the slice is unchanged.
+//! - `select_ief_strength`, `select_ief_upsample` and `dr_intra_derivative` are their tables.
+//!   `IntraEdgeFilterParameters` says whether a neighbour has a smooth mode.
+//! - The laws: a side has every entry that a direction reads. `pred_directional_to` accepts the angles of the modes.
+//!   Prepared edges are as long as their modes read. Luma's differences fit 16 bits. A prediction from samples within
+//!   the depth lies within the depth.
 //!
-//! Nothing allocates, and nothing is refused: what a call needs stands in its `requires`. Sides are counted in samples
-//! and angles in degrees: 90 points straight up, and 180 to the left. A side above runs from the left, and a left one
-//! is stored from the bottom up.
+//! The crate does not allocate and rejects nothing: each call states its conditions in `requires`. Sides are counted in
+//! samples and angles in degrees: 90 points straight up, and 180 to the left. A side above runs from the left, and a
+//! left side is stored from the bottom up.
 #![tactic(auto)]
 
 mod angle;

@@ -1,4 +1,4 @@
-//! The luma over each sample of chroma, less its mean: what chroma from luma adds to a block.
+//! The luma over each chroma sample, less its mean: what chroma from luma adds to a block.
 //!
 //! AV1 specification: predict chroma from luma process.
 
@@ -30,35 +30,35 @@ pub struct LumaLeaf {
     pub bsize: BlockSize,
     /// The size of its luma transforms.
     pub tx_size: TxSize,
-    /// How many columns of luma are visible.
+    /// The width of the coded luma plane, in samples.
     pub visible_width: usize,
-    /// How many rows of luma are visible.
+    /// The height of the coded luma plane, in samples.
     pub visible_height: usize,
-    /// 1 where chroma has half of the columns, else 0.
+    /// 1 if chroma has half of the columns, else 0.
     pub xdec: usize,
-    /// 1 where chroma has half of the rows, else 0.
+    /// 1 if chroma has half of the rows, else 0.
     pub ydec: usize,
 }
 
 /// A block of chroma over luma.
 #[derive(Clone, Copy)]
 pub(crate) struct ChromaBlock {
-    /// How many columns of chroma it has.
+    /// The number of its chroma columns.
     pub(crate) width: usize,
-    /// How many rows of chroma it has.
+    /// The number of its chroma rows.
     pub(crate) height: usize,
-    /// 1 where chroma has half of the columns, else 0.
+    /// 1 if chroma has half of the columns, else 0.
     pub(crate) xdec: usize,
-    /// 1 where chroma has half of the rows, else 0.
+    /// 1 if chroma has half of the rows, else 0.
     pub(crate) ydec: usize,
-    /// The last column of luma from which a sample of chroma takes its luma; those past it take theirs there as well.
+    /// The last luma column at which a chroma sample begins. Chroma samples past it use its luma.
     pub(crate) last_column: usize,
-    /// The last row of luma from which a sample of chroma takes its luma.
+    /// The last luma row at which a chroma sample begins. Chroma samples past it use its luma.
     pub(crate) last_row: usize,
 }
 
-/// The luma over one sample of chroma, in eighths: of one, two or four samples from column `x` on, in the row `top`
-/// and, where chroma has half of the rows, in the next one, `below`.
+/// The luma over one chroma sample, in eighths: one, two or four samples, from column `x` on, in the row `top`, and
+/// also in the next row, `below`, if chroma has half of the rows.
 fn luma_over<T: Pixel, const XDEC: usize, const YDEC: usize>(
     top: &[T],
     below: &[T],
@@ -83,8 +83,8 @@ fn luma_over<T: Pixel, const XDEC: usize, const YDEC: usize>(
     (sum << (3 - XDEC - YDEC)) as i16
 }
 
-/// The luma over each sample of a row of chroma, of which there are `width`. Those past the one that begins at
-/// `last_column` take that one's.
+/// The luma over each of the `width` chroma samples of a row. Samples past the one that begins at `last_column` use its
+/// luma.
 #[tactic(auto, using(av1_frame::proofs::Paint::row_painting))]
 fn luma_row<T: Pixel, const XDEC: usize, const YDEC: usize>(
     row: &mut [i16],
@@ -114,7 +114,7 @@ fn luma_row<T: Pixel, const XDEC: usize, const YDEC: usize>(
     }
 }
 
-/// The luma over each sample of a block of chroma, row by row.
+/// The luma over each sample of a chroma block, row by row.
 fn luma_rows<T: Pixel, const XDEC: usize, const YDEC: usize>(
     ac: &mut [i16],
     luma: &PlaneRegion<'_, T>,
@@ -141,7 +141,7 @@ fn luma_rows<T: Pixel, const XDEC: usize, const YDEC: usize>(
     }
 }
 
-/// The sum of the entries, none of which is below 0.
+/// The sum of the entries; no entry is below 0.
 fn total(ac: &[i16]) -> u32
     requires { length ac.now ≤ 16384 }
     ensures value { result ≡ sum (map unsigned_abs ac.now) }
@@ -154,7 +154,7 @@ fn total(ac: &[i16]) -> u32
     total
 }
 
-/// Takes their mean from all entries, none of which is below 0.
+/// Subtracts their mean from all entries; no entry is below 0.
 #[tactic(auto, using(av1_frame::proofs::Paint::row_painting))]
 fn subtract_mean(ac: &mut [i16])
     requires some { 0 < length ac.old }
@@ -169,8 +169,8 @@ fn subtract_mean(ac: &mut [i16])
     }
 }
 
-/// The last column (or row) of luma that a sample of chroma begins at, in a block of `side` columns of which `pad`
-/// units of 4 have no luma of their own.
+/// The last luma column (or row) at which a chroma sample begins, in a block of `side` columns. The last `pad` units of
+/// 4 columns have no luma of their own.
 fn last_begun<const DECIMATION: usize>(side: usize, pad: usize) -> usize
     requires decimation { DECIMATION ≤ 1 }
     requires pad { 4 * pad < side }
@@ -181,7 +181,7 @@ fn last_begun<const DECIMATION: usize>(side: usize, pad: usize) -> usize
     ((side - 4 * pad) << DECIMATION).max(8) - (1 << DECIMATION)
 }
 
-/// A block of chroma of which so many units of 4 columns and rows have no luma of their own.
+/// A chroma block whose last `w_pad` units of 4 columns and `h_pad` units of 4 rows have no luma of their own.
 fn padded_block<const XDEC: usize, const YDEC: usize>(
     plane_bsize: BlockSize,
     w_pad: usize,
@@ -206,7 +206,7 @@ fn padded_block<const XDEC: usize, const YDEC: usize>(
     }
 }
 
-/// The differences of a block of chroma: the luma over each sample less the mean of all of them.
+/// The differences of a chroma block: the luma over each sample less the mean of all of them.
 fn block_differences<T: Pixel, const XDEC: usize, const YDEC: usize>(
     ac: &mut [i16],
     luma: &PlaneRegion<'_, T>,
@@ -225,10 +225,11 @@ fn block_differences<T: Pixel, const XDEC: usize, const YDEC: usize>(
     subtract_mean(&mut ac[..block.width * block.height]);
 }
 
-/// Puts into `ac`, row by row, how far the luma over each sample of a block of chroma is from its mean, in eighths. The
-/// luma of a sample is the average of those over it, from the first sample of `luma` on; `XDEC` and `YDEC` are 1 where
-/// chroma has half of the columns and of the rows. The last `w_pad` units of 4 columns and `h_pad` units of 4 rows have
-/// no luma of their own: they repeat the column and the row before them. The other entries of `ac` stay.
+/// Writes to `ac`, row by row, how far the luma over each sample of a chroma block is from its mean, in eighths. The
+/// luma of a sample is the average of the luma samples over it, from the first sample of `luma` on. `XDEC` and `YDEC`
+/// are 1 if chroma has half of the columns and of the rows. The last `w_pad` units of 4 columns and `h_pad` units of 4
+/// rows have no luma of their own: they repeat the column and the row before them. The other entries of `ac` are
+/// unchanged.
 pub fn pred_cfl_ac<T: Pixel, const XDEC: usize, const YDEC: usize>(
     ac: &mut [i16],
     luma: &PlaneRegion<'_, T>,
@@ -253,8 +254,8 @@ pub fn pred_cfl_ac<T: Pixel, const XDEC: usize, const YDEC: usize>(
     block_differences::<T, XDEC, YDEC>(ac, luma, block);
 }
 
-/// Where the luma begins that chroma of a leaf takes, along one direction: that of a leaf with a side of 4 that is
-/// halved is the luma of the 8 samples of which the leaf has the last 4.
+/// The position at which the luma of a leaf's chroma begins, along one direction. If a side of 4 is halved, its chroma
+/// belongs to 8 luma samples, of which the leaf has the last 4.
 fn luma_start(first: usize, side: usize, decimation: usize) -> usize
     requires { IsTrue (not (decimation == 0) && side == 4) → 4 ≤ first }
     ensures { result ≡ luma_start first side decimation }
@@ -266,7 +267,7 @@ fn luma_start(first: usize, side: usize, decimation: usize) -> usize
     }
 }
 
-/// The last column (or row) of luma that a sample of chroma of a leaf begins at, along one direction.
+/// The last luma column (or row) at which a chroma sample of a leaf begins, along one direction.
 fn last_of_leaf(
     start: usize,
     side: usize,
@@ -303,7 +304,7 @@ fn plane_side(side: usize, decimation: usize) -> usize
 }
 
 impl LumaLeaf {
-    /// The first column of luma that its chroma takes.
+    /// The first luma column that its chroma uses.
     fn first_luma_column(self) -> usize
         requires { IsTrue (is_narrow self.bsize self.xdec) → 4 ≤ self.x }
         ensures { result ≡ first_luma_column self }
@@ -311,7 +312,7 @@ impl LumaLeaf {
         luma_start(self.x, self.bsize.width(), self.xdec)
     }
 
-    /// The first row of luma that its chroma takes.
+    /// The first luma row that its chroma uses.
     fn first_luma_row(self) -> usize
         requires { IsTrue (is_low self.bsize self.ydec) → 4 ≤ self.y }
         ensures { result ≡ first_luma_row self }
@@ -319,7 +320,7 @@ impl LumaLeaf {
         luma_start(self.y, self.bsize.height(), self.ydec)
     }
 
-    /// How many samples of chroma it has.
+    /// The number of its chroma samples.
     pub fn area(self) -> usize
         requires xdec { self.xdec ≤ 1 }
         requires ydec { self.ydec ≤ 1 }
@@ -329,7 +330,7 @@ impl LumaLeaf {
         plane_side(width, self.xdec) * plane_side(height, self.ydec)
     }
 
-    /// Its block of chroma, whose luma begins at column `x` of row `y`.
+    /// Its chroma block, whose luma begins at column `x` of row `y`.
     fn chroma_block(self, x: usize, y: usize) -> ChromaBlock
         requires xdec { self.xdec ≤ 1 }
         requires ydec { self.ydec ≤ 1 }
@@ -351,7 +352,7 @@ impl LumaLeaf {
     }
 }
 
-/// The differences of a block of chroma by its decimations.
+/// The differences of a chroma block, by its decimations.
 fn differences<T: Pixel>(ac: &mut [i16], luma: &PlaneRegion<'_, T>, block: ChromaBlock)
     requires ydec { block.ydec ≤ block.xdec }
     requires chroma { IsChroma block }
@@ -368,9 +369,10 @@ fn differences<T: Pixel>(ac: &mut [i16], luma: &PlaneRegion<'_, T>, block: Chrom
     }
 }
 
-/// Puts into `ac`, row by row, how far the luma over each sample of chroma of a leaf is from its mean, in eighths. The
-/// region `luma` holds the luma that is decoded before, and the leaf's place counts from its first sample. Past the
-/// last transform that begins in the visible plane the luma before is repeated. The other entries of `ac` stay.
+/// Writes to `ac`, row by row, how far the luma over each chroma sample of a leaf is from its mean, in eighths. The
+/// region `luma` holds the luma that was decoded before, and the leaf's position counts from its first sample. Past the
+/// last transform that begins in the coded plane, the luma before it is repeated. The other entries of `ac` are
+/// unchanged.
 pub fn leaf_luma_ac<T: Pixel>(ac: &mut [i16], luma: &PlaneRegion<'_, T>, leaf: LumaLeaf)
     requires readable { IsReadable luma.now }
     requires xdec { leaf.xdec ≤ 1 }

@@ -9,8 +9,7 @@ ghost use Rattle.av1_intra.specs.Neighbours.{mode_in, parameters_of, is_smooth, 
 use av1_blocks::{PredictionMode, RefType};
 use av1_frame::CodedBlockInfo;
 
-/// The neighbours above and to the left of a block, in a plane counted 0 for luma. A neighbour outside the tile is
-/// `None`.
+/// The neighbours above and to the left of a block, in one plane. A neighbour outside the tile is `None`.
 #[derive(Clone, Copy, Debug, PartialEq, Eq)]
 pub struct IntraEdgeFilterParameters {
     /// The plane: 0 is luma.
@@ -26,7 +25,7 @@ pub struct IntraEdgeFilterParameters {
 }
 
 impl Default for IntraEdgeFilterParameters {
-    /// Those of a block in luma that has no neighbour.
+    /// The parameters of a luma block without neighbours.
     fn default() -> IntraEdgeFilterParameters
         ensures { result ≡ record { plane = 0; above_ref_frame_types = None; left_ref_frame_types = None; above_mode = None; left_mode = None } }
     {
@@ -97,7 +96,7 @@ fn is_smooth_in(plane: usize, types: Option<[RefType; 2]>, mode: Option<Predicti
 }
 
 impl IntraEdgeFilterParameters {
-    /// Takes of the neighbours what the filter asks for: the references, and the mode that they have in `plane`.
+    /// Takes what the filter reads of the neighbours: their references, and their mode in `plane`.
     pub fn new(
         plane: usize,
         above_ctx: Option<CodedBlockInfo>,
@@ -114,8 +113,8 @@ impl IntraEdgeFilterParameters {
         }
     }
 
-    /// Whether one of the neighbours has a smooth mode. In a plane of chroma only a neighbour counts that is predicted
-    /// from its own frame; one whose references are not given doesn't.
+    /// Whether one of the neighbours has a smooth mode. In a chroma plane, only a neighbour counts that is predicted
+    /// from its own frame. A neighbour without references doesn't count there.
     pub fn use_smooth_filter(self) -> bool
         ensures { result ≡ uses_smooth_filter self }
     {
@@ -124,7 +123,7 @@ impl IntraEdgeFilterParameters {
     }
 }
 
-/// Whether a neighbour has a smooth mode, if the edge filter is on. Without parameters it is off.
+/// Whether a neighbour has a smooth mode, if the edge filter is on. `None` if it is off.
 pub fn smooth_filter_of(ief_params: Option<IntraEdgeFilterParameters>) -> Option<bool>
     ensures { result ≡ option_map uses_smooth_filter ief_params }
 {

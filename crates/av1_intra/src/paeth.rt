@@ -11,7 +11,7 @@ ghost use Rattle.av1_intra.specs.Paeth.{paeth};
 use crate::samples::number_at;
 use av1_frame::{Pixel, StoredArea};
 
-/// Returns the one of `left`, `above` and `corner` that is nearest to `above + left - corner`.
+/// Returns `left`, `above` or `corner`, whichever is nearest to `above + left - corner`.
 #[tactic(auto, using(std::proofs::lemmas::Bool::Decides::nat_tests), unfolding(crate::specs::Paeth::paeth))]
 fn nearest(above: u32, left: u32, corner: u32) -> u32
     requires above { above < 2 ^ 16 }
@@ -32,7 +32,7 @@ fn nearest(above: u32, left: u32, corner: u32) -> u32
     }
 }
 
-/// Predicts the first `width` samples of the row beside sample `k` of `left`.
+/// Predicts the first `width` samples of the row next to sample `k` of `left`.
 #[tactic(auto, using(av1_frame::proofs::Paint::row_painting))]
 fn paeth_row<T: Pixel>(
     row: &mut [T],
@@ -54,12 +54,11 @@ fn paeth_row<T: Pixel>(
     }
 }
 
-/// Predicts the samples of a rectangle: each becomes the one of the sample `above` its column, the `left` one of its
-/// row and the corner `above_left` that is nearest to the first two less the third. The rows of `samples` stand
-/// `stride` apart.
+/// Predicts the samples of a rectangle. Each becomes the sample `above` its column, the `left` sample of its row or the
+/// corner `above_left`: whichever is nearest to the first two less the third. The rows of `samples` are `stride` apart.
 ///
-/// `above` runs from the left, and `left` from the bottom up: of as many samples as the rectangle has rows, the last is
-/// that of the first row. Samples past those beside the rectangle are not read.
+/// `above` runs from the left. `left` runs from the bottom up: of as many samples as the rectangle has rows, the last
+/// is next to the first row. Other samples of the sides are not read.
 #[tactic(auto, using(av1_frame::proofs::Paint::rectangle_painting))]
 pub fn pred_paeth_to<T: Pixel>(
     samples: &mut [T],

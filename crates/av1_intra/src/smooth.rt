@@ -1,4 +1,4 @@
-//! Smooth prediction: each sample is a weighted mean of those on the sides.
+//! Smooth prediction: each sample is a weighted mean of samples on the sides.
 //!
 //! AV1 specification: smooth intra prediction process.
 
@@ -47,7 +47,7 @@ fn smooth_weights(n: usize) -> &'static [u8]
     }
 }
 
-/// Returns 256 times the mean of `a`, which weighs `weight` 256ths, and `b`.
+/// Returns 256 times the mean of `a`, at a weight of `weight` 256ths, and `b`.
 #[tactic(auto, using(crate::proofs::Mixes::mix_within))]
 fn mixed(weight: u8, a: u32, b: u32) -> u32
     requires a { a < 2 ^ 16 }
@@ -135,11 +135,11 @@ fn smooth_h_row<T: Pixel>(
     }
 }
 
-/// Predicts the samples of a rectangle: each becomes the mean of that of `pred_smooth_v_to` and that of
-/// `pred_smooth_h_to`, rounded once. The rows of `samples` stand `stride` apart.
+/// Predicts the samples of a rectangle. Each becomes the mean of the results of `pred_smooth_v_to` and
+/// `pred_smooth_h_to`, rounded once. The rows of `samples` are `stride` apart.
 ///
-/// `above` runs from the left, and `left` from the bottom up: its first sample is that of the lowest row. Samples past
-/// those beside the rectangle are not read.
+/// `above` runs from the left. `left` runs from the bottom up: its first sample is next to the lowest row. Samples past
+/// the rectangle's columns and rows are not read.
 #[tactic(auto, using(av1_frame::proofs::Paint::rectangle_painting))]
 pub fn pred_smooth_to<T: Pixel>(
     samples: &mut [T],
@@ -173,11 +173,11 @@ pub fn pred_smooth_to<T: Pixel>(
     }
 }
 
-/// Predicts the samples of a rectangle: each becomes a mean of the sample in its row of `left` and the last one
-/// `above`, which weighs the more the further to the right the column is. The rows of `samples` stand `stride` apart.
+/// Predicts the samples of a rectangle. Each becomes a weighted mean of the sample of `left` in its row and the last
+/// sample of `above`, whose weight grows to the right. The rows of `samples` are `stride` apart.
 ///
-/// `above` runs from the left, and `left` from the bottom up: its first sample is that of the lowest row. Samples past
-/// those beside the rectangle are not read.
+/// `above` runs from the left. `left` runs from the bottom up: its first sample is next to the lowest row. Samples past
+/// the rectangle's columns and rows are not read.
 #[tactic(auto, using(av1_frame::proofs::Paint::rectangle_painting))]
 pub fn pred_smooth_h_to<T: Pixel>(
     samples: &mut [T],
@@ -201,11 +201,11 @@ pub fn pred_smooth_h_to<T: Pixel>(
     }
 }
 
-/// Predicts the samples of a rectangle: each becomes a mean of the sample in its column of `above` and the lowest one
-/// on the left, which weighs the more the further down the row is. The rows of `samples` stand `stride` apart.
+/// Predicts the samples of a rectangle. Each becomes a weighted mean of the sample of `above` in its column and the
+/// lowest sample on the left, whose weight grows downward. The rows of `samples` are `stride` apart.
 ///
-/// `above` runs from the left, and `left` from the bottom up: its first sample is that of the lowest row. Samples past
-/// those beside the rectangle are not read.
+/// `above` runs from the left. `left` runs from the bottom up: its first sample is next to the lowest row. Samples past
+/// the rectangle's columns and rows are not read.
 #[tactic(auto, using(av1_frame::proofs::Paint::rectangle_painting))]
 pub fn pred_smooth_v_to<T: Pixel>(
     samples: &mut [T],

@@ -11,7 +11,7 @@ use crate::samples::number_at;
 use av1_frame::{Pixel, StoredArea, copy_row, fill_row};
 
 /// Predicts the samples of a rectangle: each row becomes the samples of `above`, which runs from the left. The rows of
-/// `samples` stand `stride` apart. Samples of `above` past the rectangle's width are not read.
+/// `samples` are `stride` apart. Samples of `above` past the rectangle's width are not read.
 pub fn pred_v_to<T: Pixel>(samples: &mut [T], stride: usize, area: StoredArea, above: &[T])
     requires rows { AreRows stride area (length samples.old) }
     requires above_long { area.width ≤ length above.now }
@@ -24,7 +24,7 @@ pub fn pred_v_to<T: Pixel>(samples: &mut [T], stride: usize, area: StoredArea, a
     }
 }
 
-/// As `pred_v_to`, in line, so that the compiler knows the width of the rows that it copies.
+/// As `pred_v_to`, inlined, so that the compiler knows the width of the rows that it copies.
 #[inline(always)]
 #[tactic(auto, using(av1_frame::proofs::Paint::rectangle_painting))]
 fn copy_down<T: Pixel>(
@@ -45,11 +45,11 @@ fn copy_down<T: Pixel>(
     }
 }
 
-/// Predicts the samples of a rectangle: each row becomes its sample of `left`, repeated. The rows of `samples` stand
+/// Predicts the samples of a rectangle: each row becomes its sample of `left`, repeated. The rows of `samples` are
 /// `stride` apart.
 ///
-/// `left` runs from the bottom up: of as many samples as the rectangle has rows, the last is that of the first row.
-/// Samples past those are not read.
+/// `left` runs from the bottom up: of as many samples as the rectangle has rows, the last is next to the first row.
+/// Other samples are not read.
 pub fn pred_h_to<T: Pixel>(samples: &mut [T], stride: usize, area: StoredArea, left: &[T])
     requires rows { AreRows stride area (length samples.old) }
     requires left_long { area.height ≤ length left.now }
@@ -73,7 +73,7 @@ fn copy_along<T: Pixel>(row: &mut [T], left: &[T], k: usize, width: usize)
     fill_row(row, sample, width);
 }
 
-/// As `pred_h_to`, in line, so that the compiler knows the width of the rows that it fills.
+/// As `pred_h_to`, inlined, so that the compiler knows the width of the rows that it fills.
 #[inline(always)]
 #[tactic(auto, using(av1_frame::proofs::Paint::rectangle_painting))]
 fn copy_across<T: Pixel>(

@@ -8,8 +8,8 @@ ghost use Rattle.av1_intra.specs.Upsampling.{is_upsampled, upsampled};
 
 use av1_frame::{Pixel, clip};
 
-/// Whether a side of a block of `width` by `height` samples is upsampled: it is where the block is small and the angle
-/// less than 40 degrees from the side's own, but not the same. The arguments are those of `select_ief_strength`.
+/// Whether a side of a block of `width` by `height` samples is upsampled. It is if the block is small and the angle is
+/// less than 40 degrees from the side's own, but not equal to it. The arguments are those of `select_ief_strength`.
 ///
 /// AV1 specification: intra edge upsample selection process.
 #[tactic(auto, using(std::proofs::lemmas::Bool::Decides::nat_tests))]
@@ -40,8 +40,8 @@ fn halfway<T: Pixel>(a: u32, b: u32, c: u32, d: u32, bit_depth: usize) -> T
     clip((sum / 16) as i32, bit_depth)
 }
 
-/// Upsamples the first `size + 1` entries of `edge`, of which entry 0 is the corner: entry e moves to 2e, and a number
-/// halfway comes between each two. Entries past `2 * size` stay.
+/// Upsamples the first `size + 1` entries of `edge`, of which entry 0 is the corner. Entry e moves to 2e, and a number
+/// halfway comes between each two. Entries past `2 * size` are unchanged.
 ///
 /// AV1 specification: intra edge upsample process.
 pub fn upsample_edge<T: Pixel>(size: usize, edge: &mut [T], bit_depth: usize)

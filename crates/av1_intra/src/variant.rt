@@ -1,4 +1,4 @@
-//! Which sides of a block lie in its tile.
+//! The sides of a block that lie in its tile.
 
 ghost use Rattle.std.specs.Prelude.{◌≡◌};
 ghost use Rattle.av1_intra.specs.Predicted.{variant_at};

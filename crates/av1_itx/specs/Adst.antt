@@ -42,7 +42,7 @@ abbrev pub adst4 : List ℤ → List ℤ
 adst4 = adst4_with wrapping
 
 -- Two neighbours u, v by the weights w0 and w1 (a butterfly rotation): they become w0 u + w1 v and w1 u - w0 v,
--- rounded. This is place i of the pair 2p, 2p + 1.
+-- rounded. `i` is a place of the pair 2p, 2p + 1.
 unfoldable pub turned_with : Operations → ℤ → ℤ → List ℤ → ℕ → ℤ
 turned_with ops w0 w1 v i =
     if i % 2 == 0
@@ -52,7 +52,7 @@ turned_with ops w0 w1 v i =
 abbrev pub turned : ℤ → ℤ → List ℤ → ℕ → ℤ
 turned = turned_with wrapping
 
--- the weights of a turn by the angle a, and of one the other way round
+-- the weights of a turn by the angle a, and of one in the other direction
 abbrev pub turn_weights : ℕ → ℤ × ℤ
 turn_weights a = (cos128 a, cos128 (64 - a))
 
@@ -63,7 +63,7 @@ back_weights a = (neg_ℤ (cos128 (64 - a)), cos128 a)
 unfoldable pub adst_in : ℕ → List ℤ → ℕ → ℤ
 adst_in n x i = if i % 2 == 0 then at x (n - 1 - i) else at x (i - 1)
 
--- The first turn, of each pair of n places, by the weights of pair p.
+-- The weights of pair p of n places in the first turn, which turns each pair.
 abbrev pub start_weights : ℕ → ℕ → ℤ × ℤ
 start_weights n p = turn_weights (32 / n * (4 * p + 1))
 
@@ -75,7 +75,8 @@ adst_start_with ops n v i =
 abbrev pub adst_start : ℕ → List ℤ → ℕ → ℤ
 adst_start = adst_start_with wrapping
 
--- In each block of 2s places, two at a distance of s become their clamped sum and difference (a Hadamard rotation).
+-- In each block of 2s places, two places at a distance of s become their clamped sum and difference (a Hadamard
+-- rotation).
 unfoldable pub adst_sum_with : Operations → ℕ → ℕ → List ℤ → ℕ → ℤ
 adst_sum_with ops range s v i =
     if nat_lt (i % (2 * s)) s
@@ -85,8 +86,8 @@ adst_sum_with ops range s v i =
 abbrev pub adst_sum : ℕ → ℕ → List ℤ → ℕ → ℤ
 adst_sum = adst_sum_with wrapping
 
--- Then the pairs of the upper s places of each block are turned: the first s/4 of them, at least one, and the others
--- the other way round. These are the weights of pair p of them.
+-- After the sums, the pairs of the upper s places of each block are turned: the first s/4 of them, at least one, and
+-- the others in the other direction. These are the weights of pair p.
 abbrev pub round_weights : ℕ → ℕ → ℤ × ℤ
 round_weights s p =
     if nat_lt p (max 1 (s / 4))
@@ -102,7 +103,7 @@ adst_turn_with ops s v i =
 abbrev pub adst_turn : ℕ → List ℤ → ℕ → ℤ
 adst_turn = adst_turn_with wrapping
 
--- Both in turn, for s = 2^k, 2^(k-1), .., the first c of them.
+-- The sums and then the turns, for the first c of s = 2^k, 2^(k-1), ..
 unfoldable pub adst_rounds_with : Operations → ℕ → ℕ → ℕ → List ℤ → List ℤ
 adst_rounds_with ops range k zero v = v
 adst_rounds_with ops range k (suc c) v =
@@ -117,7 +118,7 @@ adst_rounds = adst_rounds_with wrapping
 unfoldable pub out_place : ℕ → ℕ → ℕ
 out_place k i = brev (suc k) (bit_xor i (i / 2))
 
--- Output i, which is negated where i is odd.
+-- Output i, which is negated if i is odd.
 unfoldable pub adst_out_with : Operations → ℕ → List ℤ → ℕ → ℤ
 adst_out_with ops k v i =
     let z = at v (out_place k i) in

@@ -5,8 +5,8 @@ use Rattle.av1_dct.specs.Arithmetic.{at}
 use Rattle.av1_dct.specs.Operations.{Operations, wrapping}
 use Rattle.av1_lists.specs.Lists.{by_index}
 
--- what one of 2^(k+1) values becomes: for k from 1 to 4 it is scaled by the square root of 2, by 2, by twice the square
--- root of 2, and by 4
+-- one of 2^(k+1) values after the transform: for k from 1 to 4 it is scaled by the square root of 2, by 2, by twice the
+-- square root of 2, and by 4
 unfoldable pub scaled_with : Operations → ℕ → ℤ → ℤ
 scaled_with ops (suc zero) z = ops.round (ops.times (pos 5793) z)
 scaled_with ops (suc (suc zero)) z = ops.times (pos 2) z
@@ -16,7 +16,7 @@ scaled_with ops k z = ops.times (pos 4) z
 abbrev pub scaled : ℕ → ℤ → ℤ
 scaled = scaled_with wrapping
 
--- whole numbers that never wrap, as AV1 has them
+-- whole numbers that never wrap, as in AV1
 abbrev pub exact : Operations
 exact = record wrapping { round = λ s. int_shr (s +ℤ pos 2048) 12 }
 

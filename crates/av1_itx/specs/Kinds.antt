@@ -49,11 +49,11 @@ row_kind V_FLIPADST = IDENTITY
 row_kind H_FLIPADST = FLIPADST
 row_kind WHT_WHT = WHT
 
--- the same, but for an identity, which then never wraps
+-- the same kind, but an identity becomes one that never wraps
 abbrev pub exact_kind : TxType1D → TxType1D
 exact_kind IDENTITY = EXACT_IDENTITY
 exact_kind kind = kind
 
--- the transform along the rows, where `by_av1` says whether an identity never wraps there, as AV1 has it
+-- the transform along the rows; with `by_av1` an identity never wraps there, as in AV1
 abbrev pub row_kind_by : (by_av1 : Bool) → TxType → TxType1D
 row_kind_by by_av1 type = if by_av1 then exact_kind (row_kind type) else row_kind type

@@ -9,7 +9,7 @@ use Rattle.av1_itx.specs.Adst.{adst_with}
 use Rattle.av1_itx.specs.Identity.{exact, identity_with}
 use Rattle.av1_itx.specs.Walsh.{walsh_with}
 
--- The inverse transform of 2^(k+1) values, clamped to `range` bits within. A flipped one gives its outputs in reverse
+-- The inverse transform of 2^(k+1) values, with clamps to `range` bits. A flipped one gives its outputs in reverse
 -- order.
 unfoldable pub network_with : Operations → TxType1D → ℕ → ℕ → List ℤ → List ℤ
 network_with ops DCT range k x = cosine_with ops range k x

@@ -39,7 +39,7 @@ column_power size = side_log2 (tx_height size) - 1
 abbrev pub HasNetworks : TxSize → TxType → Type 0
 HasNetworks size type = HasNetwork (row_kind type) (row_power size) × HasNetwork (column_kind type) (column_power size)
 
--- Transform_Row_Shift: by how many bits values are rounded between the rows and the columns
+-- Transform_Row_Shift: the number of bits by which values are rounded between the rows and the columns
 abbrev pub row_shift : TxSize → ℕ
 row_shift TX_4X4 = 0
 row_shift TX_8X8 = 1
@@ -61,31 +61,31 @@ row_shift TX_32X8 = 2
 row_shift TX_16X64 = 2
 row_shift TX_64X16 = 2
 
--- and after the columns
+-- the number of bits by which they are rounded after the columns
 abbrev pub column_shift : TxType → ℕ
 column_shift type = if is_lossless type then 0 else 4
 
--- how many bits the values of rows and of columns are clamped to
+-- the number of bits to which the values of rows are clamped, and then those of columns
 abbrev pub row_range : ℕ → ℕ
 row_range depth = depth + 8
 
 abbrev pub column_range : ℕ → ℕ
 column_range depth = max (depth + 6) 16
 
--- a coefficient as the rows take it: scaled by the square root of one half where one side is twice the other, by a
--- quarter in a lossless block
+-- a coefficient as an input of a row: scaled by the square root of one half if one side is twice the other, by a
+-- quarter in a lossless block, and clamped
 unfoldable pub row_value : TxSize → TxType → ℕ → ℤ → ℤ
 row_value size type depth z =
     clamp_value (if is_two_to_one size then round_shift (pos 2896 *ℤ z) 12 else if is_lossless type then int_shr z 2
     else z) (row_range depth)
 
--- what the row r takes at column c: coefficients stand column by column, and there are none from row and column 32 on
+-- the input of row r at column c. Coefficients are stored column by column; rows and columns from 32 on have none
 unfoldable pub row_input : TxSize → TxType → ℕ → List ℤ → ℕ → ℕ → ℤ
 row_input size type depth coefficients r c =
     if nat_lt c (coded (tx_width size))
     then row_value size type depth (at coefficients (c * coded (tx_height size) + r)) else pos 0
 
--- row r after its transform; the rows from 32 on are all zeros, which is what places past a list's end read as
+-- row r after its transform; the rows from 32 on are zeros, which is what positions past a list's end give
 unfoldable pub transformed_row : (by_av1 : Bool) → TxSize → TxType → ℕ → List ℤ → ℕ → List ℤ
 transformed_row by_av1 size type depth coefficients r =
     if nat_lt r (coded (tx_height size))
@@ -93,17 +93,17 @@ transformed_row by_av1 size type depth coefficients r =
     (by_index (tx_width size) (row_input size type depth coefficients r))
     else []
 
--- what a column takes for the value z of a row: it is rounded and clamped, but in lossless blocks AV1 does not clamp
+-- the input of a column for the value z of a row: z rounded and clamped, but AV1 does not clamp in lossless blocks
 abbrev pub column_value : (by_av1 : Bool) → TxSize → TxType → ℕ → ℤ → ℤ
 column_value by_av1 size type depth z =
     let v = round_shift z (row_shift size) in
     if by_av1 && is_lossless type then v else clamp_value v (column_range depth)
 
--- what a column takes whose values after the rows are f 0, f 1 and so on
+-- the inputs of a column whose values after the rows are f 0, f 1 and so on
 abbrev pub column_input : (by_av1 : Bool) → TxSize → TxType → ℕ → (ℕ → ℤ) → List ℤ
 column_input by_av1 size type depth f = by_index (tx_height size) (λ r. column_value by_av1 size type depth (f r))
 
--- such a column after its transform
+-- the column with these inputs, after its transform
 unfoldable pub column_network : (by_av1 : Bool) → TxSize → TxType → ℕ → (ℕ → ℤ) → List ℤ
 column_network by_av1 size type depth f =
     network (column_kind type) (column_range depth) (column_power size) (column_input by_av1 size type depth f)
@@ -113,13 +113,12 @@ unfoldable pub transformed_column : (by_av1 : Bool) → TxSize → TxType → �
 transformed_column by_av1 size type depth coefficients c =
     column_network by_av1 size type depth (λ r. at (transformed_row by_av1 size type depth coefficients r) c)
 
--- The residue of a block's coefficients: what is added to the sample at row r and column c. By AV1's rule (`by_av1`)
--- identities along rows never wrap, and lossless blocks are not clamped between the passes. Identities down columns
--- never wrap by either rule.
+-- The residual at row r and column c: what is added to the sample. By AV1's rule (`by_av1`) identities along rows never
+-- wrap, and lossless blocks are not clamped between the passes. Identities down columns never wrap by either rule.
 unfoldable pub residue_by : (by_av1 : Bool) → TxSize → TxType → ℕ → List ℤ → ℕ → ℕ → ℤ
 residue_by by_av1 size type depth coefficients r c =
     round_shift (at (transformed_column by_av1 size type depth coefficients c) r) (column_shift type)
 
--- as rav1e has it
+-- the residual by rav1e's rule
 abbrev pub residue : TxSize → TxType → ℕ → List ℤ → ℕ → ℕ → ℤ
 residue = residue_by false

@@ -1,4 +1,4 @@
--- What the crate's own functions promise one another on the way. No public contract cites this file.
+-- What the functions inside the crate promise one another. No public contract cites this file.
 use Rattle.std.specs.Prelude.{◌≡◌, true, ◌&&◌, if◌then◌else◌, ℕ, ◌+◌, ◌*◌, ◌/◌, ◌^◌, ◌≤◌, ◌<◌, List, length, ℤ, pos}
 use Rattle.av1_blocks.specs.declared.transform.TxType.{TxType}
 use Rattle.av1_blocks.specs.Transforms.{tx_width, tx_height, coded, coded_area}
@@ -21,7 +21,7 @@ use Rattle.std.specs.Prelude.{map}
 use Rattle.std.specs.Borrow.{RattleType}
 use Rattle.std.specs.Mem.{type_size}
 
--- Columns of a buffer that can be transformed four at a time, or eight where the buffer has so many.
+-- Columns of a buffer that can be transformed four at a time, or eight if the buffer has that many.
 pub record AreColumns (columns : Columns) (buffer : List ℤ) : Type 0 where
   pub fours : 4 * (columns.count / 4) ≡ columns.count
   pub eights : 8 ≤ columns.width → 8 * (columns.count / 8) ≡ columns.count
@@ -52,7 +52,7 @@ pub record AreCoefficients {C : Type 0} (val : C → ℤ) (block : Block) (input
   pub columns : HasNetwork (column_kind block.tx_type) (column_power block.tx_size)
   pub fit : (i : ℕ) → i < coded_area block.tx_size → FitsBits (block.bd + 8) (at (map val input) i)
 
--- The first rows of coefficients of a block, so many, as columns of the list that they stand in.
+-- The first `count` rows of coefficients of a block, as columns of the list that stores them.
 abbrev pub block_rows : Block → (count : ℕ) → Columns
 block_rows block count = record {
   kind = row_kind_by block.by_av1 block.tx_type;
@@ -63,7 +63,7 @@ block_rows block count = record {
   range = row_range block.bd;
 }
 
--- how many bits hold what the columns of a block take
+-- the number of bits that hold the inputs of the columns of a block
 abbrev pub column_bits : Block → ℕ
 column_bits block = if block.by_av1 && is_lossless block.tx_type then 20 else column_range block.bd
 
@@ -78,20 +78,20 @@ block_columns block = record {
   range = column_bits block;
 }
 
--- what the columns of a block take of its coefficients, row by row
+-- `buffer` has the inputs of the columns of a block, row by row
 abbrev pub AreRowsDone : Block → (coefficients buffer : List ℤ) → Type 0
 AreRowsDone block coefficients buffer = (r c : ℕ) → r < tx_height block.tx_size → c < tx_width block.tx_size →
     at buffer (r * tx_width block.tx_size + c) ≡
     column_value block.by_av1 block.tx_size block.tx_type block.bd
     (at (transformed_row block.by_av1 block.tx_size block.tx_type block.bd coefficients r) c)
 
--- A rectangle among so many samples that has the sides of a block.
+-- A rectangle, among `count` samples, with the width and height of a block.
 pub record IsPlaceFor (block : Block) (place : StridedArea) (count : ℕ) : Type 0 where
   pub rows : AreRows place.stride place.area count
   pub width : place.area.width ≡ tx_width block.tx_size
   pub height : place.area.height ≡ tx_height block.tx_size
 
--- a word takes no more room in an array than 16 lanes of 32 bits
+-- a word takes no more than 64 bytes: 16 lanes of 32 bits
 abbrev pub IsSmallWord : RattleType → Type 0
 IsSmallWord W = type_size W ≤ 64
 
@@ -101,7 +101,7 @@ pub record IsSingleBlock {C : Type 0} (val : C → ℤ) (type : TxType) (input :
   pub columns : is_cosine (column_kind type) ≡ true
   pub none : (i : ℕ) → 0 < i → at (map val input) i ≡ pos 0
 
--- what the columns of such a block take as their first value
+-- the first input of each column of such a block
 abbrev pub top_of : Block → (first : ℤ) → ℤ
 top_of block first =
     let z = row_value block.tx_size block.tx_type block.bd first in

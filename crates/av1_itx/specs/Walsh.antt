@@ -4,7 +4,7 @@ use Rattle.std.specs.Int.{int_shr}
 use Rattle.av1_dct.specs.Arithmetic.{at}
 use Rattle.av1_dct.specs.Operations.{Operations, wrapping}
 
--- The inverse Walsh-Hadamard transform, which loses nothing.
+-- The inverse Walsh-Hadamard transform, which is lossless.
 unfoldable pub walsh_with : Operations → List ℤ → List ℤ
 walsh_with ops x =
     let s0 = ops.plus (at x 0) (at x 1) in

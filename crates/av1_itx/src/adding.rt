@@ -1,7 +1,7 @@
-//! Residues that are added to samples, one in each lane of a word: eight at a time, or four where a row has no more.
+//! Residuals that are added to samples, one in each lane of a word: eight at a time, or four if a row has no more.
 //!
-//! A word is in registers before the first sample is written, so that a compiler may do the same to all its lanes at
-//! once.
+//! A word is in registers before the first sample is written, so that a compiler can treat all its lanes at the same
+//! time.
 
 ghost use Rattle.std.specs.Prelude.{◌≡◌, ℕ, ◌+◌, ◌*◌, ◌/◌, ◌<◌, ◌≤◌, ◌⊎◌, pos, ◌+ℤ◌, List, length};
 ghost use Rattle.av1_dct.specs.Arithmetic.{at, FitsBits};
@@ -14,7 +14,7 @@ use crate::words::BlockWord;
 use av1_frame::{Pixel, StoredArea, clip};
 use std::simd::prelude::*;
 
-// The depth of samples of a type: it needn't be asked for where they have one byte.
+// The depth of samples of a type, which the compiler knows if they have one byte.
 #[inline(always)]
 fn depth_of<T: Pixel>(bd: usize) -> usize
     requires depths { 8 ≤ bd }
@@ -24,7 +24,7 @@ fn depth_of<T: Pixel>(bd: usize) -> usize
     if T::BITS == 8 { 8 } else { bd }
 }
 
-// The sample v with a residue added.
+// The sample v with a residual added.
 #[inline(always)]
 fn add_one<T: Pixel>(v: T, residue: i32, bd: usize) -> T
     requires depths { 8 ≤ bd }
@@ -35,7 +35,7 @@ fn add_one<T: Pixel>(v: T, residue: i32, bd: usize) -> T
     clip(v.to_i32() + residue, depth_of::<T>(bd))
 }
 
-// What the columns leave, rounded by no bits or by four.
+// The results of the columns, rounded by no bits or by four.
 #[inline(always)]
 fn residues_of<W: BlockWord, const SHIFT: usize>(z: W) -> W
     requires shift_in { (SHIFT ≡ 0) ⊎ (SHIFT ≡ 4) }
@@ -48,7 +48,7 @@ fn residues_of<W: BlockWord, const SHIFT: usize>(z: W) -> W
     z.plus(W::splat(8)).halve().halve().halve().halve()
 }
 
-// Adds residues to the samples from `start` on, one in each lane.
+// Adds residuals to the samples from `start` on, one in each lane.
 #[inline(always)]
 fn add_word<T: Pixel, W: BlockWord>(samples: &mut [T], start: usize, residues: W, bd: usize)
     requires room { start + W.LANES ≤ length samples.old }
@@ -117,7 +117,7 @@ fn add_rows<T: Pixel, W: BlockWord, const SHIFT: usize>(
     }
 }
 
-// Adds the values, row by row, to the samples of the rectangle, eight at a time, or four where a row has no more.
+// Adds the values, row by row, to the samples of the rectangle, eight at a time, or four if a row has no more.
 #[inline(always)]
 fn add_rounded<T: Pixel, const SHIFT: usize>(
     samples: &mut [T],
@@ -144,7 +144,7 @@ fn add_rounded<T: Pixel, const SHIFT: usize>(
     }
 }
 
-/// Adds the values, row by row, to the samples of the rectangle, each rounded by so many bits.
+/// Adds the values, row by row, to the samples of the rectangle, each rounded by `shift` bits.
 #[inline(always)]
 pub(crate) fn add_all<T: Pixel>(
     samples: &mut [T],
@@ -172,7 +172,7 @@ pub(crate) fn add_all<T: Pixel>(
     }
 }
 
-// Adds one residue to the row's first w samples, as many at a time as a word has lanes.
+// Adds one residual to the row's first w samples, as many at a time as a word has lanes.
 #[inline(always)]
 fn raise_row<T: Pixel, W: BlockWord>(samples: &mut [T], residue: i32, w: usize, bd: usize)
     requires some { 0 < W.LANES }
@@ -190,7 +190,7 @@ fn raise_row<T: Pixel, W: BlockWord>(samples: &mut [T], residue: i32, w: usize, 
     }
 }
 
-// Adds one residue to the samples of the rectangle, as many at a time as a word has lanes.
+// Adds one residual to the samples of the rectangle, as many at a time as a word has lanes.
 #[tactic(auto, using(av1_frame::proofs::Paint::rectangle_painting))]
 fn raise_rows<T: Pixel, W: BlockWord>(
     samples: &mut [T],
@@ -213,7 +213,7 @@ fn raise_rows<T: Pixel, W: BlockWord>(
     }
 }
 
-/// Adds one residue to the samples of the rectangle.
+/// Adds one residual to the samples of the rectangle.
 #[inline(always)]
 pub(crate) fn raise_all<T: Pixel>(
     samples: &mut [T],

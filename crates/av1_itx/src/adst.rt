@@ -9,7 +9,7 @@ ghost use Rattle.av1_itx.specs.Adst.{adst, adst4, adst_more, adst_in, adst_out, 
 
 use crate::words::BlockWord;
 
-// The weights of the turns of neighbours: of all pairs at the start, and of the pairs of the upper half of a block of
+// The weights of the turns of neighbours: of all pairs at the start, and of the pairs in the upper half of a block of
 // 16, 8 and 4.
 const START_8: [(i32, i32); 4] = [(4076, 401), (3612, 1931), (2598, 3166), (1189, 3920)];
 
@@ -30,7 +30,7 @@ const BLOCK_8: [(i32, i32); 2] = [(3784, 1567), (-1567, 3784)];
 
 const BLOCK_4: [(i32, i32); 1] = [(2896, 2896)];
 
-// The places that the outputs are read from.
+// The positions from which the outputs are read.
 const PLACES_8: [usize; 8] = [0, 4, 6, 2, 3, 7, 5, 1];
 
 const PLACES_16: [usize; 16] = [0, 8, 12, 4, 6, 14, 10, 2, 3, 11, 15, 7, 5, 13, 9, 1];
@@ -53,7 +53,7 @@ fn turn_pairs<W: BlockWord>(v: &mut [W], weights: &[(i32, i32)])
     }
 }
 
-// The halves become their sums and differences, place by place.
+// The halves become their sums and differences, position by position.
 #[inline(always)]
 fn sum_halves<W: BlockWord>(v: &mut [W], range: usize)
     requires range_in { (8 ≤ range) × (range ≤ 20) }
@@ -70,7 +70,7 @@ fn sum_halves<W: BlockWord>(v: &mut [W], range: usize)
     }
 }
 
-// Sums and differences of the halves of a block, whose upper half is then turned.
+// The sums and differences of the halves of a block, whose upper half is then turned.
 #[inline(always)]
 fn run_block<W: BlockWord>(v: &mut [W], weights: &[(i32, i32)], range: usize)
     requires range_in { (8 ≤ range) × (range ≤ 20) }
@@ -118,7 +118,7 @@ fn permute_in<W: BlockWord>(input: &[W], v: &mut [W])
     }
 }
 
-// Reads the outputs from their places, every second one negated.
+// Reads the outputs from their positions, every second one negated.
 #[inline(always)]
 fn permute_out<W: BlockWord>(k: usize, v: &[W], places: &[usize], output: &mut [W])
     requires k_in { k ≤ 3 }
@@ -220,7 +220,7 @@ pub(crate) fn adst_of<W: BlockWord>(k: usize, input: &[W], output: &mut [W], ran
     }
 }
 
-/// The inverse ADST4 process on the first 4 values; the rest of `output` stays. `_range` is not read.
+/// The inverse ADST4 process on the first 4 values. The rest of `output` is unchanged. `_range` is not read.
 pub fn av1_iadst4(input: &[i32], output: &mut [i32], _range: usize)
     requires input_len { 4 ≤ length input.now }
     requires output_len { 4 ≤ length output.old }
@@ -243,7 +243,7 @@ pub fn av1_iflipadst4(input: &[i32], output: &mut [i32], range: usize)
     output[..4].reverse();
 }
 
-/// The inverse ADST8 process on the first 8 values, with clamps to `range` bits; the rest of `output` stays.
+/// The inverse ADST8 process on the first 8 values, with clamps to `range` bits. The rest of `output` is unchanged.
 pub fn av1_iadst8(input: &[i32], output: &mut [i32], range: usize)
     requires range_in { (8 ≤ range) × (range ≤ 20) }
     requires input_len { 8 ≤ length input.now }
@@ -269,7 +269,7 @@ pub fn av1_iflipadst8(input: &[i32], output: &mut [i32], range: usize)
     output[..8].reverse();
 }
 
-/// The inverse ADST16 process on the first 16 values, with clamps to `range` bits; the rest of `output` stays.
+/// The inverse ADST16 process on the first 16 values, with clamps to `range` bits. The rest of `output` is unchanged.
 pub fn av1_iadst16(input: &[i32], output: &mut [i32], range: usize)
     requires range_in { (8 ≤ range) × (range ≤ 20) }
     requires input_len { 16 ≤ length input.now }

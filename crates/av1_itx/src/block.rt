@@ -1,4 +1,4 @@
-//! What the passes are told of a block.
+//! A block, as the passes take it.
 
 use av1_blocks::{TxSize, TxType};
 
@@ -7,9 +7,9 @@ use av1_blocks::{TxSize, TxType};
 pub struct Block {
     pub tx_size: TxSize,
     pub tx_type: TxType,
-    /// Whether it goes by AV1's rule: no identity along its rows wraps, and if it is lossless (`WHT_WHT`), nothing is
-    /// clamped between the passes. By rav1e's rule identities wrap at 32 bits, and every block is clamped.
+    /// Whether the block follows AV1's rule: no identity along its rows wraps, and if it is lossless (`WHT_WHT`),
+    /// nothing is clamped between the passes. By rav1e's rule identities wrap at 32 bits, and every block is clamped.
     pub by_av1: bool,
-    /// How many bits a sample has.
+    /// The number of bits of a sample.
     pub bd: usize,
 }

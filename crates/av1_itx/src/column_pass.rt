@@ -12,7 +12,7 @@ use crate::kinds::{get_1d_tx_types, is_lossless};
 use av1_blocks::TxSize;
 use av1_dct::LaneCount;
 
-/// By how many bits values are rounded between the passes.
+/// The number of bits by which values are rounded between the passes.
 pub(crate) fn row_shift_of(tx_size: TxSize) -> usize
     ensures value { result ≡ row_shift tx_size }
     ensures small { result ≤ 2 }
@@ -38,7 +38,7 @@ pub(crate) fn row_shift_of(tx_size: TxSize) -> usize
     }
 }
 
-/// How many bits values are clamped to between the passes, and within the columns.
+/// The number of bits to which values are clamped between the passes, and within the columns.
 pub(crate) fn column_range_of(bd: usize) -> usize
     requires { (8 ≤ bd) × (bd ≤ 12) }
     ensures value { result ≡ column_range bd }
@@ -47,8 +47,8 @@ pub(crate) fn column_range_of(bd: usize) -> usize
     (bd + 6).max(16)
 }
 
-/// How many bits hold what the columns of a block take. In lossless blocks AV1 does not clamp between the passes, and
-/// their rows give no value of more than 20 bits.
+/// The number of bits that hold the inputs of the columns of a block. In lossless blocks AV1 does not clamp between the
+/// passes, and their rows give no value of more than 20 bits.
 pub(crate) fn column_bits_of(block: Block) -> usize
     requires { (8 ≤ block.bd) × (block.bd ≤ 12) }
     ensures value { result ≡ column_bits block }
@@ -77,8 +77,8 @@ fn columns_of(block: Block) -> Columns
     }
 }
 
-/// Transforms each column of a block in place: `buffer` has the block row by row, as the rows leave it. `count` counts
-/// the groups of eight columns that take the cosine transform.
+/// Transforms each column of a block in place. `buffer` has the results of the rows, row by row. `count` counts the
+/// groups of eight columns that take the cosine transform.
 pub(crate) fn column_pass(buffer: &mut [i32], count: &mut LaneCount, block: Block)
     requires depth { (8 ≤ block.bd) × (block.bd ≤ 12) }
     requires columns { AreColumns (block_columns block) buffer.old }

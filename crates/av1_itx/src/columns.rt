@@ -1,7 +1,8 @@
-//! Columns of a block, one in each lane, transformed in place side by side: eight at a time, or four where there are no
+//! Columns of a block, one in each lane, transformed in place side by side: eight at a time, or four if there are no
 //! more.
 //!
-//! Rows of coefficients go the same way, since they are the columns of the list that coefficients stand in.
+//! Rows of coefficients are transformed in the same way, since they are the columns of the list that stores
+//! coefficients.
 
 ghost use Rattle.std.specs.Prelude.{◌≡◌, ℕ, ◌+◌, ◌-◌, ◌*◌, ◌/◌, ◌<◌, ◌≤◌, nat_le, nat_lt, ◌&&◌, if◌then◌else◌, pos, length, ◌==◌};
 ghost use Rattle.av1_dct.specs.Arithmetic.{at, clamp_value, FitsBits};
@@ -19,21 +20,21 @@ use av1_blocks::INV_SQRT2;
 use av1_dct::{LaneCount, clamp_value, cosine_lanes, half_btf};
 use std::simd::prelude::*;
 
-/// Columns of a buffer that are transformed in place: the first `count` of `width`, of `height` rows. The buffer stands
-/// row by row, and the height is 2^(power + 1).
+/// Columns of a buffer that are transformed in place: the first `count` of `width`, of `height` rows. The buffer is
+/// stored row by row, and the height is 2^(power + 1).
 #[derive(Clone, Copy)]
 pub(crate) struct Columns {
-    /// Which transform they take.
+    /// The kind of their transform.
     pub(crate) kind: TxType1D,
     pub(crate) count: usize,
     pub(crate) width: usize,
     pub(crate) height: usize,
     pub(crate) power: usize,
-    /// How many bits values within them are clamped to.
+    /// The number of bits to which values within them are clamped.
     pub(crate) range: usize,
 }
 
-// The inputs of the columns from c on, one in each lane, of a buffer of w columns.
+// The inputs of the columns from c on, one in each lane, from a buffer of w columns.
 #[inline(always)]
 fn gather_words<W: BlockWord>(buffer: &[i32], line: &mut [W], c: usize, w: usize)
     requires columns_in { c + W.LANES ≤ w }
@@ -47,7 +48,7 @@ fn gather_words<W: BlockWord>(buffer: &[i32], line: &mut [W], c: usize, w: usize
     }
 }
 
-// Writes the lanes of a line into the columns from c on, of a buffer of w columns.
+// Writes the lanes of a line to the columns from c on, in a buffer of w columns.
 #[inline(always)]
 fn scatter_words<W: BlockWord>(buffer: &mut [i32], line: &[W], c: usize, w: usize)
     requires columns_in { c + W.LANES ≤ w }
@@ -101,7 +102,7 @@ pub(crate) fn run_words<W: BlockWord>(
     }
 }
 
-/// What a column becomes by the cosine transform whose only value is its first.
+/// The value of each sample of a column after the cosine transform, if only its first value is not 0.
 pub(crate) fn single_value(top: i32, range: usize) -> i32
     requires range_in { (8 ≤ range) × (range ≤ 20) }
     ensures { result ≡ clamp_value (half_btf (pos 2896) top (pos 0) top) range }
@@ -133,7 +134,7 @@ pub(crate) fn run_single_groups(
     }
 }
 
-// The value at place r of a line whose first is `top` and whose others are 0.
+// The value at position r of a line whose first value is `top` and whose others are 0.
 #[inline(always)]
 fn single_at(top: i32, r: usize) -> i32
     ensures { result ≡ (if r == 0 then top else pos 0) }
@@ -141,7 +142,7 @@ fn single_at(top: i32, r: usize) -> i32
     if r == 0 { top } else { 0 }
 }
 
-// Words of which the first alone has values, the same in each lane.
+// Fills words so that only the first has a value, the same in each lane.
 #[inline(always)]
 fn fill_single<W: BlockWord>(line: &mut [W], top: i32)
     ensures { (i : ℕ) → i < W.LANES → column W.lane_of i line.new ≡ by_index (length line.old) (λ r. if r == 0 then top else pos 0) }
@@ -151,7 +152,7 @@ fn fill_single<W: BlockWord>(line: &mut [W], top: i32)
     }
 }
 
-/// How many columns are transformed at a time.
+/// The number of columns that are transformed at a time.
 pub(crate) const LANES: usize = 8;
 
 /// Whether a kind is the cosine transform.
@@ -167,8 +168,8 @@ fn filled<T: Copy, const N: usize>(item: T) -> [T; N] {
     [item; N]
 }
 
-// Columns of N = 2^(K+1) rows, one in each lane, over lines of its own. Both numbers are constants of each instance, so
-// that the compiler knows all places of a transform as numbers.
+// Columns of N = 2^(K+1) rows, one in each lane, over lines of their own. Both numbers are constants of each instance,
+// so that the compiler knows all positions of a transform as numbers.
 fn words_of<W: BlockWord, const K: usize, const N: usize>(
     buffer: &mut [i32],
     count: &mut LaneCount,
@@ -226,8 +227,8 @@ pub(crate) fn run_columns(buffer: &mut [i32], count: &mut LaneCount, columns: &C
 }
 
 /// Runs and counts groups of eight columns. Each column has `top` as its first value and zeros below it. Nothing reads
-/// what the columns become, since it is one product, `single_value`. The transform of a single value is the same at
-/// every length, so that four values serve.
+/// their results, since each is one product, `single_value`. The transform of a single value is the same at every
+/// length, so four values are enough.
 pub(crate) fn run_single(count: &mut LaneCount, top: i32, groups: usize, range: usize)
     requires range_in { (8 ≤ range) × (range ≤ 20) }
     requires fits { FitsBits range top }

@@ -10,7 +10,7 @@ ghost use Rattle.av1_itx.specs.Identity.{exact, identity, identity_with, scaled,
 use crate::words::BlockWord;
 use av1_blocks::SQRT2;
 
-// What a value of 2^(k+1) becomes, in each lane.
+// One of 2^(k+1) values after the transform, in each lane.
 #[inline(always)]
 fn scaled_of<W: BlockWord>(k: usize, z: W) -> W
     requires k_in { (1 ≤ k) × (k ≤ 4) }
@@ -44,7 +44,7 @@ pub(crate) fn identity_of<W: BlockWord>(k: usize, input: &[W], output: &mut [W])
     }
 }
 
-// A value by the square root of 2, never wrapped: what is rounded is what the weight has past 1.
+// A value times the square root of 2, never wrapped: only the part of the weight past 1 is multiplied and rounded.
 #[inline(always)]
 fn by_root<W: BlockWord>(z: W) -> W
     requires { (i : ℕ) → i < W.LANES → FitsBits 20 (W.lane_of z i) }
@@ -53,7 +53,8 @@ fn by_root<W: BlockWord>(z: W) -> W
     z.plus(W::turn(SQRT2 - 4096, z, 0, z))
 }
 
-// A value by twice the square root of 2, never wrapped: what is rounded is what the weight has past 2.
+// A value times twice the square root of 2, never wrapped: only the part of the weight past 2 is multiplied and
+// rounded.
 #[inline(always)]
 fn by_two_roots<W: BlockWord>(z: W) -> W
     requires { (i : ℕ) → i < W.LANES → FitsBits 20 (W.lane_of z i) }
@@ -63,7 +64,7 @@ fn by_two_roots<W: BlockWord>(z: W) -> W
     double.plus(W::turn(2 * SQRT2 - 8192, z, 0, z))
 }
 
-// What a value of 2^(k+1) becomes where it never wraps, in each lane.
+// One of 2^(k+1) values after the identity that never wraps, in each lane.
 #[inline(always)]
 fn exactly_scaled<W: BlockWord>(k: usize, z: W) -> W
     requires k_in { (1 ≤ k) × (k ≤ 4) }
@@ -93,8 +94,8 @@ pub(crate) fn exact_identity_of<W: BlockWord>(k: usize, input: &[W], output: &mu
     }
 }
 
-/// The inverse identity transform of 4 values: each is scaled by the square root of 2. The rest of `output` stays, and
-/// `_range` is not read.
+/// The inverse identity transform of 4 values: each is scaled by the square root of 2. The rest of `output` is
+/// unchanged, and `_range` is not read.
 pub fn av1_iidentity4(input: &[i32], output: &mut [i32], _range: usize)
     requires input_len { 4 ≤ length input.now }
     requires output_len { 4 ≤ length output.old }
@@ -105,7 +106,7 @@ pub fn av1_iidentity4(input: &[i32], output: &mut [i32], _range: usize)
     identity_of(1, &input[..4], &mut output[..4]);
 }
 
-/// The inverse identity transform of 8 values: each is scaled by 2. The rest of `output` stays.
+/// The inverse identity transform of 8 values: each is scaled by 2. The rest of `output` is unchanged.
 pub fn av1_iidentity8(input: &[i32], output: &mut [i32], _range: usize)
     requires input_len { 8 ≤ length input.now }
     requires output_len { 8 ≤ length output.old }
@@ -116,8 +117,8 @@ pub fn av1_iidentity8(input: &[i32], output: &mut [i32], _range: usize)
     identity_of(2, &input[..8], &mut output[..8]);
 }
 
-/// The inverse identity transform of 16 values: each is scaled by twice the square root of 2. The rest of `output`
-/// stays.
+/// The inverse identity transform of 16 values: each is scaled by twice the square root of 2. The rest of `output` is
+/// unchanged.
 pub fn av1_iidentity16(input: &[i32], output: &mut [i32], _range: usize)
     requires input_len { 16 ≤ length input.now }
     requires output_len { 16 ≤ length output.old }
@@ -128,7 +129,7 @@ pub fn av1_iidentity16(input: &[i32], output: &mut [i32], _range: usize)
     identity_of(3, &input[..16], &mut output[..16]);
 }
 
-/// The inverse identity transform of 32 values: each is scaled by 4. The rest of `output` stays.
+/// The inverse identity transform of 32 values: each is scaled by 4. The rest of `output` is unchanged.
 pub fn av1_iidentity32(input: &[i32], output: &mut [i32], _range: usize)
     requires input_len { 32 ≤ length input.now }
     requires output_len { 32 ≤ length output.old }

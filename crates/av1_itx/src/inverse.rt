@@ -33,14 +33,15 @@ pub struct TxScratch {
     buffer: Vec<i32>,
     scaled: Vec<i32>,
     count: LaneCount,
-    /// Whether blocks go by AV1's rule: identities along rows never wrap, and in lossless blocks (`WHT_WHT`) nothing is
-    /// clamped between the passes. New scratch goes by rav1e's: identities wrap at 32 bits, and all blocks are clamped.
+    /// Whether blocks follow AV1's rule: identities along rows never wrap, and in lossless blocks (`WHT_WHT`) nothing
+    /// is clamped between the passes. A new scratch follows rav1e's rule: identities wrap at 32 bits, and all blocks
+    /// are clamped.
     pub by_av1: bool,
     ghost long: { (vec_len buffer ≡ 4096) × (vec_len scaled ≡ 2048) },
 }
 
 impl TxScratch {
-    /// Room for every size, 64x64 included.
+    /// Allocates buffers for every size up to 64x64. The only error is running out of memory.
     pub fn new(alloc: Global) -> Result<TxScratch, OutOfMemory>
         ensures groups { IfOk result (λ scratch. scratch.count.groups ≡ 0) }
         ensures rule { IfOk result (λ scratch. scratch.by_av1 ≡ false) }
@@ -55,7 +56,7 @@ impl TxScratch {
         })
     }
 
-    /// How many groups of eight columns went through the lanes. It stays at the last value of a `u64`.
+    /// The number of groups of eight columns that went through the lanes. It stays at the last value of a `u64`.
     pub fn lane_groups(&self) -> u64
         ensures { result ≡ self.now.count.groups }
     {
@@ -63,8 +64,8 @@ impl TxScratch {
     }
 }
 
-/// Room for the values of one block between its passes, and for its scaled coefficients: 24,576 bytes, whose values
-/// before a call don't matter. It is a struct of arrays of `i32` alone, so that C or Rust may own it.
+/// Buffers for the values of one block between its passes, and for its scaled coefficients: 24,576 bytes. Their values
+/// before a call have no effect. It is a struct that has only arrays of `i32`, so that C or Rust may own it.
 #[repr(C)]
 #[derive(Drop)]
 pub struct TxRoom {
@@ -73,7 +74,7 @@ pub struct TxRoom {
 }
 
 impl TxRoom {
-    /// Room for every size, 64x64 included.
+    /// Buffers for every size up to 64x64.
     pub fn new() -> TxRoom {
         TxRoom {
             buffer: [0; 4096],
@@ -90,15 +91,15 @@ fn column_shift_of(tx_type: TxType) -> usize
     if is_lossless(tx_type) { 0 } else { 4 }
 }
 
-// A rectangle of a slice whose rows stand `stride` apart.
+// A rectangle of a slice whose rows are `stride` apart.
 #[derive(Clone, Copy)]
 struct StridedArea {
     stride: usize,
     area: StoredArea,
 }
 
-// The inverse transform of a block by the cosine transforms whose only coefficient is its first: each sample takes the
-// same.
+// The inverse transform of a block by two cosine transforms, if only its first coefficient is not 0: each sample gets
+// the same residual.
 fn add_single<T: Pixel>(
     count: &mut LaneCount,
     input: &[T::Coeff],
@@ -124,7 +125,7 @@ fn add_single<T: Pixel>(
     raise_all(samples, place.stride, place.area, residue, block.bd);
 }
 
-// The inverse transform over a buffer of just the block's size.
+// The inverse transform over a buffer of exactly the block's size.
 fn add_block<T: Pixel>(
     buffer: &mut [i32],
     scaled: &mut [i32],
@@ -150,7 +151,8 @@ fn add_block<T: Pixel>(
     add_all(samples, place.stride, place.area, buffer, shift, block.bd);
 }
 
-// The inverse transform of a block over a whole buffer, which a block with no coefficient but its first doesn't need.
+// The inverse transform of a block over a whole buffer. A block with only its first coefficient doesn't need the
+// buffer.
 fn add_over<T: Pixel>(
     buffer: &mut [i32],
     scaled: &mut [i32],
@@ -187,13 +189,13 @@ fn add_over<T: Pixel>(
     );
 }
 
-/// Adds the residue of coefficients to the samples of a rectangle, which has the transform's sides, and clips: the
-/// specification's "2D inverse transform process" and the addition of "Reconstruction". The rows of `samples` stand
-/// `stride` apart.
+/// Adds the residual of coefficients to the samples of a rectangle, which has the width and height of the transform,
+/// and clips: the specification's "2D inverse transform process" and the addition of "Reconstruction". The rows of
+/// `samples` are `stride` apart.
 ///
-/// The coefficient of row r and column c stands at `c * min(height, 32) + r` of `input`; the rows and columns from 32
-/// on have none. Those that `input` is too short for are 0, and cost nothing: a codec that knows the last column with a
-/// coefficient hands over the columns up to it. All samples outside the rectangle stay. `by_av1` of the
+/// The coefficient of row r and column c is at `c * min(height, 32) + r` of `input`; rows and columns from 32 on have
+/// none. Coefficients past the end of `input` are 0 and cost no time: a codec that knows the last column with a
+/// coefficient passes only the columns up to it. All samples outside the rectangle are unchanged. `by_av1` of the
 /// scratch chooses AV1's rule or rav1e's.
 pub fn inverse_transform_add_to<T: Pixel>(
     scratch: &mut TxScratch,
@@ -234,8 +236,8 @@ pub fn inverse_transform_add_to<T: Pixel>(
     );
 }
 
-/// As `inverse_transform_add_to`, over room of any owner, such as C, by the rule that `block` names. Nobody reads the
-/// count of groups.
+/// As `inverse_transform_add_to`, over buffers of any owner, such as C, by the rule that `block` names. The count of
+/// groups is not kept.
 pub fn inverse_transform_add_in<T: Pixel>(
     room: &mut TxRoom,
     input: &[T::Coeff],
@@ -267,8 +269,8 @@ pub fn inverse_transform_add_in<T: Pixel>(
     );
 }
 
-/// As `inverse_transform_add_to`, to the first rows and columns of `output`, as many as the transform has. All samples
-/// outside them stay.
+/// As `inverse_transform_add_to`, for the first rows and columns of `output`, as many as the transform has. All samples
+/// outside them are unchanged.
 #[tactic(auto, using(av1_frame::proofs::Regions::region_lending))]
 pub fn inverse_transform_add_with<T: Pixel>(
     scratch: &mut TxScratch,
@@ -305,7 +307,7 @@ pub fn inverse_transform_add_with<T: Pixel>(
     );
 }
 
-/// As `inverse_transform_add_with`, over scratch of its own. If memory is refused, no sample changes.
+/// As `inverse_transform_add_with`, over a scratch of its own. If it can't be allocated, no sample changes.
 pub fn inverse_transform_add<T: Pixel>(
     alloc: Global,
     input: &[T::Coeff],

@@ -1,4 +1,4 @@
-//! Which one-dimensional transforms a type is made of.
+//! The one-dimensional transforms of a type.
 
 ghost use Rattle.std.specs.Prelude.{◌≡◌, if◌then◌else◌};
 ghost use Rattle.av1_itx.specs.Kinds.{column_kind, row_kind, row_kind_by};
@@ -18,7 +18,7 @@ pub enum TxType1D {
     FLIPADST,
     /// The identity, scaled, of 4 to 32 values.
     IDENTITY,
-    /// The identity over whole numbers that never wrap, as AV1 has it. No type is made of it.
+    /// The identity over whole numbers that never wrap, as in AV1. No type has it as its own.
     EXACT_IDENTITY,
     /// The Walsh-Hadamard transform, of 4 values.
     WHT,
@@ -50,14 +50,14 @@ pub fn get_1d_tx_types(tx_type: TxType) -> (TxType1D, TxType1D)
     }
 }
 
-/// Whether a type loses nothing: it is the one of lossless blocks.
+/// Whether a type is lossless.
 pub(crate) fn is_lossless(tx_type: TxType) -> bool
     ensures { result ≡ is_lossless tx_type }
 {
     matches!(tx_type, TxType::WHT_WHT)
 }
 
-// The identity, which never wraps where `by_av1` says so.
+// The identity, which never wraps if `by_av1` is true.
 fn identity_kind(by_av1: bool) -> TxType1D
     ensures { result ≡ (if by_av1 then EXACT_IDENTITY else IDENTITY) }
 {
@@ -68,7 +68,7 @@ fn identity_kind(by_av1: bool) -> TxType1D
     }
 }
 
-/// The transform along the rows of a type, where `by_av1` says whether an identity never wraps there, as AV1 has it.
+/// The transform along the rows of a type. If `by_av1` is true, an identity never wraps there, as in AV1.
 pub(crate) fn row_kind_of(tx_type: TxType, by_av1: bool) -> TxType1D
     ensures { result ≡ row_kind_by by_av1 tx_type }
 {

@@ -1,4 +1,4 @@
-//! Laws of the transforms, each a function that does nothing and ensures it.
+//! Theorems about the transforms. Each function does nothing: its contract is the theorem.
 
 ghost use Rattle.std.specs.Prelude.{◌≡◌, ◌≢◌, false, true, ◌&&◌, ℕ, ◌+◌, ◌*◌, ◌^◌, ◌≤◌, ◌↔◌, Bool, IsTrue, max, ℤ, pos, List, length, replicate, reverse};
 ghost use Rattle.std.specs.List.{All};
@@ -16,40 +16,40 @@ ghost use Rattle.av1_itx.specs.Walsh.{walsh};
 ghost use Rattle.av1_itx.specs.Networks.{HasNetwork, network, network_with};
 ghost use Rattle.av1_itx.specs.Residue.{HasNetworks, column_input, column_range, is_lossless, residue, residue_by, transformed_row};
 
-/// A law: coefficients that are all zero have no residue, whatever the size, the type and the depth. So a block without
-/// coefficients needs no inverse transform.
+/// Coefficients that are all zero have no residual, for every size, type and depth. So a block without coefficients
+/// needs no inverse transform.
 pub fn residue_of_zeros()
     ensures { (size : TxSize) (type : TxType) (depth : ℕ) (coefficients : List ℤ) (r c : ℕ) → All (λ z. z ≡ pos 0) coefficients →
         residue size type depth coefficients r c ≡ pos 0 }
 {}
 
-/// A law: every inverse transform of zeros gives zeros. So a row of zeros need not be transformed.
+/// Every inverse transform of zeros gives zeros. So a row of zeros need not be transformed.
 pub fn networks_of_zeros()
     ensures { (kind : TxType1D) (range k : ℕ) → HasNetwork kind k → network kind range k (replicate (2 * 2 ^ k) (pos 0)) ≡ replicate (2 * 2 ^ k) (pos 0) }
 {}
 
-/// A law: the outputs of a flipped sine transform are those of the plain one in reverse order.
+/// The outputs of a flipped sine transform are those of the plain one in reverse order.
 pub fn flipped_is_reversed()
     ensures { (range k : ℕ) (x : List ℤ) → network FLIPADST range k x ≡ reverse (network ADST range k x) }
 {}
 
-/// A law: the outputs of the Walsh-Hadamard transform determine its inputs.
+/// The outputs of the Walsh-Hadamard transform determine its inputs.
 pub fn walsh_loses_nothing()
     ensures { (x y : List ℤ) → length x ≡ 4 → length y ≡ 4 → walsh x ≡ walsh y → x ≡ y }
 {}
 
-/// A law: the types that may be used at a size are just those whose two transforms exist there, but that rows and
-/// columns take transforms of one kind where a side has 32 samples or more (the format has no others there, `V_DCT` at
-/// 32x32 among them), and that the lossless type is for 4x4 alone.
+/// A type is valid at a size exactly if both of its transforms exist there, with two exceptions. If a side has 32
+/// samples or more, the format has only types whose rows and columns have transforms of one kind (so not `V_DCT` at
+/// 32x32). The lossless type is only for 4x4.
 pub fn valid_types_are_those_that_run()
     ensures { (size : TxSize) (type : TxType) →
         (IsTrue (valid_av1_transform size type) × (type ≡ WHT_WHT → size ≡ TX_4X4)) ↔ (HasNetworks size type ×
         (32 ≤ max (tx_width size) (tx_height size) → row_kind type ≡ column_kind type)) }
 {}
 
-/// A law: where every input is a number of 18 signed bits and the range is at most 18, no sum and no product of an
-/// inverse transform leaves 32 bits. Operations that may give any number at all where a result does not fit still give
-/// the same outputs. Of the lossless transform that holds for inputs of 20 bits.
+/// If every input is a number of 18 signed bits and the range is at most 18, no sum and no product of an inverse
+/// transform leaves 32 bits. Operations that may give any number if a result does not fit still give the same outputs.
+/// The lossless transform has this property for inputs of 20 bits.
 pub fn networks_never_wrap()
     ensures narrow { (ops : Operations) → AreRight32 ops → (kind : TxType1D) (range k : ℕ) (x : List ℤ) → range ≤ 18 → All (FitsBits 18) x →
         network_with ops kind range k x ≡ network kind range k x }
@@ -57,9 +57,9 @@ pub fn networks_never_wrap()
         network_with ops WHT range k x ≡ network WHT range k x }
 {}
 
-/// A law: at depths up to 10 no identity along rows wraps. So each residue but a lossless one is the same by rav1e's
-/// rule and by AV1's. A lossless one is the same where its coefficients have no more than 17 bits, as all have at a
-/// depth of 8: rav1e's clamp between the passes changes nothing there.
+/// At depths up to 10 no identity along rows wraps. So each residual that isn't lossless is the same by rav1e's rule
+/// and by AV1's. A lossless residual is the same if its coefficients have no more than 17 bits: rav1e's clamp between
+/// the passes then has no effect. At depth 8 all coefficients are so small.
 pub fn shallow_identities_never_wrap()
     ensures identities { (by_av1 : Bool) (size : TxSize) (type : TxType) (depth : ℕ) (coefficients : List ℤ) (r c : ℕ) → depth ≤ 10 → type ≢ WHT_WHT →
         residue_by by_av1 size type depth coefficients r c ≡ residue size type depth coefficients r c }
@@ -67,9 +67,9 @@ pub fn shallow_identities_never_wrap()
         residue_by by_av1 TX_4X4 WHT_WHT depth coefficients r c ≡ residue TX_4X4 WHT_WHT depth coefficients r c }
 {}
 
-/// A law: at depths up to 12 the transforms of the columns have such inputs and such a range, whatever the rows gave.
-/// In lossless blocks AV1 does not clamp what the rows give. It has 20 bits there, and the lossless transform needs no
-/// more.
+/// At depths up to 12 the transforms of the columns have such inputs and such a range, whatever the rows gave. In
+/// lossless blocks AV1 does not clamp the results of the rows. They have 20 bits there, and the lossless transform
+/// needs no more.
 pub fn columns_never_wrap()
     ensures range { (depth : ℕ) → depth ≤ 12 → column_range depth ≤ 18 }
     ensures inputs { (by_av1 : Bool) (size : TxSize) (type : TxType) (depth : ℕ) (f : ℕ → ℤ) → depth ≤ 12 → (by_av1 && is_lossless type) ≡ false →

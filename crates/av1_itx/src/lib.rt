@@ -1,36 +1,36 @@
-//! Inverse transforms of blocks, bit for bit those of the AV1 specification: from the coefficients of a block to what
-//! is added to its samples.
+//! Inverse transforms of blocks, bit for bit as in the AV1 specification: from the coefficients of a block to the
+//! residual that is added to its samples.
 //!
-//! The crate stands on `av1_lists` for lists by index, on `av1_blocks` for the sizes and types of transforms, on
-//! `av1_dct` for the inverse cosine transforms and the arithmetic of all of them, and on `av1_frame` for samples and
-//! the regions that they lie in. It promises to the walk above it:
+//! The crate takes lists by index from `av1_lists`, the sizes and types of transforms from `av1_blocks`, the inverse
+//! cosine transforms and all arithmetic from `av1_dct`, and samples and regions from `av1_frame`. Its promises:
 //!
-//! - `inverse_transform_add_to` turns each sample of a rectangle of a slice into itself plus `residue_by` of
-//!   `specs/Residue.antt`, clipped to the depth, and leaves all other samples as they were (rav1e's `residue`, unless
-//!   `by_av1` of the scratch is set); `inverse_transform_add_with` does so in a region. Both run over a `TxScratch`
-//!   that is made once, allocate nothing and always succeed. `inverse_transform_add_in` does the former over a
-//!   `TxRoom`, a plain struct of arrays that C may own, too. `inverse_transform_add` makes its own scratch; where
-//!   memory is refused it changes nothing.
-//! - Rows and columns go the same way: eight at a time, or four if there are no more. Eight cosine transforms go
-//!   through `cosine_lanes`. A `TxScratch` counts those of columns (`TxScratch::lane_groups`, which each call raises by
-//!   `lane_groups` of `specs/LaneGroups.antt`).
-//! - A block that takes the cosine transform both ways, and has no coefficient but its first, adds one value to each of
-//!   its samples. Over a scratch its groups of eight columns go through `cosine_lanes` as four values, for their count:
-//!   four serve for a value that stands alone at any length.
-//! - `av1_iadst4`, `av1_iflipadst16`, `av1_iidentity32`, `av1_iwht4` and their like give the definitions of
-//!   `specs/Adst.antt`, `specs/Identity.antt` and `specs/Walsh.antt` on the first values of a slice, and leave the rest
-//!   of `output`.
-//! - the laws, functions that do nothing: zeros have no residue and are not changed by any transform, a flipped
-//!   transform is the plain one reversed, the Walsh-Hadamard transform loses nothing, every valid type has its two
-//!   transforms, and nothing wraps at 32 bits where inputs and range have 18, as those of the columns have wherever
-//!   they are clamped; so at depths up to 10 no identity does.
+//! - `inverse_transform_add_to` adds `residue_by` of `specs/Residue.antt` to each sample of a rectangle of a slice, and
+//!   clips to the depth. All other samples are unchanged. The rule is rav1e's, unless `by_av1` of the scratch is set.
+//!   `inverse_transform_add_with` does the same in a region. Both run over a `TxScratch` that is allocated once; they
+//!   do not allocate and always succeed. `inverse_transform_add_in` runs over a `TxRoom`, a plain struct of arrays that
+//!   C may also own. `inverse_transform_add` allocates its own scratch; if memory runs out, it changes nothing.
+//! - Rows and columns are transformed in the same way: eight at a time, or four if there are no more. Eight cosine
+//!   transforms go through `cosine_lanes`. A `TxScratch` counts the groups of columns (`TxScratch::lane_groups`); each
+//!   call raises the count by `lane_groups` of `specs/LaneGroups.antt`.
+//! - A block that takes the cosine transform both ways, and has only its first coefficient, adds one value to each of
+//!   its samples. Over a scratch its groups of eight columns still go through `cosine_lanes`, for their count, as four
+//!   values: at any length, four are enough for a single value.
+//! - `av1_iadst4`, `av1_iflipadst16`, `av1_iidentity32`, `av1_iwht4` and the calls with similar names give the
+//!   definitions of `specs/Adst.antt`, `specs/Identity.antt` and `specs/Walsh.antt` on the first values of a slice. The
+//!   rest of `output` is unchanged.
+//! - The laws, functions that do nothing: zeros have no residual and are not changed by any transform. A flipped
+//!   transform is the plain one reversed. The Walsh-Hadamard transform is lossless. Every valid type has its two
+//!   transforms. Nothing wraps at 32 bits if inputs and range have 18 bits; those of the columns have, wherever they
+//!   are clamped. At depths up to 10 no identity wraps.
 //!
-//! A block is one of `TxSize`'s, `w` columns by `h` rows of samples. Its coefficients stand column by column, at most
-//! 32 of each column and 32 columns: that of row r and column c at `c * min(h, 32) + r`. Those past the end of the list
-//! that a call is given are 0. `bd` is the depth of the samples in bits, and `range` the number of bits that values
-//! within a transform are clamped to. At a depth of 12 sums of the rows can leave 32 bits; they wrap there, as in
-//! rav1e, and the definitions say so. By AV1's rule, which `by_av1` of a scratch or a block chooses, identities don't,
-//! and in lossless blocks (`WHT_WHT`) nothing is clamped between the passes.
+//! A block has a size of `TxSize`: `w` columns by `h` rows of samples. Its coefficients are stored column by column, at
+//! most 32 of each column and 32 columns: the coefficient of row r and column c is at `c * min(h, 32) + r`.
+//! Coefficients past the end of the list are 0. `bd` is the depth of the samples in bits, and `range` the number of
+//! bits to which values within a transform are clamped.
+//!
+//! At depth 12 sums of the rows can leave 32 bits; they wrap there, as in rav1e, and the definitions say so. By AV1's
+//! rule, which `by_av1` of a scratch or a block chooses, identities don't wrap, and in lossless blocks (`WHT_WHT`)
+//! nothing is clamped between the passes.
 #![tactic(auto)]
 
 mod adding;

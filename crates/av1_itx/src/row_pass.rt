@@ -1,7 +1,7 @@
 //! The first pass: an inverse transform along each row of coefficients.
 //!
-//! Coefficients stand column by column, so that their rows are the columns of the list that they make. They are scaled
-//! into such a list, transformed there in place, and written to the block row by row.
+//! Coefficients are stored column by column, so their rows are the columns of this list. They are scaled into such a
+//! list, transformed there in place, and written to the block row by row.
 
 ghost use Rattle.std.specs.Prelude.{◌≡◌, true, ℕ, ◌+◌, ◌*◌, ◌/◌, ◌<◌, ◌≤◌, ◌==◌, if◌then◌else◌, min, pos, ◌*ℤ◌, length, map, ◌⊎◌};
 ghost use Rattle.std.specs.Int.{int_shr};
@@ -21,15 +21,15 @@ use av1_dct::{LaneCount, clamp_value};
 use av1_frame::{Coefficient, round_shift};
 use std::simd::prelude::*;
 
-/// How many values are cleared at once.
+/// The number of values that are cleared at once.
 const PIECE: usize = 256;
 
 /// How the coefficients of a block are scaled before its rows are transformed.
 #[derive(Copy, Clone)]
 pub(crate) struct Scaling {
-    /// by the square root of one half, where one side is twice the other
+    /// By the square root of one half, if one side is twice the other.
     two_to_one: bool,
-    /// by one quarter, where nothing is to be lost
+    /// By one quarter, in a lossless block.
     lossless: bool,
 }
 
@@ -58,7 +58,7 @@ fn scaled(v: i32, scaling: Scaling) -> i32
     v
 }
 
-// What the rows take for a coefficient.
+// The input of the rows for a coefficient.
 pub(crate) fn row_value_of(v: i32, scaling: Scaling, bd: usize) -> i32
     requires depth_in { (8 ≤ bd) × (bd ≤ 12) }
     requires fits { FitsBits (bd + 8) v }
@@ -67,7 +67,7 @@ pub(crate) fn row_value_of(v: i32, scaling: Scaling, bd: usize) -> i32
     clamp_value(scaled(v, scaling), bd + 8)
 }
 
-// Each coefficient as the rows take it. One pass over neighbours is cheaper than one along each row.
+// Writes the input of the rows for each coefficient. One pass over neighbours is cheaper than one along each row.
 fn scale_all<C: Coefficient>(input: &[C], scaled: &mut [i32], block: Block)
     requires depth_in { (8 ≤ block.bd) × (block.bd ≤ 12) }
     requires input_len { length scaled.old ≤ length input.now }
@@ -80,7 +80,7 @@ fn scale_all<C: Coefficient>(input: &[C], scaled: &mut [i32], block: Block)
     }
 }
 
-// Makes each value of a piece 0.
+// Sets each value of a piece to 0.
 #[inline(never)]
 fn clear_piece(line: &mut [i32])
     ensures { (i : ℕ) → at line.new i ≡ pos 0 }
@@ -90,7 +90,7 @@ fn clear_piece(line: &mut [i32])
     }
 }
 
-// Makes each value 0, a piece at a time: what is cleared at once past 2,048 bytes takes longer to begin.
+// Sets each value to 0, a piece at a time: clearing more than 2,048 bytes at once takes longer to begin.
 fn clear(line: &mut [i32])
     ensures { (i : ℕ) → at line.new i ≡ pos 0 }
 {
@@ -101,8 +101,8 @@ fn clear(line: &mut [i32])
     clear_piece(&mut line[pieces * PIECE..]);
 }
 
-// The inputs of all rows that have coefficients, row r in column r: scaled coefficients as far as they are given, and
-// zeros behind them.
+// The inputs of all rows that have coefficients, row r in column r: the scaled coefficients that are given, and then
+// zeros.
 fn fill_rows<C: Coefficient>(input: &[C], scaled: &mut [i32], block: Block)
     requires block { AreCoefficients C.val block input.now }
     requires scaled_len { length scaled.old ≡ tx_width block.tx_size * coded (tx_height block.tx_size) }
@@ -114,7 +114,7 @@ fn fill_rows<C: Coefficient>(input: &[C], scaled: &mut [i32], block: Block)
     clear(&mut scaled[given..]);
 }
 
-// Whether the rows from r on are zeros in their first columns, as many rows as a word has lanes.
+// Whether the rows from r on, as many as a word has lanes, are zeros in their first `columns` columns.
 #[inline(always)]
 fn are_zero<W: BlockWord>(scaled: &[i32], r: usize, rows: usize, w: usize, columns: usize) -> bool
     requires columns { columns ≤ w }
@@ -133,7 +133,7 @@ fn are_zero<W: BlockWord>(scaled: &[i32], r: usize, rows: usize, w: usize, colum
     true
 }
 
-// How many groups of rows there are up to the last one with a coefficient. A group has as many as a word has lanes.
+// The number of groups of rows up to the last one with a coefficient. A group has as many rows as a word has lanes.
 #[inline(always)]
 #[tactic(auto, using(crate::proofs::Eights::group_in))]
 fn live_groups<W: BlockWord>(scaled: &[i32], rows: usize, w: usize, columns: usize) -> usize
@@ -156,7 +156,7 @@ fn live_groups<W: BlockWord>(scaled: &[i32], rows: usize, w: usize, columns: usi
     groups
 }
 
-// What a row gives, as the columns take it: rounded by so many bits, and clamped.
+// The result of a row as the columns take it: rounded by `shift` bits, and clamped.
 #[inline(always)]
 fn rounded<W: BlockWord>(z: W, shift: usize, range: usize) -> W
     requires shift_in { shift ≤ 2 }
@@ -171,7 +171,7 @@ fn rounded<W: BlockWord>(z: W, shift: usize, range: usize) -> W
     }
 }
 
-// Writes the lanes of a word down column c of rows of w places.
+// Writes the lanes of a word down column c of rows of w values.
 #[inline(always)]
 fn spread_word<W: BlockWord>(part: &mut [i32], word: W, c: usize, w: usize)
     requires column_in { c < w }
@@ -185,7 +185,7 @@ fn spread_word<W: BlockWord>(part: &mut [i32], word: W, c: usize, w: usize)
     }
 }
 
-// Writes the rows from r on, rounded and clamped: each stands in a column of `scaled`.
+// Writes the rows from r on, rounded and clamped. Each row is in a column of `scaled`.
 #[inline(always)]
 fn write_group<W: BlockWord>(
     scaled: &[i32],
@@ -213,7 +213,7 @@ fn write_group<W: BlockWord>(
     }
 }
 
-// Writes so many groups of rows.
+// Writes `groups` groups of rows.
 fn write_groups<W: BlockWord>(
     scaled: &[i32],
     buffer: &mut [i32],
@@ -242,7 +242,7 @@ fn write_groups<W: BlockWord>(
     }
 }
 
-// The first rows of a block, so many, as the columns of the list of coefficients.
+// The first `count` rows of a block, as the columns of the list of coefficients.
 #[inline(always)]
 fn rows_in(block: Block, count: usize) -> Columns
     requires { (8 ≤ block.bd) × (block.bd ≤ 12) }
@@ -258,7 +258,7 @@ fn rows_in(block: Block, count: usize) -> Columns
     }
 }
 
-// All rows, as many at a time as a word has lanes. Those past the last coefficient are zeros, and are not run.
+// All rows, as many at a time as a word has lanes. Rows past the last coefficient are zeros, and are not run.
 fn rows_of<C: Coefficient, W: BlockWord>(
     input: &[C],
     scaled: &mut [i32],
@@ -293,9 +293,9 @@ fn rows_of<C: Coefficient, W: BlockWord>(
     clear(&mut buffer[live * w..]);
 }
 
-/// Each row of a block, transformed, and as the columns take it: rounded, and clamped but in lossless blocks by AV1's
-/// rule. `buffer` has the block row by row.
-/// The rows from 32 on are zeros. `scaled` is room for the inputs of all rows that have coefficients.
+/// Transforms each row of a block and writes the inputs of the columns: the results rounded and clamped. By AV1's rule
+/// they are not clamped in lossless blocks. `buffer` gets the block row by row; the rows from 32 on are zeros. `scaled`
+/// is a buffer for the inputs of all rows that have coefficients.
 pub(crate) fn row_pass<C: Coefficient>(
     input: &[C],
     scaled: &mut [i32],

@@ -27,9 +27,9 @@ fn shift_each_left(values: &mut [i32], bit: usize)
     }
 }
 
-/// Shifts the first `size` values, or all where there are fewer: by a positive `bit` to the right with rounding, by a
-/// negative one to the left, where what leaves 32 bits is lost. A `bit` of 0 changes nothing, and the rest of `arr`
-/// stays.
+/// Shifts the first `size` values, or all if there are fewer. A positive `bit` shifts to the right with rounding. A
+/// negative one shifts to the left, and bits past 32 are lost. A `bit` of 0 has no effect. The rest of `arr` is
+/// unchanged.
 pub fn av1_round_shift_array(arr: &mut [i32], size: usize, bit: i8)
     requires bit_in { (negsuc 30 ≤ℤ bit) × (bit ≤ℤ pos 30) }
     requires fits { All (SumFits bit) (take size arr.old) }

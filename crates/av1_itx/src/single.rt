@@ -1,4 +1,4 @@
-//! Blocks that take the cosine transform both ways and have no coefficient but their first.
+//! Blocks that take the cosine transform both ways and have only their first coefficient.
 
 ghost use Rattle.std.specs.Prelude.{◌≡◌, true, ℕ, ◌+◌, ◌<◌, ◌≤◌, pos, map};
 ghost use Rattle.av1_dct.specs.Arithmetic.{at, clamp_value, FitsBits};
@@ -14,7 +14,7 @@ use av1_blocks::TxType;
 use av1_dct::clamp_value;
 use av1_frame::{Coefficient, round_shift};
 
-// Whether no coefficient but the first has a value. Most tell by one of the next.
+// Whether only the first coefficient has a value. In most blocks one of the next coefficients decides.
 fn ends_at_first<C: Coefficient>(input: &[C]) -> bool
     ensures { result ≡ true → (i : ℕ) → 0 < i → at (map C.val input.now) i ≡ pos 0 }
 {
@@ -27,7 +27,7 @@ fn ends_at_first<C: Coefficient>(input: &[C]) -> bool
     true
 }
 
-/// Whether a block of this type is one.
+/// Whether a block of this type is such a block.
 pub(crate) fn is_single<C: Coefficient>(input: &[C], tx_type: TxType) -> bool
     ensures { result ≡ true → IsSingleBlock C.val tx_type input.now }
 {
@@ -35,7 +35,7 @@ pub(crate) fn is_single<C: Coefficient>(input: &[C], tx_type: TxType) -> bool
     is_cosine(column) && is_cosine(row) && ends_at_first(input)
 }
 
-/// The first coefficient, 0 where there is none.
+/// The first coefficient, or 0 if there is none.
 pub(crate) fn first_of<C: Coefficient>(input: &[C]) -> i32
     ensures { result ≡ at (map C.val input.now) 0 }
 {
@@ -45,7 +45,7 @@ pub(crate) fn first_of<C: Coefficient>(input: &[C]) -> i32
     input[0].to_i32()
 }
 
-// What the columns take of a row's value.
+// The input of the columns for a row's value.
 fn taken_by_columns(z: i32, shift: usize, range: usize) -> i32
     requires shift_in { shift ≤ 2 }
     requires range_in { (8 ≤ range) × (range ≤ 20) }
@@ -55,7 +55,7 @@ fn taken_by_columns(z: i32, shift: usize, range: usize) -> i32
     clamp_value(round_shift(z, shift), range)
 }
 
-/// What each column of such a block takes as its first value; all others are 0.
+/// The first input of each column of such a block; all others are 0.
 pub(crate) fn top_value(first: i32, block: Block) -> i32
     requires depth { (8 ≤ block.bd) × (block.bd ≤ 12) }
     requires fits { FitsBits (block.bd + 8) first }

@@ -27,8 +27,8 @@ pub(crate) fn walsh_of<W: BlockWord>(input: &[W], output: &mut [W])
     output[3] = s2.plus(s1);
 }
 
-/// The inverse Walsh-Hadamard transform process on the first 4 values, for each of which 29 bits are enough. The rest
-/// of `output` stays, and `_range` is not read.
+/// The inverse Walsh-Hadamard transform process on the first 4 values, which have at most 29 bits. The rest of `output`
+/// is unchanged, and `_range` is not read.
 pub fn av1_iwht4(input: &[i32], output: &mut [i32], _range: usize)
     requires input_len { 4 ≤ length input.now }
     requires output_len { 4 ≤ length output.old }

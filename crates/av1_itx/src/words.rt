@@ -1,4 +1,4 @@
-//! What the passes ask of words, beside what every word does.
+//! The operations of words that the passes need, in addition to those of every word.
 
 ghost use Rattle.std.specs.Prelude.{◌≡◌, true, ℕ, ◌+◌, ◌-◌, ◌*◌, ◌^◌, ◌<◌, ◌≤◌, nat_le, nat_lt, ◌&&◌, if◌then◌else◌, pos, length, take, ◌+ℤ◌, ◌*ℤ◌};
 ghost use Rattle.std.specs.List.{All};
@@ -14,7 +14,7 @@ use std::simd::prelude::*;
 
 /// Words that are read from a block and written to it, with the arithmetic of the transforms of 4 values.
 pub(crate) trait BlockWord: Word {
-    // how many groups of eight a cosine transform in all lanes counts for
+    // the number of groups of eight that a cosine transform in all lanes counts for
     ghost COUNTED: { ℕ };
 
     /// The cosine transform of `n` words, in each lane. `count` counts it if words have eight lanes.
@@ -32,7 +32,7 @@ pub(crate) trait BlockWord: Word {
     fn add_product(self, weight: i32, o: Self) -> Self
         ensures { (i : ℕ) → i < Self.LANES → Self.lane_of result i ≡ wrap32 (Self.lane_of self i +ℤ weight *ℤ Self.lane_of o i) };
 
-    /// In each lane a sum of products with weights in twelve-bit fixed point, rounded to a whole number, a half upward.
+    /// Rounds, in each lane, a sum of products with weights in twelve-bit fixed point to a whole number, a half upward.
     fn round12(self) -> Self
         ensures { (i : ℕ) → i < Self.LANES → Self.lane_of result i ≡ round12 (Self.lane_of self i) };
 
@@ -45,12 +45,12 @@ pub(crate) trait BlockWord: Word {
         ensures zeros { result ≡ true → (i : ℕ) → i < Self.LANES → Self.lane_of self i ≡ pos 0 }
         ensures told { ((i : ℕ) → i < Self.LANES → Self.lane_of self i ≡ pos 0) → result ≡ true };
 
-    /// The numbers from place `start` on, one in each lane.
+    /// Reads the numbers from position `start` on, one in each lane.
     fn read(values: &[i32], start: usize) -> Self
         requires { start + Self.LANES ≤ length values.now }
         ensures { (i : ℕ) → i < Self.LANES → Self.lane_of result i ≡ at values.now (start + i) };
 
-    /// Writes the numbers of the lanes to the places from `start` on. All others stay.
+    /// Writes the numbers of the lanes to the positions from `start` on. All others are unchanged.
     fn write(self, values: &mut [i32], start: usize)
         requires { start + Self.LANES ≤ length values.old }
         ensures { (p : ℕ) → at values.new p ≡ (if nat_le start p && nat_lt p (start + Self.LANES) then Self.lane_of self (p - start) else at values.old p) };

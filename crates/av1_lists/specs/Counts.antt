@@ -1,7 +1,7 @@
 -- Counts that stay at the last value of a `u64`.
 use Rattle.std.specs.Prelude.{ℕ, ◌+◌, ◌-◌, ◌^◌, min}
 
--- n more, up to that value
+-- n more, but at most that value
 abbrev pub raised : ℕ → ℕ → ℕ
 raised count n = min (count + n) (2 ^ 64 - 1)
 

@@ -1,4 +1,4 @@
--- Lists that are told by what stands at each place.
+-- Lists that are defined by the item at each position.
 use Rattle.std.specs.Prelude.{ℕ, List, map}
 use Rattle.std.specs.List.{range_with_len}
 

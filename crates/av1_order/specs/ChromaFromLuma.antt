@@ -11,16 +11,17 @@ use Rattle.av1_plan.specs.Geometry.{xdec, ydec, carries_chroma, plane_size, code
 use Rattle.av1_plan.specs.Plan.{LeafValue}
 use Rattle.av1_order.specs.Turns.{IsCodedPlan, is_written, leaves_steps}
 
--- Along one direction, in luma samples: chroma is halved there where s is 1. The leaf has a side of this length, and
--- begins at this place.
+-- One direction, in luma samples: chroma is halved in it if s is 1. The leaf has a side of length `side`, and begins at
+-- position `place`.
 module _ (s side place : ℕ) where
-  -- where the luma that is read begins: where the side is 4 and the direction halved, at the cell before the leaf's
+  -- where the luma that is read begins: at the cell before the leaf's if the side is 4 and the direction halved
   abbrev pub luma_start : ℕ
   luma_start = if s == 1 && side == 4 then place - 4 else place
 
-  -- the visible luma plane and the leaf's luma transforms have sides of these lengths
+  -- the coded luma plane and the leaf's luma transforms have sides of these lengths
   module _ (frame tx : ℕ) where
-    -- how far luma is coded: past a side of 8, as far as the leaf is visible, and to the end of a transform
+    -- how far luma is coded: up to the end of the last transform that begins in the coded plane; sides up to 8 are
+    -- coded whole
     abbrev pub coded_side : ℕ
     coded_side = if nat_le side 8 then side else next_multiple_of (min side (frame - luma_start)) tx
 
@@ -28,11 +29,11 @@ module _ (s side place : ℕ) where
     abbrev pub unpadded_side : ℕ
     unpadded_side = side - (side - coded_side) / (4 * 2 ^ s) * (4 * 2 ^ s)
 
-    -- the luma that is read for chroma place c: each of its 2 ^ s samples; past what is coded the last ones again
+    -- the luma that is read for chroma position c: each of its 2 ^ s samples; past what is coded the last ones again
     abbrev pub luma_place : (c i : ℕ) → ℕ
     luma_place c i = luma_start + min (c * 2 ^ s) (max unpadded_side 8 - 2 ^ s) + i
 
--- All the luma that a leaf's chroma place at column c of row r reads is written by these luma steps.
+-- All luma that a leaf's chroma sample at column c of row r reads is written by these luma steps.
 abbrev pub ReadsWritten : Header → LeafValue → List LeafValue → (c r : ℕ) → Type 0
 ReadsWritten h l leaves c r =
     (i j : ℕ) → i < 2 ^ xdec h 1 → j < 2 ^ ydec h 1
@@ -41,8 +42,8 @@ ReadsWritten h l leaves c r =
     (luma_place (ydec h 1) (block_height l.size) l.y (coded_height h) (tx_height l.tx_size) r j)
     ≡ true
 
--- It is so of each leaf that carries chroma and has no side past 32, once its own luma steps and those of the leaves
--- before it are done.
+-- This holds for each leaf that carries chroma and has sides up to 32, after its own luma steps and those of the
+-- earlier leaves.
 abbrev pub LumaIsWritten : Type 0
 LumaIsWritten =
     (h : Header) (earlier : List LeafValue) (l : LeafValue) (later : List LeafValue) →

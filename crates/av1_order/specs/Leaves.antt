@@ -1,4 +1,4 @@
--- Where the leaves of a frame lie: each on its grid, and each cell of the frame in just one of them.
+-- The positions of the leaves of a frame: each is on its grid, and each cell of the frame is in exactly one of them.
 -- AV1 specification: decode partition syntax.
 use Rattle.std.specs.Prelude.{◌≡◌, true, false, ℕ, Bool, ◌+◌, ◌*◌, ◌/◌, ◌%◌, ◌^◌, ◌<◌, ◌≤◌, ◌||◌, List, [], ◌∷◌, take}
 use Rattle.std.specs.Prelude.{length, get_or}
@@ -8,7 +8,7 @@ use Rattle.av1_plan.specs.Tree.{Block, Placed, Tree, frame_leaves}
 use Rattle.av1_avail.specs.Order.{is_in}
 use Rattle.av1_order.specs.Steps.{Coding}
 
--- The rectangle of a leaf. Its sides are 1, 2, 4, 8 or 16 cells, and neither is more than four times the other; it lies
+-- The rectangle of a leaf. Its sides are 1, 2, 4, 8 or 16 cells, and neither is more than four times the other. It lies
 -- at multiples of its sides, begins in the frame and ends within the frame's superblocks.
 pub record IsLeafBlock (width height : ℕ) (b : Block) : Type 0 where
   pub columns_log : ℕ
@@ -26,7 +26,7 @@ pub record IsLeafBlock (width height : ℕ) (b : Block) : Type 0 where
   pub ends_x : b.x + b.columns ≤ 16 * ((width + 15) / 16)
   pub ends_y : b.y + b.rows ≤ 16 * ((height + 15) / 16)
 
--- that of each leaf is such a one
+-- the rectangle of each leaf is such a rectangle
 abbrev pub LeavesLieOnGrid : Type 0
 LeavesLieOnGrid = (width height : ℕ) (trees : List (Tree Coding 4)) → 0 < width →
     All (λ l. IsLeafBlock width height l.block) (frame_leaves width height trees)
@@ -35,13 +35,13 @@ LeavesLieOnGrid = (width height : ℕ) (trees : List (Tree Coding 4)) → 0 < wi
 abbrev pub holds_cell : {A : Type 0} → Placed A → (x y : ℕ) → Bool
 holds_cell l x y = is_in x y l.block.x l.block.y l.block.columns l.block.rows
 
--- one of the leaves does
+-- one of the leaves holds the cell
 abbrev pub is_coded : {A : Type 0} → List (Placed A) → (x y : ℕ) → Bool
 is_coded [] x y = false
 is_coded (l ∷ ls) x y = holds_cell l x y || is_coded ls x y
 
--- No leaf holds a cell that one before it holds; and where the superblocks are as many as the frame has, some leaf
--- holds each cell.
+-- No leaf holds a cell that an earlier leaf holds. If there are as many superblocks as the frame has, some leaf holds
+-- each cell.
 pub record LeavesTile (width height : ℕ) (trees : List (Tree Coding 4)) : Type 0 where
   pub once : (k : ℕ) (none : Placed Coding) → k < length (frame_leaves width height trees) → (x y : ℕ) → x < width →
       y < height

@@ -1,5 +1,5 @@
--- The leaves of a plan in a plane: how they are coded there, and that their steps are their transform blocks. Planes
--- are counted 0 for Y, 1 for U and 2 for V. AV1 specification: residual syntax and transform block syntax.
+-- The leaves of a plan in a plane: how they are coded there, and that their steps are their transform blocks. Plane 0
+-- is Y, 1 is U and 2 is V. AV1 specification: residual syntax and transform block syntax.
 use Rattle.std.specs.Prelude.{◌≡◌, true, false, ℕ, Bool, ◌/◌, ◌%◌, ◌<◌, None, List, [], map}
 use Rattle.std.specs.List.{All}
 use Rattle.av1_blocks.specs.Transforms.{tx_width, tx_height}
@@ -30,29 +30,29 @@ coding_in h p l = record {
   rows = tx_height (plane_tx_size h l.size l.tx_size p) / 4;
 }
 
--- its steps there
+-- the steps of a leaf there
 abbrev pub steps_in : Header → ℕ → LeafValue → List Step
 steps_in h p l = leaf_steps (xdec h p) (ydec h p) (coded_width h / 4) (coded_height h / 4) (placed (coding_in h p) l)
 
--- where a step begins in its plane, in samples
+-- the position at which a step begins in its plane, in samples
 abbrev pub place_of : (sx sy : ℕ) → Step → TransformBlock
 place_of sx sy s = record { x = left sx sy s; y = top sx sy s }
 
--- a frame whose sides are multiples of 8 samples
+-- a frame whose coded width and height are multiples of 8 samples
 pub record IsWholeFrame (h : Header) : Type 0 where
   pub some : 0 < coded_width h
   pub width : coded_width h % 8 ≡ 0
   pub height : coded_height h % 8 ≡ 0
 
--- The steps of a leaf that is not inter are its transform blocks that begin in the visible plane, in raster order,
--- where it covers a part of the plane; else it has none.
+-- If an intra leaf covers a part of the plane, its steps are its transform blocks that begin in the visible plane, in
+-- raster order. If not, it has none.
 pub record StepsAreBlocks (h : Header) (p : ℕ) (l : LeafValue) : Type 0 where
   pub covered : covers_plane h l.x l.y l.size p ≡ true
       → map (place_of (xdec h p) (ydec h p)) (steps_in h p l) ≡
       transform_blocks h p (plane_area h l.x l.y l.size l.tx_size p)
   pub uncovered : covers_plane h l.x l.y l.size p ≡ false → steps_in h p l ≡ []
 
--- it is so of each valid leaf of a frame in each plane
+-- this holds for each valid intra leaf of a frame in each plane
 abbrev pub LeavesHaveTheirBlocks : Type 0
 LeavesHaveTheirBlocks =
     (h : Header) (p : ℕ) (l : LeafValue) → IsWholeFrame h → IsOnGrid h l → fault_of h l ≡ None →

@@ -1,4 +1,4 @@
--- The answers from the tables at a step of a plane, where the list of all steps is cut at the step.
+-- The answers of the tables at a step of a plane, if the list of all steps is cut at the step.
 -- AV1 specification: transform block syntax and clear block decoded flags function.
 use Rattle.std.specs.Prelude.{◌≡◌, true, ℕ, ◌+◌, ◌-◌, ◌*◌, ◌/◌, ◌%◌, ◌^◌, ◌<◌, min, nat_lt, ◌&&◌, List, ◌∷◌, ◌++◌}
 use Rattle.av1_blocks.specs.declared.partition.BlockSize.{BlockSize}
@@ -13,9 +13,9 @@ use Rattle.av1_order.specs.Samples.{EdgesAreTold, IsVisible, left, top, width_of
 use Rattle.av1_order.specs.Steps.{Coding, IsFrame, Step, steps_of}
 
 module _ (sx sy width height : ℕ) where
-  -- The step's block has the size b, and the step the size t. Put with the leaf's cell, and with what places tell of
-  -- the frame's sides, the tables answer what is visible and written just past the step; put with any cell of the
-  -- block, they answer what is written of each visible sample of the run past it, which is as long as the step's lesser
+  -- The step's block has the size b, and the step the size t. If the leaf's cell is named, and the frame's ends by
+  -- position, the tables say whether the sample just past the step is visible and written. If any cell of the block is
+  -- named, they say whether each visible sample of the run past it is written. The run is as long as the step's lesser
   -- side.
   pub record IsTabled (before : List Step) (s : Step) (b : BlockSize) (t : TxSize) : Type 0 where
     pub top_right : (cx cy : ℕ) → cx - cx % 2 ^ sx ≡ s.block.x → cy - cy % 2 ^ sy ≡ s.block.y
@@ -35,12 +35,12 @@ module _ (sx sy width height : ℕ) where
         → x + 1 ≡ left sx sy s → y ≡ top sx sy s + height_of sx sy s + i → IsVisible sx sy width height x y
         → is_covered_sample sx sy before x y ≡ table_bottom_left b cx cy (transform_rows t) s.down s.right sx sy
 
-  -- what is written round a step at which the steps are cut, and what the tables answer there
+  -- what is written round a step at which the steps are cut, and what the tables say there
   pub record IsToldAtCut (before : List Step) (s : Step) : Type 0 where
     pub edges : EdgesAreTold sx sy width height before s
     pub tables : (b : BlockSize) (t : TxSize) → HasSizes s b t → IsTabled before s b t
 
--- It is so wherever the steps of a plane of a frame are cut at one of them.
+-- This holds wherever the steps of a plane of a frame are cut at one of them.
 abbrev pub CutsAreTold : Type 0
 CutsAreTold =
     (sx sy width height : ℕ) (trees : List (Tree Coding 4)) → IsFrame sx sy width height trees →

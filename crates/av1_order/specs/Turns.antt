@@ -1,6 +1,6 @@
--- What is written of a plane when the turn of a transform block of a plan comes, and what the availability calls answer
--- then. Planes are counted 0 for Y, 1 for U and 2 for V. AV1 specification: residual syntax and transform block syntax
--- (haveAboveRt, haveBelowLft).
+-- What is written of a plane when the turn of a transform block of a plan comes, and what the availability calls return
+-- then. Plane 0 is Y, 1 is U and 2 is V. AV1 specification: residual syntax and transform block syntax (haveAboveRt,
+-- haveBelowLft).
 use Rattle.std.specs.Prelude.{◌≡◌, true, false, ℕ, Bool, ◌+◌, ◌-◌, ◌*◌, ◌/◌, ◌%◌, ◌^◌, ◌<◌, ◌⊎◌, min, nat_lt, ◌&&◌}
 use Rattle.std.specs.Prelude.{◌||◌, if◌then◌else◌, None, Option, Some, List, ◌∷◌, ◌++◌, map}
 use Rattle.std.specs.List.{All, filter_map, range_with_len}
@@ -19,7 +19,7 @@ use Rattle.av1_order.specs.Plans.{IsWholeFrame, coding_in, is_inter}
 use Rattle.av1_order.specs.Samples.{is_covered_sample}
 use Rattle.av1_order.specs.Steps.{Step, area, plane_steps, widened}
 
--- a plan in plane p: its leaves are valid and stand in coding order, each on its grid
+-- a plan in plane p: its leaves are valid and in coding order, each on its grid
 pub record IsCodedPlan (h : Header) (p : ℕ) (leaves : List LeafValue) : Type 0 where
   pub frame : IsWholeFrame h
   pub grid : All (IsOnGrid h) leaves
@@ -32,11 +32,11 @@ module _ (h : Header) (p : ℕ) where
   leaves_steps leaves =
       plane_steps (xdec h p) (ydec h p) (coded_width h / 4) (coded_height h / 4) (map (placed (coding_in h p)) leaves)
 
-  -- they write the sample at column x of row y
+  -- these steps write the sample at column x of row y
   abbrev pub is_written : List Step → (x y : ℕ) → Bool
   is_written steps x y = is_covered_sample (xdec h p) (ydec h p) steps x y
 
-  -- transform block n of a leaf as a step, where it begins in the visible plane
+  -- transform block n of a leaf as a step, if it begins in the coded plane
   abbrev pub numbered_step : LeafValue → ℕ → Option Step
   numbered_step l n =
       let b = widened (xdec h p) (ydec h p) (cells_of l) in
@@ -48,11 +48,11 @@ module _ (h : Header) (p : ℕ) where
       && nat_lt (u.y + down) (coded_height h / 4 / 2 ^ ydec h p)
       then Some (record { block = b; right = right; down = down; columns = c.columns; rows = c.rows }) else None
 
-  -- the steps before block n of a leaf: those of the leaves before it, and those of its blocks of lower numbers
+  -- the steps before block n of a leaf: those of the earlier leaves, and those of its blocks of lower numbers
   abbrev pub steps_before : (earlier : List LeafValue) → LeafValue → ℕ → List Step
   steps_before earlier l n = leaves_steps earlier ++ filter_map (numbered_step l) (range_with_len 0 n)
 
-  -- the sample at x of the row above y is visible and written, as is that at y of the column left of x
+  -- whether the sample at x of the row above y is visible and written; then the sample at y of the column left of x
   abbrev pub is_written_above : List Step → (x y : ℕ) → Bool
   is_written_above steps x y = nat_lt 0 y && nat_lt x (plane_width h p) && nat_lt (y - 1) (plane_height h p)
       && is_written steps x (y - 1)
@@ -66,15 +66,15 @@ module _ (h : Header) (p : ℕ) where
     abbrev pub tx_in : TxSize
     tx_in = plane_tx_size h l.size l.tx_size p
 
-    -- block n, where there is one that begins in the visible plane
+    -- block n, if there is one and it begins in the coded plane
     abbrev pub leaf_block : ℕ → Option TransformBlock
     leaf_block n = transform_block h p (plane_area h l.x l.y l.size l.tx_size p) n
 
-    -- how many stand side by side
+    -- the number of them side by side
     abbrev pub leaf_across : ℕ
     leaf_across = blocks_across (plane_area h l.x l.y l.size l.tx_size p)
 
-    -- what is answered for block n, which begins at b
+    -- the answers for block n, which begins at b: above right, and below left
     abbrev pub answer_above_right : ℕ → TransformBlock → Bool
     answer_above_right n b =
         takes_above_right l.size (l.x / 4) (l.y / 4) tx_in (n % leaf_across) (n / leaf_across) (xdec h p)
@@ -86,9 +86,9 @@ module _ (h : Header) (p : ℕ) where
         (ydec h p) b.y (plane_height h p)
 
     -- Block n begins at b, and these steps come before it. The answer above right is whether the first sample there is
-    -- visible and written; of the run, as long as the block's lesser side, all that is visible is written where the
-    -- answer is yes, and nothing else. So it is below left. What is visible above the block, to its left and at its
-    -- corner is written.
+    -- visible and written. The run there is as long as the block's lesser side: if the answer is yes, all visible
+    -- samples of it are written, and else none. The same holds below left. The visible samples above the block, to its
+    -- left and at its corner are written.
     pub record EdgeIsAnswered (before : List Step) (n : ℕ) (b : TransformBlock) : Type 0 where
       pub above_right : answer_above_right n b ≡ is_written_above before (b.x + tx_width tx_in) b.y
       pub below_left : answer_below_left n b ≡ is_written_left before b.x (b.y + tx_height tx_in)
@@ -102,9 +102,9 @@ module _ (h : Header) (p : ℕ) where
           x < plane_width h p → y < plane_height h p
           → is_written before x y ≡ true
 
-    -- Of the side above, as far as a mode may reach, each place is visible and written just where there is a row above,
-    -- the place lies in the frame, and it lies before the block's end or the answer is yes; and so of the left side.
-    -- The corner is written where there is one.
+    -- The samples at the side above, as far as a mode may reach. A sample is visible and written exactly if there is a
+    -- row above, the sample lies in the frame, and it comes before the block's end or the answer is yes. The same holds
+    -- for the left side. The corner is written if there is one.
     pub record SidesAreKnown (before : List Step) (n : ℕ) (b : TransformBlock) : Type 0 where
       pub above : (j : ℕ) → j < tx_width tx_in + min (tx_width tx_in) (tx_height tx_in)
           → is_written_above before (b.x + j) b.y ≡
@@ -116,8 +116,7 @@ module _ (h : Header) (p : ℕ) where
           && (nat_lt i (tx_height tx_in) || answer_below_left n b))
       pub corner : 0 < b.x → 0 < b.y → is_written before (b.x - 1) (b.y - 1) ≡ true
 
--- It is so of each transform block, in each plane, of each leaf of a plan that is not inter, whatever the other leaves
--- are.
+-- This holds for each transform block, in each plane, of each intra leaf of a plan, whatever the other leaves are.
 abbrev pub EdgesAreAnswered : Type 0
 EdgesAreAnswered =
     (h : Header) (p : ℕ) (earlier : List LeafValue) (l : LeafValue) (later : List LeafValue) →
@@ -126,7 +125,7 @@ EdgesAreAnswered =
     leaf_block h p l n ≡ Some b
     → EdgeIsAnswered h p l (steps_before h p earlier l n) n b
 
--- So each place of its sides is known just where the answers say.
+-- So each sample at its sides is written exactly if the answers say so.
 abbrev pub SidesAreAnswered : Type 0
 SidesAreAnswered =
     (h : Header) (p : ℕ) (earlier : List LeafValue) (l : LeafValue) (later : List LeafValue) →

@@ -1,4 +1,4 @@
--- Leaves that are predicted from other frames: their whole area at once, before any block of it is added to.
+-- Inter leaves: their whole area is predicted at once, before any residual is added to it.
 -- AV1 specification: compute prediction syntax; residual syntax.
 use Rattle.std.specs.Prelude.{◌≡◌, true, false, ℕ, None, Some, [], ◌∷◌}
 use Rattle.av1_blocks.specs.Blocks.{block_width, block_height}
@@ -31,21 +31,21 @@ module _ (h : Header) (p : ℕ) (l : LeafValue) where
     pub columns : width_of (xdec h p) (ydec h p) whole_step ≡ block_width (plane_area h l.x l.y l.size l.tx_size p).size
     pub rows : height_of (xdec h p) (ydec h p) whole_step ≡ block_height (plane_area h l.x l.y l.size l.tx_size p).size
 
-  -- each sample of each transform block that begins in the visible plane, to which a residue may be added, is written
-  -- by the leaf's steps
+  -- each sample of each transform block that begins in the visible plane is written by the leaf's steps, so a residual
+  -- may be added to it
   abbrev pub BlocksAreWritten : Type 0
   BlocksAreWritten =
       covers_plane h l.x l.y l.size p ≡ true → (n : ℕ) (b : TransformBlock) → leaf_block h p l n ≡ Some b
       → (x y : ℕ) → is_in x y b.x b.y (tx_width (tx_in h p l)) (tx_height (tx_in h p l)) ≡ true →
       is_written h p (steps_in h p l) x y ≡ true
 
--- It is so of each valid inter leaf that covers a part of the plane; another has no steps there,
+-- This holds for each valid inter leaf that covers a part of the plane; any other inter leaf has no steps there.
 abbrev pub InterIsWhole : Type 0
 InterIsWhole = (h : Header) (p : ℕ) (l : LeafValue) → IsOnGrid h l → fault_of h l ≡ None → is_inter l.kind ≡ true →
     (covers_plane h l.x l.y l.size p ≡ true → IsPredictedWhole h p l)
     × (covers_plane h l.x l.y l.size p ≡ false → steps_in h p l ≡ [])
 
--- and of the blocks of each valid leaf, inter or not.
+-- The blocks of each valid leaf, inter or intra, are written.
 abbrev pub ResiduesFindSamples : Type 0
 ResiduesFindSamples = (h : Header) (p : ℕ) (l : LeafValue) → IsWholeFrame h → IsOnGrid h l → fault_of h l ≡ None →
     BlocksAreWritten h p l

@@ -1,23 +1,23 @@
-//! Coding order: what is written of a plane before a rectangle of it is predicted follows from position alone.
+//! Coding order: position alone decides what is written of a plane before a rectangle of it is predicted.
 //!
-//! An intra prediction reads the samples round its rectangle as far as they are written. An encoder keeps no record of
-//! that: it finds out by places. This crate is the theory that allows it, for every partition of every frame, in planes
-//! of every sampling. It has no code, only laws, each stated in `specs/` and ensured by a function that does nothing.
-//! It stands on `av1_avail` for the order of cells, and on `av1_plan` for leaves. To the walk above it promises:
+//! An intra prediction reads the samples round its rectangle that are already written. An encoder keeps no record of
+//! them: it computes them from positions. This crate is the theory that allows it, for every partition of every frame,
+//! in planes of every sampling. It has no code, only laws, each stated in `specs/` and ensured by a function that does
+//! nothing. It takes the order of cells from `av1_avail`, and leaves from `av1_plan`. Its promises to the walk above
+//! it:
 //!
 //! - The leaves of a frame lie on their grid and tile it (`specs/Leaves.antt`).
-//! - The steps of a plane (`specs/Steps.antt`) find written just the units that places tell (`specs/Places.antt`), and
-//!   so of the samples round them all that lies above and to the left, and of the runs above right and below left all
-//!   or nothing (`specs/Samples.antt`). In the end each visible sample is written.
-//! - What `has_top_right` and `has_bottom_left` of `av1_avail` ask is answered by whether those runs are written
-//!   (`specs/Asked.antt`).
+//! - Before each step of a plane (`specs/Steps.antt`), exactly the units are written that follow from its position
+//!   (`specs/Places.antt`). So all samples above and to the left are written, and the runs above right and below left
+//!   are written whole or not at all (`specs/Samples.antt`). In the end each visible sample is written.
+//! - `has_top_right` and `has_bottom_left` of `av1_avail` return whether those runs are written (`specs/Asked.antt`).
 //! - The steps of a plan's leaves are their transform blocks, and each plane of a valid plan is such a plane
 //!   (`specs/Plans.antt`).
-//! - Wherever the steps are cut, and at each transform block of a plan, the tables, asked as `av1_edges` asks them,
-//!   answer what is visible and written past it (`specs/Tabled.antt`, `specs/Turns.antt`).
+//! - Wherever the steps are cut, and at each transform block of a plan, the tables, called as `av1_edges` calls them,
+//!   say what is visible and written past it (`specs/Tabled.antt`, `specs/Turns.antt`).
 //! - The leaf whose area holds a sample is found from a record for each luma cell (`specs/Neighbours.antt`).
-//! - The luma that chroma from luma reads is written (`specs/ChromaFromLuma.antt`); inter leaves are predicted whole,
-//!   and residues meet written samples (`specs/WholeAreas.antt`).
+//! - The luma that chroma from luma reads is written (`specs/ChromaFromLuma.antt`). Inter leaves are predicted whole,
+//!   and residuals are added to written samples (`specs/WholeAreas.antt`).
 #![tactic(auto)]
 
 mod laws;

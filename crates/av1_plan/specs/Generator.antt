@@ -26,13 +26,13 @@ use Rattle.av1_plan.specs.Numbers.{drawn}
 unfoldable pub less : Length → ℕ → ℕ → ℕ
 less size v by = (v + (limit size - by)) % limit size
 
--- ---- what stands before the leaves
+-- ---- the bytes before the leaves
 
--- a side of the frame that is shown: all that is coded, in the third version up to 7 fewer
+-- a shown side of the frame: 512, or in the third version up to 7 less
 unfoldable pub shown_side : (version v : ℕ) → ℕ
 shown_side version v = if version == 3 then 512 - v % 8 else 512
 
--- the frame: 512 by 512 are coded, depth 10, 4:2:0; every reference names slot 0, which alone carries planes
+-- the frame: 512 by 512 coded luma samples, depth 10, 4:2:0. Every reference names slot 0, the only slot with planes
 unfoldable pub frame : (version number : ℕ) → Header
 frame version number = record {
   version = version;
@@ -87,18 +87,18 @@ step mode = if is_in_range 1 8 mode then draws 7 (λ v. writes one (less one v 3
 unfoldable pub weight : Draft
 weight = draws 33 (λ v. writes one (less one v 16))
 
--- what the chroma mode with this number asks for: 13 is chroma from luma
+-- the fields after the chroma mode with this number: two weights after 13 (chroma from luma), else an angle step
 unfoldable pub chroma_step : ℕ → Draft
 chroma_step mode = if mode == 13 then weight >> weight else step mode
 
--- how many chroma modes a leaf of this size may have: chroma from luma is for sides up to 32
+-- the number of chroma modes that a leaf of this size may have: chroma from luma is for sides up to 32
 unfoldable pub chroma_modes : BlockSize → ℕ
 chroma_modes size = if cfl_allowed size then 14 else 13
 
 unfoldable pub chroma_mode : BlockSize → Draft
 chroma_mode size = draws (chroma_modes size) (λ mode. writes one mode >> chroma_step mode)
 
--- an intra leaf, with its chroma mode where it carries chroma
+-- an intra leaf, with its chroma mode if it carries chroma
 unfoldable pub intra : BlockSize → Bool → Draft
 intra size carried = draws 13 (λ mode. writes one mode >> step mode >> only_if carried (chroma_mode size))
 
@@ -125,15 +125,15 @@ kind_of size carried (suc zero) = intra size carried
 kind_of size carried (suc (suc zero)) = single
 kind_of size carried (suc (suc (suc n))) = compound
 
--- of the leaves whose size admits references half are intra, a quarter has one reference and a quarter two; all others
--- are intra
+-- the kind of a leaf. If its size allows references, it is intra in 2 of 4 draws, and has one reference or two in 1 of
+-- 4 each. Otherwise it is intra
 unfoldable pub kind : Header → BlockSize → Bool → Draft
 kind h size carried = if admits_references h size then draws 4 (kind_of size carried) else intra size carried
 
 -- ---- how it is transformed
 
--- the type of a transform by the square of its greater side: the cosine transform alone at 64, or the identity (9) at
--- 32, and all but the Walsh-Hadamard transform below
+-- the type of a transform, by the square of its greater side: only the cosine transform at 64, also the identity (9) at
+-- 32, and any type except the Walsh-Hadamard transform below
 unfoldable pub type_within : TxSize → Draft
 type_within TX_64X64 = writes one 0
 type_within TX_32X32 = draws 2 (λ v. writes one (9 * v))
@@ -142,7 +142,7 @@ type_within _ = draws 16 (λ v. writes one v)
 unfoldable pub tx_type : TxSize → Draft
 tx_type size = type_within (tx_sqr_up size)
 
--- the size of luma's transforms: the block's own or the least
+-- the size of luma's transforms: the block's own or 4x4
 unfoldable pub luma_tx_size : BlockSize → ℕ → TxSize
 luma_tx_size size zero = block_tx_size size
 luma_tx_size size (suc n) = TX_4X4
@@ -161,24 +161,24 @@ triple j = writes one 0 >> writes two j >> draws 401 (λ v. writes four (less fo
 unfoldable pub triples : Draft
 triples = draws 4 (λ n. writes two n >> each triple 0 n)
 
--- the coefficients of U and V, where chroma is carried
+-- the coefficients of U and V, if chroma is carried
 unfoldable pub chroma_triples : Bool → Draft
 chroma_triples carried = only_if carried (triples >> triples)
 
 -- ---- leaves and nodes
 
--- a leaf of this size that carries chroma or not
+-- a leaf of this size, with chroma or without
 unfoldable pub leaf : Header → BlockSize → Bool → Draft
 leaf h size carried =
     kind h size carried >> luma_transforms size >> only_if carried (tx_type (largest_chroma_tx_size size 1 1))
     >> triples >> chroma_triples carried
 
--- a leaf of this size at this place
+-- a leaf of this size at column x and row y of luma
 unfoldable pub leaf_part : Header → BlockSize → ℕ → ℕ → Draft
 leaf_part h size x y = leaf h size (carries_chroma h x y size)
 
--- the parts of a node of this level by its mark (none, horizontal, vertical, split), where quarter gives the part of
--- half the side at a place
+-- the parts of a node of this level by its mark (none, horizontal, vertical, split); `quarter` gives the part of half
+-- the side at a position
 unfoldable pub parts : Header → ℕ → (ℕ → ℕ → Draft) → ℕ → ℕ → ℕ → Draft
 parts h level quarter x y zero = leaf_part h (whole_size level) x y
 parts h level quarter x y (suc zero) =
@@ -200,7 +200,7 @@ block h (suc level) x y = draws 4 (λ mark. writes one mark >> parts h (suc leve
 unfoldable pub superblock_row : Header → ℕ → Draft
 superblock_row h row = each (λ col. block h 4 (64 * col) (64 * row)) 0 8
 
--- all of them, in raster order
+-- all superblocks, in raster order
 unfoldable pub superblocks : Header → Draft
 superblocks h = each (superblock_row h) 0 8
 
@@ -210,10 +210,10 @@ unfoldable pub plan : (version number : ℕ) → Draft
 plan version number =
     header version number >> reference (frame version number) number >> superblocks (frame version number)
 
--- the bytes of the plan of a number in a version: the number is also the seed of what is drawn
+-- the bytes of the plan of a number in a version; the number is also the seed of the draws
 unfoldable pub plan_bytes_in : (version number : ℕ) → List ℕ
 plan_bytes_in version number = (written suc (drawn number) (plan version number) ([], 0)).0
 
--- the bytes of the plan of a number: in the first version
+-- the bytes of the plan of a number in the first version
 unfoldable pub plan_bytes : ℕ → List ℕ
 plan_bytes number = plan_bytes_in 1 number

@@ -49,9 +49,9 @@ where_ size admits = record { size = size; admits = admits }
 abbrev pub byte_from : ℕ → ℕ → Kind
 byte_from first last = where_ one (is_in_range first last)
 
--- ---- what stands before the leaves
+-- ---- the bytes before the leaves
 
--- the four letters at the front: those of one of the three versions
+-- the four letters at the front, which name one of the three versions
 abbrev pub is_magic : ℕ → Bool
 is_magic v = v == from_le_bytes w32 (codes "RPL1") || v == from_le_bytes w32 (codes "RPL2")
     || v == from_le_bytes w32 (codes "RPL3")
@@ -68,8 +68,7 @@ version = do
   letters ← field (where_ four is_magic)
   done (version_of letters)
 
--- a side of a frame that is shown, in samples of luma: up to the second version a multiple of 8, in the third any
--- number
+-- a shown side of a frame, in luma samples: from 1 to 2048, and up to the second version a multiple of 8
 abbrev pub is_side : (version : ℕ) → ℕ → Bool
 is_side version v = (version == 3 || v % 8 == 0) && is_in_range 1 2048 v
 
@@ -89,7 +88,7 @@ slots = do
   alternate ← field (byte_from 0 7)
   done (last ∷ last_2 ∷ last_3 ∷ golden ∷ backward ∷ alternate_2 ∷ alternate ∷ [])
 
--- the frame and what holds for all leaves, in this version
+-- the frame, and what holds for all leaves, in this version
 unfoldable pub frame : ℕ → Format Header
 frame version = do
   width ← field (where_ two (is_side version))
@@ -112,7 +111,7 @@ frame version = do
     mask = mask;
   })
 
--- what stands before the reference samples
+-- the fields before the reference samples
 unfoldable pub header : Format Header
 header = do
   version ← version
@@ -122,7 +121,7 @@ header = do
 abbrev pub sample : ℕ → Kind
 sample depth = if depth == 8 then any one else where_ two (λ v. nat_lt v (2 ^ depth))
 
--- the samples of a plane of this many, row by row
+-- the samples of a plane of `len` samples, row by row
 unfoldable pub plane : ℕ → ℕ → Format (List ℕ)
 plane depth len = in_turn (λ _. lone (field (sample depth))) 0 len
 
@@ -134,11 +133,11 @@ reference h = do
   v ← plane h.depth (plane_len h 2)
   done (y ∷ u ∷ v ∷ [])
 
--- the planes of a slot, where it carries planes
+-- the planes of a slot, if it carries planes
 unfoldable pub slot_planes : Header → ℕ → Format (Option (List (List ℕ)))
 slot_planes h slot = if has_slot h slot then (reference h >>= λ planes. done (Some planes)) else done None
 
--- the eight slots, rising
+-- the eight slots, in rising order
 unfoldable pub references : Header → Format (List (Option (List (List ℕ))))
 references h = in_turn (λ slot. lone (slot_planes h slot)) 0 8
 
@@ -157,7 +156,7 @@ reference_frame = do
   number ← field (byte_from 1 7)
   done (slice_index_or references_by_number.ALL number INTRA_FRAME)
 
--- an intra mode and its angle step, or the two weights of chroma from luma
+-- an intra mode and its angle step, or chroma from luma and its two weights
 unfoldable pub chroma_mode : Format ChromaMode
 chroma_mode = do
   mode ← field (byte_from 0 13)
@@ -168,7 +167,7 @@ chroma_mode = do
       step ← field (any one)
       done (Plain (slice_index_or modes.ALL mode DC_PRED) (cast_signed w8 step)))
 
--- an intra leaf: an angle step, and the chroma mode where chroma is carried
+-- an intra leaf: an angle step, and a chroma mode if chroma is carried
 unfoldable pub intra : Bool → PredictionMode → Format LeafKind
 intra has_chroma mode = do
   step ← field (any one)
@@ -193,7 +192,7 @@ compound mode = do
   second_mv ← vector
   done (Compound mode (reference ∷ second ∷ []) (mv ∷ second_mv ∷ []))
 
--- the luma mode, and what it asks for
+-- the luma mode, and the fields that this mode needs
 unfoldable pub leaf_kind : Bool → Format LeafKind
 leaf_kind has_chroma = do
   number ← field (byte_from 0 33)
@@ -213,7 +212,7 @@ tx_type = do
   number ← field (byte_from 0 16)
   done (slice_index_or tx_types.ALL number DCT_DCT)
 
--- the type of the chroma transforms, where chroma is carried
+-- the type of the chroma transforms, if chroma is carried
 unfoldable pub uv_type : Bool → Format (Option TxType)
 uv_type true = tx_type >>= λ t. done (Some t)
 uv_type false = done None
@@ -226,13 +225,13 @@ triple = do
   value ← field (any four)
   done (record { block = block; place = place; value = cast_signed w32 value })
 
--- a count, and so many triples
+-- a count, and that many triples
 unfoldable pub triples : Format (List Triple)
 triples = do
   count ← field (any two)
   in_turn (λ _. lone triple) 0 count
 
--- the triples of U and of V, where chroma is carried
+-- the triples of U and of V, if chroma is carried
 unfoldable pub chroma_triples : Bool → Format (List (List Triple))
 chroma_triples true = do
   u ← triples
@@ -240,7 +239,7 @@ chroma_triples true = do
   done (u ∷ v ∷ [])
 chroma_triples false = done ([] ∷ [] ∷ [])
 
--- a leaf of this size at this place
+-- a leaf of this size at column x and row y of luma
 unfoldable pub leaf : Header → BlockSize → ℕ → ℕ → Format LeafValue
 leaf h size x y = do
   kind ← leaf_kind (carries_chroma h x y size)
@@ -274,7 +273,7 @@ whole_size level = slice_index_or (BLOCK_4X4 ∷ BLOCK_8X8 ∷ BLOCK_16X16 ∷ B
 abbrev pub quarter_side : ℕ → ℕ
 quarter_side level = 2 ^ level
 
--- the size of the parts of a node that is cut so (where it can't be, the node's own)
+-- the size of the parts of a node with this cut; if the node can't be cut so, its own size
 unfoldable pub part_size : ℕ → PartitionType → BlockSize
 part_size level partition = result_unwrap_or (subsize (whole_size level) partition) (whole_size level)
 
@@ -286,7 +285,7 @@ inside h x y f = if is_inside h x y then f else nothing
 unfoldable pub leaf_part : Header → BlockSize → ℕ → ℕ → Format (List LeafValue)
 leaf_part h size x y = inside h x y (lone (leaf h size x y))
 
--- how a node is cut, by its mark
+-- the cut of a node with this mark
 unfoldable pub cut_by : ℕ → PartitionType
 cut_by mark =
     slice_index_or (PARTITION_NONE ∷ PARTITION_HORZ ∷ PARTITION_VERT ∷ PARTITION_SPLIT ∷ PARTITION_HORZ_A ∷
@@ -294,13 +293,13 @@ cut_by mark =
     PARTITION_NONE
 
 -- whether a node of this level may be cut into four leaves that are a quarter as wide or as high: from the second
--- version on a node of side 16 to 64 (level 2 and up) that lies in what is coded whole
+-- version on, a node of side 16 to 64 (level 2 and up) that lies wholly in the coded frame
 unfoldable pub admits_stripes : Header → ℕ → ℕ → ℕ → Bool
 admits_stripes h level x y = nat_le 2 h.version && nat_le 2 level && nat_le (x + 2 * half_side level) (coded_width h)
     && nat_le (y + 2 * half_side level) (coded_height h)
 
 -- a mark that a node may have: 0 to 3 (none, horizontal, vertical, split), or 8 or 9 (four leaves above one another or
--- side by side)
+-- side by side). Each of 0 to 3 is also valid if the lower or right half lies outside the frame; AV1 then has fewer
 unfoldable pub is_mark : Header → ℕ → ℕ → ℕ → ℕ → Bool
 is_mark h level x y v = nat_le v 3 || (is_in_range 8 9 v && admits_stripes h level x y)
 
@@ -322,7 +321,7 @@ tall_stripes h size side x y =
     leaf_part h size x y ++> leaf_part h size (x + side) y ++> leaf_part h size (x + 2 * side) y ++> leaf_part h
     size (x + 3 * side) y
 
--- the parts of a node of this level that is cut so, where node gives the part of half the side at a place
+-- the parts of a node of this level with this cut; `node` gives the part of half the side at a position
 unfoldable pub parts : Header → ℕ → (ℕ → ℕ → Format (List LeafValue)) → ℕ → ℕ → PartitionType → Format (List LeafValue)
 parts h level node x y PARTITION_NONE = leaf_part h (whole_size level) x y
 parts h level node x y PARTITION_HORZ =
@@ -344,17 +343,17 @@ block h (suc level) x y = inside h x y (do
   partition ← mark h (suc level) x y
   parts h (suc level) (block h level) x y partition)
 
--- the superblocks, of side 64, whose corner lies in the frame: one row of them
+-- one row of the superblocks: those of side 64 whose corner lies in the frame
 unfoldable pub superblock_row : Header → ℕ → Format (List LeafValue)
 superblock_row h row = in_turn (λ col. block h 4 (64 * col) (64 * row)) 0 ((h.width + 63) / 64)
 
--- all of them, in raster order
+-- all superblocks, in raster order
 unfoldable pub superblocks : Header → Format (List LeafValue)
 superblocks h = in_turn (superblock_row h) 0 ((h.height + 63) / 64)
 
 -- ---- the whole
 
--- what stands behind the reference samples of a plan with this header and these references: its leaves
+-- the bytes after the reference samples of a plan with this header and these references: its leaves
 unfoldable pub plan_behind : Header → List (Option (List (List ℕ))) → Format PlanValue
 plan_behind header references = do
   leaves ← superblocks header

@@ -1,4 +1,4 @@
--- What the maker has so far: words of private contracts.
+-- What the maker has so far: definitions for private contracts.
 use Rattle.std.specs.Prelude.{ℕ, List}
 use Rattle.av1_plan.specs.Draft.{Draft, written}
 use Rattle.av1_plan.specs.Numbers.{state_after, number_of}

@@ -1,4 +1,4 @@
--- What a plan says: the value that its bytes spell.
+-- The value of a plan: what its bytes spell.
 use Rattle.std.specs.Prelude.{◌≡◌, ℕ, ◌+◌, List, [], ◌∷◌, take, drop, map, sum, Option, Some, None, slice_index_or}
 use Rattle.std.specs.Prelude.{is_some, ◌<◌}
 use Rattle.av1_blocks.specs.declared.partition.BlockSize.{BlockSize}
@@ -11,8 +11,8 @@ use Rattle.av1_plan.specs.declared.leaf.Leaf.{Leaf}
 use Rattle.av1_plan.specs.declared.planes.SlotPlanes.{SlotPlanes}
 use Rattle.av1_plan.specs.Geometry.{has_slot}
 
--- a leaf: its place in luma samples, its size, how it is predicted and transformed, and for each of Y, U and V its
--- triples (none for U and V where the leaf carries no chroma)
+-- a leaf: its position in luma samples, its size, how it is predicted and transformed, and for each of Y, U and V its
+-- triples (none for U and V if the leaf carries no chroma)
 pub record LeafValue : Type 0 where
   pub x : ℕ
   pub y : ℕ
@@ -23,23 +23,23 @@ pub record LeafValue : Type 0 where
   pub uv_type : Option TxType
   pub triples : List (List Triple)
 
--- a plan: its header, for each of the eight slots its planes Y, U and V row by row where it carries planes, and its
+-- a plan: its header, for each of the eight slots its planes Y, U and V row by row (if it carries planes), and its
 -- leaves in coding order
 pub record PlanValue : Type 0 where
   pub header : Header
   pub references : List (Option (List (List ℕ)))
   pub leaves : List LeafValue
 
--- the triples of one of these leaves in a plane, the leaf counted from 0 in coding order
+-- the triples in a plane of one of these leaves, counted from 0 in coding order
 abbrev pub leaf_triples : List LeafValue → ℕ → ℕ → List Triple
 leaf_triples leaves leaf plane =
     slice_index_or (slice_index_or (map (λ (l : LeafValue). l.triples) leaves) leaf []) plane []
 
--- the same of a plan's leaves
+-- the triples in a plane of one of a plan's leaves
 abbrev pub triples_of : PlanValue → ℕ → ℕ → List Triple
 triples_of p leaf plane = leaf_triples p.leaves leaf plane
 
--- the samples of a plane of a slot, where the slot carries planes
+-- the samples of a plane of a slot, if the slot carries planes
 abbrev pub carried_plane : PlanValue → ℕ → ℕ → Option (List ℕ)
 carried_plane p slot plane = plane_of plane (slice_index_or p.references slot None)
   where
@@ -49,12 +49,12 @@ carried_plane p slot plane = plane_of plane (slice_index_or p.references slot No
 
 -- ---- a plan in memory
 
--- lists of these lengths, one behind the other from a place on
+-- lists of these lengths, one after the other, from position `first` of one list on
 abbrev pub cut : List Triple → ℕ → List ℕ → List (List Triple)
 cut triples first [] = []
 cut triples first (count ∷ counts) = take count (drop first triples) ∷ cut triples (first + count) counts
 
--- a leaf whose triples lie in this list
+-- the value of a leaf whose triples lie in this list
 abbrev pub leaf_value : List Triple → Leaf → LeafValue
 leaf_value triples l =
     record {
@@ -68,7 +68,7 @@ leaf_value triples l =
       triples = cut triples l.first l.counts;
     }
 
--- the leaves whose triples lie in this list
+-- the values of leaves whose triples lie in this list
 unfoldable pub leaf_values : List Triple → List Leaf → List LeafValue
 leaf_values triples leaves = map (leaf_value triples) leaves
 
@@ -77,24 +77,24 @@ unfoldable pub Follow : ℕ → List Leaf → ℕ → Type 0
 Follow a [] b = a ≡ b
 Follow a (l ∷ leaves) b = (l.first ≡ a) × Follow (a + sum l.counts) leaves b
 
--- the three planes of a slot
+-- the value of the three planes of a slot
 abbrev pub planes_value : SlotPlanes → List (List ℕ)
 planes_value p = p.y.items ∷ p.u.items ∷ p.v.items ∷ []
 
--- a slot
+-- the value of a slot
 abbrev pub slot_value : Option SlotPlanes → Option (List (List ℕ))
 slot_value (Some p) = Some (planes_value p)
 slot_value None = None
 
--- all slots
+-- the values of all slots
 abbrev pub slot_values : List (Option SlotPlanes) → List (Option (List (List ℕ)))
 slot_values slots = map slot_value slots
 
--- of the first n slots those have planes that carry some
+-- each of the first n slots has planes exactly if the mask has it
 abbrev pub ArePresent : Header → List (Option SlotPlanes) → ℕ → Type 0
 ArePresent h slots n = (s : ℕ) → s < n → is_some (slice_index_or slots s None) ≡ has_slot h s
 
--- the plan with these parts
+-- the value of the plan with these parts
 abbrev pub value_of : Header → List (Option SlotPlanes) → List Leaf → List Triple → PlanValue
 value_of header references leaves triples =
     record { header = header; references = slot_values references; leaves = leaf_values triples leaves }

@@ -1,4 +1,4 @@
--- What holds of every plan that is read: its frame, its reference samples and its leaves.
+-- What holds for every plan that is read: its frame, its reference samples and its leaves.
 use Rattle.std.specs.Prelude.{◌≡◌, ℕ, ◌+◌, ◌^◌, ◌%◌, ◌<◌, ◌≤◌, ◌⊎◌, Bool, true, false, ℤ, List, [], ◌∷◌, length, Option}
 use Rattle.std.specs.Prelude.{Some, None, is_some, slice_index_or, FitsSigned}
 use Rattle.std.specs.Int.{w8}
@@ -23,20 +23,20 @@ use Rattle.av1_plan.specs.Plan.{LeafValue}
 
 -- ---- the frame
 
--- a side of a frame that is coded, in samples of luma
+-- a coded side of a frame, in luma samples
 pub record IsSide (n : ℕ) : Type 0 where
   pub whole : n % 8 ≡ 0
   pub least : 8 ≤ n
   pub most : n ≤ 2048
 
--- a side that is shown, of one that is coded: the first two versions show all that they code
+-- a shown side of a frame with this coded side: in the first two versions both are the same
 pub record IsShown (version shown coded : ℕ) : Type 0 where
   pub some : 1 ≤ shown
   pub within : shown ≤ coded
   pub near : coded < shown + 8
   pub whole : version ≤ 2 → shown ≡ coded
 
--- the slots that the seven references name, of which there are eight
+-- the slots that the seven references name; there are eight slots
 pub record AreSlots (slots : List ℕ) : Type 0 where
   pub count : length slots ≡ 7
   pub range : All (λ slot. slot < 8) slots
@@ -58,17 +58,17 @@ pub record IsReadFrame (h : Header) : Type 0 where
 
 -- ---- reference samples
 
--- the samples of a plane: as many as are shown, each of the frame's depth
+-- the samples of a plane: as many as are shown, each within the frame's depth
 pub record ArePlane (h : Header) (plane : ℕ) (samples : List ℕ) : Type 0 where
   pub count : length samples ≡ plane_len h plane
   pub range : All (λ sample. sample < 2 ^ h.depth) samples
 
--- a plane of a slot: its samples exactly where the mask has the slot
+-- a plane of a slot: it has samples exactly if the mask has the slot
 abbrev pub IsReadReference : Header → (slot plane : ℕ) → Option (List ℕ) → Type 0
 IsReadReference h slot plane (Some samples) = (has_slot h slot ≡ true) × ArePlane h plane samples
 IsReadReference h slot plane None = has_slot h slot ≡ false
 
--- a slot in memory: its planes exactly where the mask has it
+-- a slot in memory: it has planes exactly if the mask has it
 abbrev pub IsStoredSlot : Header → ℕ → Option SlotPlanes → Type 0
 IsStoredSlot h slot (Some planes) = (has_slot h slot ≡ true) × ArePlane h 0 planes.y.items ×
     ArePlane h 1 planes.u.items × ArePlane h 2 planes.v.items
@@ -80,7 +80,7 @@ AreStoredSlots h slots n = (s : ℕ) → s < n → IsStoredSlot h s (slice_index
 
 -- ---- the kind of a leaf
 
--- a mode without references that isn't chroma from luma, and a step of one byte
+-- an intra mode that isn't chroma from luma, and an angle step of one byte
 pub record IsReadPlain (mode : PredictionMode) (step : ℤ) : Type 0 where
   pub intra : is_intra mode ≡ true
   pub plain : is_cfl mode ≡ false
@@ -91,13 +91,13 @@ pub record AreReadWeights (alpha_u alpha_v : ℤ) : Type 0 where
   pub u : FitsSigned w8 alpha_u
   pub v : FitsSigned w8 alpha_v
 
--- how chroma is predicted, where it is carried
+-- how chroma is predicted, if it is carried
 abbrev pub IsReadChroma : Option ChromaMode → Type 0
 IsReadChroma None = Unit {0}
 IsReadChroma (Some (Plain mode step)) = IsReadPlain mode step
 IsReadChroma (Some (Cfl alpha_u alpha_v)) = AreReadWeights alpha_u alpha_v
 
--- an intra leaf has a chroma mode exactly where it carries chroma
+-- an intra leaf has a chroma mode exactly if it carries chroma
 pub record IsReadIntra (carried : Bool) (mode : PredictionMode) (step : ℤ) (chroma : Option ChromaMode) : Type 0 where
   pub intra : is_intra mode ≡ true
   pub step_fits : FitsSigned w8 step
@@ -109,14 +109,14 @@ pub record IsOtherFrame (reference : RefType) : Type 0 where
   pub least : 1 ≤ reference_number reference
   pub most : reference_number reference ≤ 7
 
--- one reference, and a mode that takes one
+-- one reference, and a mode for one reference
 pub record IsReadSingle (mode : PredictionMode) (reference : RefType) (mv : MotionVector) : Type 0 where
   pub inter : is_intra mode ≡ false
   pub single : is_compound mode ≡ false
   pub reference_read : IsOtherFrame reference
   pub vector_fits : FitsVector mv
 
--- two references, and a mode that takes two
+-- two references, and a mode for two references
 pub record IsReadCompound (mode : PredictionMode) (references : List RefType) (mvs : List MotionVector) : Type 0 where
   pub compound : is_compound mode ≡ true
   pub two_references : length references ≡ 2
@@ -132,7 +132,7 @@ IsReadKind carried (Compound mode references mvs) = IsReadCompound mode referenc
 
 -- ---- leaves
 
--- the triples of Y, U and V: none of U and V where chroma isn't carried
+-- the triples of Y, U and V: none for U and V if chroma isn't carried
 pub record AreThree (carried : Bool) (lists : List (List Triple)) : Type 0 where
   pub y : List Triple
   pub u : List Triple
@@ -141,8 +141,8 @@ pub record AreThree (carried : Bool) (lists : List (List Triple)) : Type 0 where
   pub u_silent : carried ≡ false → u ≡ []
   pub v_silent : carried ≡ false → v ≡ []
 
--- A leaf stands on its grid, and has what belongs to chroma exactly where it carries chroma. A side of it is more than
--- twice the other from the second version on alone, and then it ends in what is coded.
+-- A leaf lies on its grid, and has the fields of chroma exactly if it carries chroma. In the first version no side is
+-- more than twice the other. A leaf with one side four times the other ends in the coded frame.
 pub record IsReadLeaf (h : Header) (l : LeafValue) : Type 0 where
   pub grid : IsOnGrid h l
   pub shape : h.version ≡ 1 → IsTwoToOne l

@@ -1,4 +1,4 @@
--- What the functions that read give: words of private contracts.
+-- The results of the functions that read: definitions for private contracts.
 use Rattle.std.specs.Prelude.{◌≡◌, ℕ, ◌+◌, ◌≤◌, List, length, take, drop, Result, Ok, Err, ⊤}
 use Rattle.av1_plan.specs.declared.error.PlanError.{PlanError}
 use Rattle.av1_plan.specs.declared.error.PlanError.TheVariants as errors
@@ -6,34 +6,34 @@ use Rattle.av1_plan.specs.declared.reader.Reader.{Reader}
 use Rattle.av1_plan.specs.declared.leaf.Triple.{Triple}
 use Rattle.av1_plan.specs.Format.{Input, Reading}
 
--- the error names the place at which the reading stopped, or memory ran out
+-- the error names the position at which the reading stopped, or memory ran out
 abbrev pub Fails : {Y : Type 0} → PlanError → Reading Y → Type 0
 Fails errors.Memory reading = Unit {0}
 Fails (errors.Malformed at) reading = reading ≡ Err at
 
--- the error names a place: memory did not run out
+-- the error names a position: memory did not run out
 abbrev pub IsAtByte : PlanError → Type 0
 IsAtByte errors.Memory = ⊥
 IsAtByte (errors.Malformed at) = ⊤
 
--- what a function returned, seen by view, is what reading gives, unless memory ran out
+-- what a function returned, seen by `view`, is what the reading gives, unless memory ran out
 abbrev pub Gives : {X Y : Type 0} → (X → Y) → Result X PlanError → Reading Y → Type 0
 Gives view (Ok x) reading = reading ≡ Ok (view x)
 Gives view (Err e) reading = Fails e reading
 
--- where a reader stands
+-- the position of a reader, and the bytes that are left
 abbrev pub input : Reader → Input
 input r = record { at = r.at; rest = r.rest.now }
 
--- the place went on, and the end is where it was
+-- the reader moved forward, and its end is the same
 abbrev pub Moves : Reader → Reader → Type 0
 Moves r s = (s.at + length s.rest.now ≡ r.at + length r.rest.now) × (r.at ≤ s.at)
 
--- new has n triples more than old, at its end
+-- `new` has n more triples than `old`, at its end
 pub record Extends (old new : List Triple) (n : ℕ) : Type 0 where
   pub front : take (length old) new ≡ old
   pub count : length new ≡ length old + n
 
--- the n triples that came behind old
+-- the n triples of `new` after `old`
 abbrev pub added : List Triple → List Triple → ℕ → List Triple
 added old new n = take n (drop (length old) new)

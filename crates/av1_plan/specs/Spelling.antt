@@ -1,16 +1,16 @@
--- Which lists of values a format asks for, and which bytes are exactly their fields. Nothing here reads bytes: whole
--- texts are compared.
+-- Which lists of values are spelled by a format, and which bytes are exactly their fields. Nothing here reads bytes:
+-- whole texts are compared.
 use Rattle.std.specs.Prelude.{◌≡◌, ℕ, ◌≤◌, List, [], ◌∷◌, ◌++◌, length}
 use Rattle.std.specs.Int.{to_le_bytes}
 use Rattle.av1_plan.specs.Format.{Format, done, asks, IsAdmitted, width}
 
--- each value is of the kind that is asked for after the values before it, and admitted
+-- each value is valid for the field that follows the values before it
 abbrev pub IsProper : {A : Type 0} → Format A → List ℕ → Type 0
 IsProper f [] = Unit {0}
 IsProper (done x) (v ∷ vs) = ⊥
 IsProper (asks k next) (v ∷ vs) = IsAdmitted k v × IsProper (next v) vs
 
--- the same, and complete: nothing is asked for after them, and they spell y
+-- the values are proper and complete: no field follows them, and they spell y
 abbrev pub Spells : {A : Type 0} → Format A → List ℕ → A → Type 0
 Spells (done x) [] y = x ≡ y
 Spells (done x) (v ∷ vs) y = ⊥
@@ -32,16 +32,16 @@ text (asks k next) (v ∷ vs) = to_le_bytes (width k.size) v ++ text (next v) vs
 abbrev pub AreText : {A : Type 0} → Format A → List ℕ → A → Type 0
 AreText f bytes x = (vs : List ℕ) × Spells f vs x × (bytes ≡ text f vs)
 
--- the bytes begin so
+-- the bytes begin with `front`
 abbrev pub IsPrefix : List ℕ → List ℕ → Type 0
 IsPrefix front bytes = (more : List ℕ) × (bytes ≡ front ++ more)
 
--- `at` is how many bytes the longest proper list has, of those whose fields are a prefix of the bytes
+-- `at` is the number of bytes of the longest proper list whose fields are a prefix of the bytes
 pub record IsLongest {A : Type 0} (f : Format A) (bytes : List ℕ) (at : ℕ) : Type 0 where
   pub reached : (vs : List ℕ) × IsProper f vs × IsPrefix (text f vs) bytes × (length (text f vs) ≡ at)
   pub longest : (vs : List ℕ) → IsProper f vs → IsPrefix (text f vs) bytes → length (text f vs) ≤ at
 
--- no complete proper list has these bytes as its fields, and the longest proper list at their front ends at `at`
+-- no complete proper list has these bytes as its fields, and the longest proper list at their front has `at` bytes
 pub record AreRefused {A : Type 0} (f : Format A) (bytes : List ℕ) (at : ℕ) : Type 0 where
   pub no_text : (x : A) → AreText f bytes x → ⊥
   pub first : IsLongest f bytes at

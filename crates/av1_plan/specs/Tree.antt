@@ -1,5 +1,5 @@
--- Coding order: the leaves of a frame, one after the other, as the marks of its nodes give them. Places and sides are
--- counted in cells of 4 by 4 luma samples. AV1 specification: decode partition syntax.
+-- Coding order: the leaves of a frame, one after the other, as the marks of its nodes give them. Positions and sides
+-- are counted in cells of 4x4 luma samples. AV1 specification: decode partition syntax.
 use Rattle.std.specs.Prelude.{ℕ, suc, ◌+◌, ◌*◌, ◌^◌, nat_lt, ◌&&◌, if◌then◌else◌, List, [], ◌∷◌, ◌++◌}
 
 -- a rectangle of cells
@@ -24,7 +24,7 @@ pub data Tree (A : Type 0) : ℕ → Type 0 where
   vert_4 : {k : ℕ} → A → A → A → A → Tree A (suc (suc k))
   split : {k : ℕ} → Tree A k → Tree A k → Tree A k → Tree A k → Tree A (suc k)
 
--- a frame of so many columns and rows of cells
+-- a frame of `width` by `height` cells
 module _ {A : Type 0} (width height : ℕ) where
   -- a part whose corner lies outside the frame isn't coded
   abbrev pub kept : (x y : ℕ) → List (Placed A) → List (Placed A)

@@ -1,4 +1,4 @@
--- What a plan in memory says, and what the answers of parsing say.
+-- The values of plans in memory and of the results of parsing.
 use Rattle.std.specs.Prelude.{ℕ, List, Result, Ok, Err}
 use Rattle.av1_plan.specs.declared.plan.Plan.{Plan}
 use Rattle.av1_plan.specs.declared.leaves.Leaves.{Leaves}
@@ -16,7 +16,7 @@ leaf_list l = l.leaves.items
 abbrev pub triple_list : Leaves → List Triple
 triple_list l = l.triples.items
 
--- what leaves say
+-- the values of leaves
 abbrev pub leaves_value : Leaves → List LeafValue
 leaves_value l = leaf_values (triple_list l) (leaf_list l)
 
@@ -28,11 +28,11 @@ stored_leaves p = leaf_list p.leaves
 abbrev pub stored_triples : Plan → List Triple
 stored_triples p = triple_list p.leaves
 
--- what a plan says
+-- the value of a plan
 abbrev pub plan_value : Plan → PlanValue
 plan_value p = value_of p.header p.references.items (stored_leaves p) (stored_triples p)
 
--- P holds of the place that the answer names, if it names one
+-- P holds for the position that the error names, if it names one
 abbrev pub IfMalformed : {X : Type 0} → Result X PlanError → (ℕ → Type 0) → Type 0
 IfMalformed (Ok x) P = Unit {0}
 IfMalformed (Err errors.Memory) P = Unit {0}

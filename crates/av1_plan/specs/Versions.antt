@@ -27,26 +27,27 @@ header_in n h = record {
 abbrev pub plan_in : ℕ → PlanValue → PlanValue
 plan_in n p = record { header = header_in n p.header; references = p.references; leaves = p.leaves }
 
--- Bytes with the letters of the first version that spell a plan spell the same plan in the second, once they have its
--- letters.
+-- If bytes with the letters of the first version spell a plan, then with the letters of the second version they spell
+-- the same plan in that version.
 abbrev pub SecondKeepsFirst : Type 0
 SecondKeepsFirst =
     (rest : List ℕ) (p : PlanValue) → AreText plan (codes "RPL1" ++ rest) p
     → (p.header.version ≡ 1) × AreText plan (codes "RPL2" ++ rest) (plan_in 2 p)
 
--- Back again, where no side of a leaf is more than twice the other.
+-- The converse, if no side of a leaf is more than twice the other.
 abbrev pub FirstHasRest : Type 0
 FirstHasRest =
     (rest : List ℕ) (p : PlanValue) → AreText plan (codes "RPL2" ++ rest) p → All IsTwoToOne p.leaves
     → (p.header.version ≡ 2) × AreText plan (codes "RPL1" ++ rest) (plan_in 1 p)
 
--- The same of the second version and the third.
+-- If bytes with the letters of the second version spell a plan, then with the letters of the third version they spell
+-- the same plan in that version.
 abbrev pub ThirdKeepsSecond : Type 0
 ThirdKeepsSecond =
     (rest : List ℕ) (p : PlanValue) → AreText plan (codes "RPL2" ++ rest) p
     → (p.header.version ≡ 2) × AreText plan (codes "RPL3" ++ rest) (plan_in 3 p)
 
--- Back again, where both sides that are shown are multiples of 8.
+-- The converse, if both shown sides are multiples of 8.
 abbrev pub SecondHasRest : Type 0
 SecondHasRest =
     (rest : List ℕ) (p : PlanValue) → AreText plan (codes "RPL3" ++ rest) p

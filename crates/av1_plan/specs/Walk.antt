@@ -15,37 +15,37 @@ remaining w = w.parts ++ superblocks_from w.header w.left.row w.left.col
 
 -- ---- where a walk stops
 
--- the same for a walk that stopped with these parts on its stack
+-- the parts that remain for a walk that stopped with these parts on its stack
 abbrev pub stopped_at : Header → Stacked → Superblocks → List Part
 stopped_at h s left = on_top s.parts s.count ++ superblocks_from h left.row left.col
 
--- whether these are parts on a stack: no more than it holds, and each with room for its own parts
+-- whether these are parts on a stack: not more than it holds, and each leaves room for its own parts
 abbrev pub are_stacked : Stacked → Bool
 are_stacked s = nat_le s.count 13 && have_room (on_top s.parts s.count)
 
--- whether a superblock of the frame stands at this row and column, or they are the place behind the last one: past the
+-- whether a superblock of the frame is at this row and column, or they are the position after the last one: past the
 -- last column, in the last row
 unfoldable pub is_next_superblock : Header → (row col : ℕ) → Bool
 is_next_superblock h row col =
     nat_lt row (down h) && (nat_lt col (across h) || (col == across h && nat_le (down h) (row + 1)))
 
--- whether a walk over this frame may stop so
+-- whether a walk over this frame may stop there
 abbrev pub is_stopped : Header → Stacked → Superblocks → Bool
 is_stopped h s left = is_next_superblock h left.row left.col && are_stacked s
 
 -- ---- how long a walk goes on
 
--- how many nodes and leaves a node is at most, each part below it counted
+-- the greatest number of nodes and leaves in a node, the node included
 abbrev pub node_weight : ℕ → ℕ
 node_weight zero = 1
 node_weight (suc level) = 1 + 4 * node_weight level
 
--- the same of a part
+-- the same number for a part
 abbrev pub part_weight : Part → ℕ
 part_weight (Node level x y) = node_weight level
 part_weight (Leaf size x y) = 1
 
--- the same of several parts: each step of a walk makes it less
+-- the same number for several parts; each step of a walk makes it less
 abbrev pub weight : List Part → ℕ
 weight [] = 0
 weight (p ∷ ps) = part_weight p + weight ps

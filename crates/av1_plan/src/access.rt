@@ -14,7 +14,7 @@ impl Plan {
     ghost use Rattle.av1_plan.specs.Plan.{carried_plane, triples_of};
     ghost use Rattle.av1_plan.specs.ReadPlans.{IsReadFrame, IsReadLeaf, ArePlane};
 
-    /// The frame, and what holds for all leaves.
+    /// The header: the frame, and what holds for all leaves.
     pub fn header(&self) -> &Header
         ensures value { result.now ≡ (plan_value self.now).header }
         // Its sides, depth, sampling, filter and slots lie in their ranges.
@@ -23,10 +23,11 @@ impl Plan {
         &self.header
     }
 
-    /// The leaves, in coding order: those of one tree of marks for each superblock.
+    /// The leaves, in coding order: the leaves of one tree of marks for each superblock.
     pub fn leaves(&self) -> &[Leaf]
         ensures items { result.now ≡ stored_leaves self.now }
-        // Each stands on its grid, and has a chroma mode and a chroma type exactly where it carries chroma.
+        // Each lies on its grid. It has a chroma type exactly if it carries chroma, and so for the chroma mode if it is
+        // intra.
         ensures read { All (IsReadLeaf (plan_value self.now).header) (plan_value self.now).leaves }
         ensures order { ∥ AreInCodingOrder (plan_value self.now).header (λ l. l) (plan_value self.now).leaves ∥₁ }
     {
@@ -40,14 +41,15 @@ impl Plan {
         &self.leaves
     }
 
-    /// The samples of plane `p` of a slot, row by row: None exactly where the slot carries no planes.
+    /// The samples of plane `p` (0 for Y, 1 for U and 2 for V) of a slot, row by row. None if the slot carries no
+    /// planes.
     pub fn reference(&self, slot: usize, p: usize) -> Option<&[u16]>
         requires slot { slot < 8 }
         requires plane { p < 3 }
         ensures present { IsSome result ↔ IsTrue (has_slot (plan_value self.now).header slot) }
         ensures some { IfSome result (λ s. carried_plane (plan_value self.now) slot p ≡ Some s.now) }
         ensures none { IfNone result (carried_plane (plan_value self.now) slot p ≡ None) }
-        // As many as the plane has, each below `1 << depth`.
+        // They are as many as the plane shows, each below `1 << depth`.
         ensures read { IfSome result (λ s. ArePlane (plan_value self.now).header p s.now) }
     {
         let planes = self.references[slot].as_ref()?;
@@ -58,7 +60,7 @@ impl Plan {
         }
     }
 
-    /// The triples of a leaf in plane `p`, the leaf counted from 0 in coding order.
+    /// The triples in plane `p` of leaf number `leaf`, counted from 0 in coding order.
     pub fn triples(&self, leaf: usize, p: usize) -> &[Triple]
         requires leaf { leaf < length (stored_leaves self.now) }
         requires plane { p < 3 }

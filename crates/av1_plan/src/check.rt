@@ -39,7 +39,7 @@ use crate::plan::Plan;
 use av1_blocks::transform::valid_av1_transform;
 use av1_blocks::{BlockSize, PredictionMode, RefType, TxSize, TxType};
 
-/// Whether chroma of a leaf of this size has a size of its own.
+/// Whether the chroma of a leaf of this size has a block size.
 #[tactic(auto, unfolding(crate::specs::Validity::has_block_size))]
 fn has_block_size(header: &Header, size: BlockSize) -> bool
     ensures { result ≡ has_block_size header.now size }
@@ -112,8 +112,8 @@ pub fn is_inter_size(size: BlockSize) -> bool
     8 <= size.width() && 8 <= size.height()
 }
 
-/// Whether a leaf of this size may be predicted from references: in the third version each, before it one that has no
-/// side under 8.
+/// Whether a leaf of this size may be predicted from references: in the third version any leaf, before it a leaf
+/// without a side under 8.
 #[tactic(auto, unfolding(crate::specs::Validity::admits_references))]
 pub fn admits_references(header: &Header, size: BlockSize) -> bool
     ensures { result ≡ admits_references header.now size }
@@ -141,7 +141,7 @@ fn has_modes(header: &Header, size: BlockSize, kind: LeafKind) -> bool
     }
 }
 
-/// Whether a leaf's vectors are ones that a bitstream may hold.
+/// Whether a bitstream may hold a leaf's vectors.
 #[tactic(auto, unfolding(crate::specs::Validity::has_vectors))]
 fn has_vectors(kind: LeafKind) -> bool
     ensures { result ≡ has_vectors kind }
@@ -185,7 +185,7 @@ fn has_references(header: &Header, kind: &LeafKind) -> bool
     }
 }
 
-/// Whether a number lies from `-limit` to below `limit`.
+/// Whether a number is at least `-limit` and less than `limit`.
 fn is_within(value: i32, limit: i32) -> bool
     requires { pos 0 ≤ℤ limit }
     ensures { result ≡ (not (int_lt value (neg_ℤ limit)) && int_lt value limit) }
@@ -193,12 +193,12 @@ fn is_within(value: i32, limit: i32) -> bool
     -limit <= value && value < limit
 }
 
-/// What the places and the numbers of an area's coefficients stay below.
+/// The limits of the places and the values of an area's coefficients.
 #[derive(Clone, Copy)]
 struct Bounds {
-    /// How many coded coefficients a transform block has.
+    /// The number of coded coefficients of a transform block.
     places: usize,
-    /// What numbers lie below; the least one is its negative.
+    /// The limit of the values: they are at least `-limit` and less than `limit`.
     limit: i32,
 }
 
@@ -214,7 +214,7 @@ fn bounds_of(area: &PlaneArea, depth: u8) -> Bounds
     }
 }
 
-/// Whether a triple's place and number lie within the bounds.
+/// Whether a triple's place and value lie within the bounds.
 fn is_bounded(bounds: Bounds, triple: &Triple) -> bool
     requires { pos 0 ≤ℤ bounds.limit }
     ensures { result ≡ (nat_lt triple.now.place bounds.places
@@ -223,7 +223,7 @@ fn is_bounded(bounds: Bounds, triple: &Triple) -> bool
     usize::from(triple.place) < bounds.places && is_within(triple.value, bounds.limit)
 }
 
-/// Whether a triple is of the block of the last one.
+/// Whether a triple belongs to the block of the last one.
 #[tactic(auto, unfolding(crate::specs::Validity::is_of_block))]
 fn is_of_block(last: Option<Triple>, triple: &Triple) -> bool
     ensures { result ≡ is_of_block last triple.now }
@@ -234,8 +234,8 @@ fn is_of_block(last: Option<Triple>, triple: &Triple) -> bool
     }
 }
 
-/// Whether the area has the block of a triple, and that begins in the coded plane `p`. The block of the last triple,
-/// where there is one, does.
+/// Whether the area has the block of a triple, and the block begins in the coded plane `p`. The block of the last
+/// triple, if there is one, is such a block.
 #[tactic(auto, unfolding(crate::specs::Geometry::transform_block))]
 fn has_block(
     header: &Header,
@@ -254,7 +254,7 @@ fn has_block(
         .is_some()
 }
 
-/// Whether a triple stands before another.
+/// Whether a triple comes before another.
 #[tactic(auto, unfolding(crate::specs::Validity::is_before))]
 fn is_before(first: &Triple, second: &Triple) -> bool
     ensures { result ≡ is_before first.now second.now }
@@ -262,7 +262,7 @@ fn is_before(first: &Triple, second: &Triple) -> bool
     first.block < second.block || (first.block == second.block && first.place < second.place)
 }
 
-/// Whether a triple may come behind the last one.
+/// Whether a triple may follow the last one.
 #[tactic(auto, unfolding(crate::specs::Validity::follows))]
 fn follows(last: Option<Triple>, triple: &Triple) -> bool
     ensures { result ≡ follows last triple.now }
@@ -273,8 +273,8 @@ fn follows(last: Option<Triple>, triple: &Triple) -> bool
     }
 }
 
-/// Whether a triple may come behind the last one, and names a block of the area that begins in the coded plane `p`, a
-/// place of it and a number in range. The block of the last triple, where there is one, is such a block.
+/// Whether a triple may follow the last one, and names a block of the area that begins in the coded plane `p`, a place
+/// in the block and a value in range. The block of the last triple, if there is one, is such a block.
 fn is_next(
     header: &Header,
     p: usize,
@@ -298,7 +298,7 @@ fn is_next(
     has_block(header, p, area, last, triple)
 }
 
-/// Whether these triples of plane `p` are coefficients of the area's blocks, and rise strictly by block and place.
+/// Whether these triples of plane `p` are coefficients of the area's blocks, strictly sorted by block and place.
 #[tactic(auto, using(crate::proofs::Faults::triples_end))]
 fn are_coefficients(header: &Header, p: usize, area: &PlaneArea, triples: &[Triple]) -> bool
     requires { header.now.depth ≤ 12 }
@@ -345,7 +345,7 @@ fn has_coefficients(header: &Header, leaves: &Leaves, i: usize, leaf: &Leaf) -> 
                 && has_plane_coefficients(header, leaves, i, leaf, 2)))
 }
 
-/// The first reason for which leaf number `i` is refused.
+/// The first reason for which leaf number `i` is rejected.
 #[tactic(auto, unfolding(crate::specs::Validity::fault_of))]
 fn fault_of(header: &Header, leaves: &Leaves, i: usize, leaf: &Leaf) -> Option<InvalidKind>
     requires depth { header.now.depth ≤ 12 }
@@ -369,12 +369,12 @@ fn fault_of(header: &Header, leaves: &Leaves, i: usize, leaf: &Leaf) -> Option<I
     }
 }
 
-/// Whether all of these leaves are valid in a frame with this header: for callers that keep the leaves of a plan apart
-/// from its header and its references.
+/// Checks that all of these leaves are valid in a frame with this header. It is for callers that keep the leaves of a
+/// plan apart from its header and its references.
 ///
 /// # Errors
 ///
-/// The first faulty leaf in coding order, and the first reason for which it is refused.
+/// The first faulty leaf in coding order, and the first reason for which it is rejected.
 #[tactic(auto, using(crate::proofs::Faults::leaves_end))]
 pub fn check_leaves(header: &Header, leaves: &Leaves) -> Result<(), Invalid>
     requires { header.now.depth ≤ 12 }
@@ -392,11 +392,11 @@ pub fn check_leaves(header: &Header, leaves: &Leaves) -> Result<(), Invalid>
     Ok(())
 }
 
-/// Whether every leaf of a plan is valid.
+/// Checks that every leaf of a plan is valid.
 ///
 /// # Errors
 ///
-/// The first faulty leaf in coding order, and the first reason for which it is refused.
+/// The first faulty leaf in coding order, and the first reason for which it is rejected.
 pub fn check_plan(plan: &Plan) -> Result<(), Invalid>
     ensures ok { OnOk result (first_fault (plan_value plan.now) ≡ None) }
     ensures err { IfErr result (λ fault. first_fault (plan_value plan.now) ≡ Some fault) }

@@ -1,4 +1,4 @@
-//! Why bytes are no plan, and why a plan is not valid.
+//! Why bytes are not the text of a plan, and why a plan is not valid.
 
 ghost use Rattle.std.specs.Prelude.{◌≡◌};
 ghost use Rattle.av1_plan.specs.declared.error.PlanError.TheVariants.{Memory};
@@ -8,7 +8,7 @@ use std::alloc::{AllocError, AllocFailed};
 /// Why bytes were not read as a plan.
 #[derive(Copy, Clone, Debug, PartialEq, Eq)]
 pub enum PlanError {
-    /// The field that begins at byte `at` is cut, has a value that is not admitted, or is left over after the end.
+    /// The field that begins at byte `at` is cut, has a value that is not valid there, or is left over after the end.
     Malformed { at: u32 },
     /// Memory ran out.
     Memory,
@@ -30,14 +30,14 @@ impl<T: Drop> From<AllocFailed<T>> for PlanError {
     }
 }
 
-/// The reasons for which a leaf is refused, in the order in which they are looked for.
+/// The reasons for which a leaf is rejected, in the order in which they are tested.
 #[derive(Copy, Clone, Debug, PartialEq, Eq)]
 pub enum InvalidKind {
-    /// Chroma of the leaf's size has no size of its own.
+    /// The chroma of the leaf has no block size.
     InvalidBlockSize,
-    /// A transform is longer than its leaf, or of a type that its size does not have.
+    /// A transform is longer than its leaf, or has a type that its size may not have.
     Transform,
-    /// A mode, an angle step or an alpha that its leaf cannot have.
+    /// The leaf cannot have this mode, angle step or alpha.
     Mode,
     /// A motion vector out of range.
     Vector,
@@ -47,7 +47,7 @@ pub enum InvalidKind {
     Coefficient,
 }
 
-/// The first faulty leaf of a plan, counted from 0 in coding order, and the first reason for which it is refused.
+/// The first faulty leaf of a plan, counted from 0 in coding order, and the first reason for which it is rejected.
 #[derive(Copy, Clone, Debug, PartialEq, Eq)]
 pub struct Invalid {
     pub leaf: u32,

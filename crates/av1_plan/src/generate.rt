@@ -1,10 +1,11 @@
-//! A large plan from a number, for measuring and for trying out.
+//! A large plan from a number, for measurements and trials.
 //!
-//! `make_plan` draws a plan of 512 by 512 samples from a number: every mark, every kind of leaf and the coefficients,
-//! from a linear congruential generator that begins with the number. `make_plan_in` draws one of any version of the
-//! plan grammar: in the third the frame is up to 7 samples narrower and lower, and leaves with a side of 4 are from
-//! references, too. Promised: the bytes are those of the definition (`specs/Generator.antt`), and the text of a valid
-//! plan.
+//! `make_plan` draws a plan of 512 by 512 luma samples: every mark, every kind of leaf and the coefficients. The
+//! numbers come from a linear congruential generator, whose seed is the number. `make_plan_in` draws a plan of any
+//! version. In the third version the frame is up to 7 samples narrower and lower, and leaves with a side of 4 may also
+//! be predicted from references.
+//!
+//! Proved: the bytes are those of the definition (`specs/Generator.antt`), and they are the text of a valid plan.
 
 mod leaf;
 mod make;

@@ -1,7 +1,6 @@
-//! What of each plane a leaf covers.
+//! The part of each plane that a leaf covers.
 //!
-//! Planes are counted 0 for Y, 1 for U and 2 for V. The check and the reconstruction take a leaf's geometry from here
-//! alone.
+//! Plane 0 is Y, 1 is U and 2 is V. The check and the reconstruction both take the geometry of a leaf from here.
 
 ghost use Rattle.std.specs.Prelude.{◌≡◌, ◌≤◌, ◌<◌};
 ghost use Rattle.av1_plan.specs.Geometry.{coded_side, carries_chroma, covers_plane, plane_place, plane_size, plane_tx_size, plane_area};
@@ -18,13 +17,13 @@ pub struct PlaneArea {
     pub x: u16,
     /// The row of its first sample in the plane.
     pub y: u16,
-    /// Its sides, in samples of the plane.
+    /// Its width and height, in samples of the plane.
     pub size: BlockSize,
     /// The size of its transforms.
     pub tx_size: TxSize,
 }
 
-/// Where a transform block begins in its plane.
+/// The position at which a transform block begins in its plane.
 #[derive(Copy, Clone, Debug, PartialEq, Eq)]
 pub struct TransformBlock {
     /// The column of its first sample.
@@ -33,7 +32,7 @@ pub struct TransformBlock {
     pub y: usize,
 }
 
-/// A side of a frame that is coded, of one that is shown, in samples of luma: the least multiple of 8 that holds it.
+/// The coded side of a frame with this shown side, in luma samples: the least multiple of 8 that is not less.
 fn coded_side(shown: u16) -> usize
     ensures { result ≡ coded_side shown }
 {
@@ -45,15 +44,16 @@ impl Header {
     ghost use Rattle.av1_plan.specs.Geometry.{xdec, ydec, plane_width, plane_height, shown_columns, shown_rows, plane_len};
     ghost use Rattle.av1_plan.specs.Geometry.{coded_width, coded_height, follows_av1, has_slot, is_inside};
 
-    /// Whether a plan with this header comes to what the AV1 specification says where rav1e departs from it: in the
-    /// third version.
+    /// Whether a plan with this header follows the AV1 specification in the rules in which rav1e departs from it: in
+    /// the third version.
     pub fn follows_av1(&self) -> bool
         ensures { result ≡ follows_av1 self.now }
     {
         self.version == 3
     }
 
-    /// The logarithm to base 2 of how many luma columns a sample of plane `p` stands for.
+    /// The logarithm to base 2 of how many luma columns a sample of plane `p` stands for: 1 if the plane is halved,
+    /// else 0.
     #[tactic(auto, unfolding(crate::specs::Geometry::xdec))]
     pub fn xdec(&self, p: usize) -> usize
         ensures value { result ≡ xdec self.now p }
@@ -62,7 +62,8 @@ impl Header {
         if p > 0 && self.sampling < 2 { 1 } else { 0 }
     }
 
-    /// The logarithm to base 2 of how many luma rows a sample of plane `p` stands for.
+    /// The logarithm to base 2 of how many luma rows a sample of plane `p` stands for: 1 if the plane is halved, else
+    /// 0.
     #[tactic(auto, unfolding(crate::specs::Geometry::ydec))]
     pub fn ydec(&self, p: usize) -> usize
         ensures value { result ≡ ydec self.now p }
@@ -71,7 +72,7 @@ impl Header {
         if p > 0 && self.sampling == 0 { 1 } else { 0 }
     }
 
-    /// The columns of luma samples that are coded: the least multiple of 8 that holds those that are shown.
+    /// The number of luma columns that are coded: the least multiple of 8 that is not less than the shown columns.
     #[tactic(auto, unfolding(crate::specs::Geometry::coded_width))]
     pub fn coded_width(&self) -> usize
         ensures value { result ≡ coded_width self.now }
@@ -80,7 +81,7 @@ impl Header {
         coded_side(self.width)
     }
 
-    /// The rows of luma samples that are coded: the least multiple of 8 that holds those that are shown.
+    /// The number of luma rows that are coded: the least multiple of 8 that is not less than the shown rows.
     #[tactic(auto, unfolding(crate::specs::Geometry::coded_height))]
     pub fn coded_height(&self) -> usize
         ensures value { result ≡ coded_height self.now }
@@ -89,7 +90,7 @@ impl Header {
         coded_side(self.height)
     }
 
-    /// The columns of plane `p` that are coded, in samples.
+    /// The number of columns of plane `p` that are coded.
     #[tactic(auto, unfolding(crate::specs::Geometry::plane_width))]
     pub fn plane_width(&self, p: usize) -> usize
         ensures value { result ≡ plane_width self.now p }
@@ -98,7 +99,7 @@ impl Header {
         self.coded_width() >> self.xdec(p)
     }
 
-    /// The rows of plane `p` that are coded, in samples.
+    /// The number of rows of plane `p` that are coded.
     #[tactic(auto, unfolding(crate::specs::Geometry::plane_height))]
     pub fn plane_height(&self, p: usize) -> usize
         ensures value { result ≡ plane_height self.now p }
@@ -107,7 +108,7 @@ impl Header {
         self.coded_height() >> self.ydec(p)
     }
 
-    /// The columns of plane `p` that are shown, in samples: where the plane is halved, half of luma's, rounded up.
+    /// The number of columns of plane `p` that are shown: half of luma's, rounded up, if the plane is halved.
     #[tactic(auto, unfolding(crate::specs::Geometry::shown_columns))]
     pub fn shown_columns(&self, p: usize) -> usize
         ensures value { result ≡ shown_columns self.now p }
@@ -118,7 +119,7 @@ impl Header {
         (usize::from(self.width) + decimation) >> decimation
     }
 
-    /// The rows of plane `p` that are shown, in samples: where the plane is halved, half of luma's, rounded up.
+    /// The number of rows of plane `p` that are shown: half of luma's, rounded up, if the plane is halved.
     #[tactic(auto, unfolding(crate::specs::Geometry::shown_rows))]
     pub fn shown_rows(&self, p: usize) -> usize
         ensures value { result ≡ shown_rows self.now p }
@@ -129,7 +130,7 @@ impl Header {
         (usize::from(self.height) + decimation) >> decimation
     }
 
-    /// How many samples of plane `p` are shown: so many it has in a reference, and in the output.
+    /// The number of samples of plane `p` that are shown: a reference and the output have this many.
     pub fn plane_len(&self, p: usize) -> usize
         ensures { result ≡ plane_len self.now p }
     {
@@ -145,7 +146,7 @@ impl Header {
         (self.mask >> slot) % 2 == 1
     }
 
-    /// Whether a sample of luma lies in the frame.
+    /// Whether a luma sample lies in the coded frame.
     #[tactic(auto, unfolding(crate::specs::Geometry::is_inside))]
     pub fn holds(&self, x: u16, y: u16) -> bool
         ensures { result ≡ is_inside self.now x y }
@@ -154,8 +155,8 @@ impl Header {
     }
 }
 
-/// Whether a leaf of this size, at this place in luma samples, carries chroma. In a halved direction a leaf of side 4
-/// at an even cell does not; the one behind it carries the chroma of both.
+/// Whether a leaf of this size, at column `x` and row `y` of luma, carries chroma. In a halved direction a leaf of side
+/// 4 at an even cell does not. The leaf after it carries the chroma of both.
 #[tactic(auto, unfolding(crate::specs::Geometry::carries_chroma))]
 pub fn carries_chroma(header: &Header, x: u16, y: u16, size: BlockSize) -> bool
     ensures { result ≡ carries_chroma header.now x y size }
@@ -176,8 +177,8 @@ fn plane_size(header: &Header, size: BlockSize, p: usize) -> BlockSize
     }
 }
 
-/// The size of the transforms of a leaf in plane `p`, where `tx_size` is that of its luma transforms. A leaf whose size
-/// has no size in chroma is refused by `check_plan`; here its luma size stands for it.
+/// The size of the transforms of a leaf in plane `p`; `tx_size` is the size of its luma transforms. `check_plan`
+/// rejects a leaf whose size has no size in chroma; here its luma size is used instead.
 #[inline(always)]
 #[tactic(auto, unfolding(crate::specs::Geometry::plane_tx_size, crate::specs::Geometry::plane_size))]
 pub fn plane_tx_size(header: &Header, size: BlockSize, tx_size: TxSize, p: usize) -> TxSize
@@ -190,7 +191,7 @@ pub fn plane_tx_size(header: &Header, size: BlockSize, tx_size: TxSize, p: usize
     }
 }
 
-/// Where a leaf's rectangle in plane `p` begins, in one direction: `luma` is its place in luma samples.
+/// The position at which a leaf's rectangle in plane `p` begins, in one direction, from the leaf's position in luma.
 #[tactic(auto, unfolding(crate::specs::Geometry::plane_place))]
 fn plane_place(p: usize, luma: u16, decimation: usize) -> u16
     requires { decimation ≤ 1 }
@@ -214,7 +215,7 @@ impl Leaf {
         carries_chroma(header, self.x, self.y, self.size)
     }
 
-    /// Whether the leaf covers a part of plane `p`: of Y always, of U and V where it carries chroma.
+    /// Whether the leaf covers a part of plane `p`: of Y always, of U and V if it carries chroma.
     #[tactic(auto, unfolding(crate::specs::Geometry::covers_plane))]
     pub fn covers_plane(&self, header: &Header, p: usize) -> bool
         ensures { result ≡ covers_plane header.now self.now.x self.now.y self.now.size p }
@@ -222,7 +223,7 @@ impl Leaf {
         p == 0 || self.carries_chroma(header)
     }
 
-    /// The leaf's rectangle in plane `p`, where it covers a part of it.
+    /// The leaf's rectangle in plane `p`, if it covers a part of the plane.
     #[inline(always)]
     #[tactic(auto, unfolding(crate::specs::Geometry::plane_area))]
     pub fn plane_area(&self, header: &Header, p: usize) -> PlaneArea
@@ -241,7 +242,7 @@ impl PlaneArea {
     ghost use Rattle.std.specs.Prelude.{◌≡◌, ◌<◌, ◌≤◌};
     ghost use Rattle.av1_plan.specs.Geometry.{blocks_across, block_count, block_at, has_block, transform_block};
 
-    /// How many transform blocks stand side by side.
+    /// The number of transform blocks side by side.
     #[tactic(auto, unfolding(crate::specs::Geometry::blocks_across))]
     pub fn blocks_across(&self) -> usize
         ensures value { result ≡ blocks_across self.now }
@@ -250,7 +251,7 @@ impl PlaneArea {
         self.size.width() / self.tx_size.width()
     }
 
-    /// How many transform blocks the rectangle has, those outside the coded plane counted too.
+    /// The number of transform blocks of the rectangle, also of those outside the coded plane.
     #[inline(always)]
     #[tactic(auto, unfolding(crate::specs::Geometry::block_count))]
     pub fn block_count(&self) -> usize
@@ -260,7 +261,7 @@ impl PlaneArea {
         self.blocks_across() * (self.size.height() / self.tx_size.height())
     }
 
-    /// Where transform block `n` begins, the blocks numbered in raster order over the whole rectangle.
+    /// The position at which transform block `n` begins. Blocks are numbered in raster order over the whole rectangle.
     #[tactic(auto, unfolding(crate::specs::Geometry::block_at, crate::specs::Geometry::block_count))]
     fn block_at(&self, n: usize) -> TransformBlock
         requires { n < block_count self.now }
@@ -273,7 +274,7 @@ impl PlaneArea {
         }
     }
 
-    /// Transform block `n`, where there is one that begins in the coded plane `p`.
+    /// Transform block `n`, if there is one and it begins in the coded plane `p`.
     #[tactic(auto, unfolding(crate::specs::Geometry::transform_block, crate::specs::Geometry::has_block))]
     pub fn transform_block(&self, header: &Header, p: usize, n: usize) -> Option<TransformBlock>
         ensures { result ≡ transform_block header.now p self.now n }

@@ -1,4 +1,4 @@
-//! The leaves of a plan: blocks that are predicted and added to in one go.
+//! The leaves of a plan: the blocks that are predicted, and to which residuals are added.
 
 ghost use Rattle.std.specs.Prelude.{◌≡◌, ◌+◌, ◌<◌, sum, take, slice_index};
 
@@ -9,7 +9,7 @@ use av1_blocks::{BlockSize, MotionVector, PredictionMode, RefType, TxSize, TxTyp
 pub struct Triple {
     /// The transform block, numbered in raster order over the leaf's rectangle in the plane.
     pub block: u8,
-    /// The place in the block's list of coefficients.
+    /// The place of row r and column c of the block: `c * min(height, 32) + r`.
     pub place: u16,
     pub value: i32,
 }
@@ -17,20 +17,20 @@ pub struct Triple {
 /// How the chroma of an intra leaf is predicted.
 #[derive(Copy, Clone, Debug, PartialEq, Eq)]
 pub enum ChromaMode {
-    /// By an intra mode, with a step of 3 degrees on its angle.
+    /// By an intra mode, with an angle delta of `step` steps of 3 degrees.
     Plain { mode: PredictionMode, step: i8 },
-    /// From luma, with a weight in eighths for each of U and V.
+    /// From luma, with a weight in eighths for U and one for V.
     Cfl { alpha_u: i8, alpha_v: i8 },
 }
 
 /// How a leaf is predicted.
 #[derive(Copy, Clone, Debug, PartialEq, Eq)]
 pub enum LeafKind {
-    /// From its neighbours, with a step of 3 degrees on its mode's angle.
+    /// From its neighbouring samples, by an intra mode with an angle delta of `step` steps of 3 degrees.
     Intra {
         mode: PredictionMode,
         step: i8,
-        /// Some exactly where the leaf carries chroma.
+        /// Some exactly if the leaf carries chroma.
         chroma: Option<ChromaMode>,
     },
     /// From one reference frame.
@@ -60,16 +60,17 @@ pub struct Leaf {
     pub tx_size: TxSize,
     /// The type of its luma transforms.
     pub tx_type: TxType,
-    /// The type of its chroma transforms: Some exactly where the leaf carries chroma.
+    /// The type of its chroma transforms: Some exactly if the leaf carries chroma.
     pub uv_type: Option<TxType>,
-    /// Where its triples begin in the plan's one list.
+    /// The position of its first triple in the plan's list of triples.
     pub first: u32,
-    /// How many triples it has for Y, for U and for V, one list behind the other.
+    /// The number of its triples for Y, for U and for V. The three lists follow one another.
     pub counts: [u16; 3],
 }
 
 impl Leaf {
-    /// Where the leaf's triples of plane `p` begin in the plan's one list, and how many there are.
+    /// The position of the leaf's first triple of plane `p` in the plan's list of triples, and the number of these
+    /// triples.
     pub(crate) fn triples_span(&self, p: usize) -> (usize, usize)
         requires { p < 3 }
         ensures start { result.0 ≡ self.now.first + sum (take p self.now.counts) }

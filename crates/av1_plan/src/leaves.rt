@@ -1,12 +1,12 @@
-//! Leaves in memory, apart from the frame that they stand in.
+//! Leaves in memory, apart from their frame.
 
 ghost use Rattle.std.specs.Prelude.{◌≤◌, ◌^◌, length, vec_len};
 ghost use Rattle.av1_plan.specs.Plan.{Follow};
 
 use crate::leaf::{Leaf, Triple};
 
-/// Leaves that were read from bytes, in coding order, with their triples: what stands behind the header and the
-/// references of a plan. A [`Plan`](crate::Plan) has them beside these two.
+/// Leaves that were read from bytes, in coding order, with their triples: the part of a plan after its header and its
+/// references. A [`Plan`](crate::Plan) has all three.
 #[derive(Drop)]
 pub struct Leaves {
     pub(crate) leaves: Vec<Leaf>,
@@ -28,7 +28,7 @@ impl Leaves {
         &self.leaves
     }
 
-    /// The triples of a leaf in plane `p`, the leaf counted from 0 in coding order.
+    /// The triples in plane `p` of leaf number `leaf`, counted from 0 in coding order.
     pub fn triples(&self, leaf: usize, p: usize) -> &[Triple]
         requires leaf { leaf < length (leaf_list self.now) }
         requires plane { p < 3 }

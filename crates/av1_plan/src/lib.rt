@@ -1,38 +1,38 @@
 //! Plans: the block decisions of a frame, as bytes, and which of them are valid.
 //!
-//! A plan says of a frame how it is cut into leaves, how each leaf is predicted, and which coefficients are added. The
-//! crate reads plans from bytes, checks them, and works out what of each plane a leaf covers. It stands on `av1_blocks`
-//! for the words of block decisions, and takes lemmas on lists from `av1_lists`. To the crates above it promises:
+//! A plan says how a frame is cut into leaves, how each leaf is predicted, and which coefficients are added. The crate
+//! reads plans from bytes, checks them, and computes the part of each plane that a leaf covers. It takes the types of
+//! block decisions from `av1_blocks`, and lemmas on lists from `av1_lists`. Its promises:
 //!
-//! - `parse_plan` reads exactly the bytes that the plan grammar (`specs/Grammar.antt`) spells, and of any others names
-//!   the first field that is cut, not admitted or left over (`Malformed`). It is linear in the bytes and takes no
-//!   memory for a leaf of its own: leaves lie in one list, and their coefficients in another.
+//! - `parse_plan` reads exactly the bytes that the plan grammar (`specs/Grammar.antt`) spells. For all other bytes it
+//!   names the first field that is cut, not valid or left over (`Malformed`). It takes time linear in the bytes. It
+//!   does not allocate for each leaf: leaves lie in one list, and their coefficients in another.
 //! - A `TreeWalk` gives the parts of a frame in coding order: the nodes of the partition tree, each before its own
-//!   parts, and the leaves. Whoever walks says how a node is cut. Plans are read by it, and written by it in
+//!   parts, and the leaves. The caller says how a node is cut. The parser walks so, and so does the writer in
 //!   `av1_planwrite`.
-//! - `parse_leaves` reads the leaves alone, which are a type of their own, `Leaves`: for callers that keep the header
-//!   and the references of a plan in another form. `check_leaves` judges them by the header that it is given.
-//!   `parse_plan_behind` puts them into a plan with a header and references that stand elsewhere: what its bytes spell
-//!   is `plan_behind` these. A `Reader` takes the fields of a plan one by one, for formats that share them.
-//! - A `Plan` keeps as a fact that a complete proper list of fields spells it. Its leaves stand in coding order: they
-//!   are those of one tree of marks for each superblock of the frame (`specs/Tree.antt`, `specs/CodingOrder.antt`).
-//! - What holds of every plan that is read, its accessors say (`specs/ReadPlans.antt`): the ranges of the frame's
-//!   numbers, as many reference samples of a plane as are shown, each of the frame's depth, and of a leaf that it
-//!   stands on its grid, and has a chroma mode, a chroma type and triples of chroma where it carries chroma alone. A
-//!   leaf one of whose sides is four times the other ends in the frame.
-//! - A header has the sides that are coded, which are multiples of 8, and those that are shown. Nodes, leaves and
-//!   transform blocks go by the former, reference samples by the latter (`specs/Geometry.antt`). Up to the second
-//!   version the two are the same.
-//! - The grammar has three versions, told by the letters at the front. The second adds two marks, which cut a node into
-//!   four leaves that are a quarter as high or as wide, the third sides of any number; each is else the same as the one
-//!   before (`specs/Versions.antt`).
-//! - `check_plan` accepts exactly the plans of which no leaf is faulty, and else names the first faulty leaf and the
+//! - `parse_leaves` reads only the leaves, into a type of their own, `Leaves`. It is for callers that keep the header
+//!   and the references of a plan in another form. `check_leaves` checks them against the header that it is given.
+//!   `parse_plan_behind` makes a plan of a header, references and the bytes of leaves (`plan_behind`). A `Reader` reads
+//!   the fields of a plan one by one, for formats that share them.
+//! - A `Plan` was spelled by a complete proper list of fields. Its leaves are in coding order: they are the leaves of
+//!   one tree of marks for each superblock of the frame (`specs/Tree.antt`, `specs/CodingOrder.antt`).
+//! - The accessors say what holds for every plan that is read (`specs/ReadPlans.antt`). The numbers of the frame are in
+//!   their ranges. A reference plane has as many samples as are shown, each within the frame's depth. A leaf lies on
+//!   its grid, and has a chroma mode, a chroma type and chroma triples only if it carries chroma. A leaf with one side
+//!   four times the other ends in the frame.
+//! - A header has coded sides, which are multiples of 8, and shown sides. Nodes, leaves and transform blocks go by the
+//!   coded sides, reference samples by the shown ones (`specs/Geometry.antt`). Up to the second version both are the
+//!   same.
+//! - The grammar has three versions, which the letters at the front name. The second adds two marks, which cut a node
+//!   into four leaves that are a quarter as high or as wide. The third allows any width and height. The rest of each
+//!   version is as in the one before (`specs/Versions.antt`).
+//! - `check_plan` accepts exactly the plans without a faulty leaf. Otherwise it names the first faulty leaf and the
 //!   first of its reasons (`specs/Validity.antt`): sizes, transforms, modes, vectors, references, and coefficients that
-//!   rise strictly by block and place.
-//! - A leaf's rectangle in a plane, the size of its transforms there and the blocks that begin in the frame are worked
-//!   out here alone (`specs/Geometry.antt`), for the check and for the reconstruction.
-//! - `make_plan` gives a large plan from a number, for measuring and for trying out: its bytes are those of the
-//!   definition (`specs/Generator.antt`), and the text of a valid plan.
+//!   are strictly sorted by block and place.
+//! - A leaf's rectangle in a plane, the size of its transforms there and the blocks that begin in the frame are
+//!   computed only here (`specs/Geometry.antt`), for the check and for the reconstruction.
+//! - `make_plan` gives a large plan from a number, for measurements and trials. Its bytes are those of the definition
+//!   (`specs/Generator.antt`), and they are the text of a valid plan.
 #![tactic(auto)]
 
 mod access;

@@ -1,4 +1,4 @@
-//! Nodes of the partition tree: their parts, the sides and the sizes of these, and the cut that a mark names.
+//! Nodes of the partition tree: their parts, the sizes of the parts, and the cut that a mark names.
 
 ghost use Rattle.std.specs.Prelude.{◌≡◌, ◌*◌, ◌≤◌};
 ghost use Rattle.av1_plan.specs.Grammar.{half_side, whole_size, part_size, cut_by};
@@ -6,7 +6,7 @@ ghost use Rattle.av1_plan.specs.Grammar.{half_side, whole_size, part_size, cut_b
 use av1_blocks::BlockSize;
 use av1_blocks::PartitionType::{self, *};
 
-/// A part of a superblock, at its place in luma samples.
+/// A part of a superblock, at column `x` and row `y` of luma.
 #[derive(Copy, Clone, Debug, PartialEq, Eq)]
 pub enum Part {
     /// A node of side `4 << level`, which begins with its mark.
@@ -24,7 +24,7 @@ pub fn half_side(level: u8) -> u16
     2 << level
 }
 
-/// How a node is cut, by its mark.
+/// The cut of a node, by its mark.
 const CUTS: [PartitionType; 10] = [
     PARTITION_NONE,
     PARTITION_HORZ,
@@ -38,7 +38,7 @@ const CUTS: [PartitionType; 10] = [
     PARTITION_VERT_4,
 ];
 
-/// How a node is cut that has this mark.
+/// The cut of a node with this mark.
 #[tactic(auto, unfolding(crate::specs::Grammar::cut_by))]
 pub fn cut_by(mark: u8) -> PartitionType
     requires { mark ≤ 9 }
@@ -65,7 +65,7 @@ pub fn whole_size(level: u8) -> BlockSize
     WHOLE_SIZES[usize::from(level)]
 }
 
-/// The size of the parts of a node of this level that is cut so. A node that can't be cut so keeps its size.
+/// The size of the parts of a node of this level with this cut. If the node can't be cut so, its own size.
 #[tactic(auto, unfolding(crate::specs::Grammar::part_size))]
 pub fn part_size(level: u8, partition: PartitionType) -> BlockSize
     requires { level ≤ 4 }

@@ -19,7 +19,7 @@ use crate::planes::SlotPlanes;
 use crate::reader::Reader;
 use std::alloc::Global;
 
-/// The plan that these bytes are, read from left to right.
+/// Reads the plan that these bytes spell, from left to right.
 #[tactic(auto, using(crate::proofs::Lists::collects), unfolding(crate::specs::Grammar::plan, crate::specs::Grammar::plan_behind))]
 fn read_plan(alloc: Global, bytes: &[u8]) -> Result<Plan, PlanError>
     requires { length bytes.now ≤ 2 ^ 26 }
@@ -41,21 +41,21 @@ fn read_plan(alloc: Global, bytes: &[u8]) -> Result<Plan, PlanError>
 ///
 /// # Errors
 ///
-/// `Malformed` names the start of the first field at which the bytes stop being a plan: one that is cut, has a value
-/// that is not admitted after the fields before it, or is left over. `Memory` where memory runs out.
+/// `Malformed` names the start of the first field at which the bytes stop being a valid plan: a field that is cut, has
+/// a value that is not valid after the fields before it, or is left over. `Memory` if memory runs out.
 pub fn parse_plan(alloc: Global, bytes: &[u8]) -> Result<Plan, PlanError>
     requires { length bytes.now ≤ 2 ^ 26 }
     // The bytes are exactly the fields of a complete proper list, which spells the plan.
     ensures found { IfOk result (λ p. AreText plan bytes.now (plan_value p)) }
     // No complete proper list has these bytes, and the longest proper list at their front ends at `at`.
     ensures refused { IfMalformed result (λ at. AreRefused plan bytes.now at) }
-    // What is spelled so is read, unless memory runs out.
+    // Every plan's text is read, unless memory runs out.
     ensures only { (p : PlanValue) → AreText plan bytes.now p → MatchResult result (λ x. plan_value x ≡ p) (λ e. e ≡ Memory) }
 {
     read_plan(alloc, bytes)
 }
 
-/// The leaves that the bytes are, read from left to right.
+/// Reads the leaves that these bytes spell, from left to right.
 fn read_leaves(alloc: Global, header: &Header, bytes: &[u8]) -> Result<Leaves, PlanError>
     requires short { length bytes.now ≤ 2 ^ 26 }
     requires frame { IsReadFrame header.now }
@@ -66,12 +66,12 @@ fn read_leaves(alloc: Global, header: &Header, bytes: &[u8]) -> Result<Leaves, P
     parser.finish()
 }
 
-/// The leaves that these bytes spell in a frame with this header, by the plan grammar: for callers that keep what
-/// stands before the leaves of a plan in another form. [`check_leaves`](crate::check_leaves) judges them.
+/// The leaves that these bytes spell in a frame with this header, by the plan grammar. It is for callers that keep the
+/// header and the references of a plan in another form. [`check_leaves`](crate::check_leaves) checks the leaves.
 ///
 /// # Errors
 ///
-/// As for [`parse_plan`]; `Malformed` counts from the first of these bytes.
+/// As for [`parse_plan`]; the position in `Malformed` counts from the first of these bytes.
 pub fn parse_leaves(alloc: Global, header: &Header, bytes: &[u8]) -> Result<Leaves, PlanError>
     requires short { length bytes.now ≤ 2 ^ 26 }
     requires frame { IsReadFrame header.now }
@@ -79,15 +79,15 @@ pub fn parse_leaves(alloc: Global, header: &Header, bytes: &[u8]) -> Result<Leav
     ensures found { IfOk result (λ l. AreText (superblocks header.now) bytes.now (leaves_value l)) }
     // No complete proper list has these bytes, and the longest proper list at their front ends at `at`.
     ensures refused { IfMalformed result (λ at. AreRefused (superblocks header.now) bytes.now at) }
-    // What is spelled so is read, unless memory runs out.
+    // Every text of leaves is read, unless memory runs out.
     ensures only { (leaves : List LeafValue) → AreText (superblocks header.now) bytes.now leaves →
         MatchResult result (λ l. leaves_value l ≡ leaves) (λ e. e ≡ Memory) }
 {
     read_leaves(alloc, header, bytes)
 }
 
-/// The plan with this header and these references whose leaves these bytes spell, by the plan grammar: for formats that
-/// keep what stands before the leaves of a plan in another place.
+/// The plan with this header and these references, whose leaves these bytes spell by the plan grammar. It is for
+/// formats that keep the header and the references of a plan in another place.
 ///
 /// # Errors
 ///

@@ -10,7 +10,7 @@ use crate::tree_walk::TreeWalk;
 use av1_blocks::BlockSize;
 use std::alloc::Global;
 
-/// The leaves and triples that were read, and what is left of the bytes.
+/// The leaves and triples that were read, and the bytes that are left.
 #[derive(Drop)]
 pub struct Parser<'a> {
     pub reader: Reader<'a>,
@@ -28,7 +28,7 @@ impl<'a> Parser<'a> {
     ghost use Rattle.av1_plan.specs.Remaining.{parts_format};
     ghost use Rattle.av1_plan.specs.Walk.{remaining};
 
-    /// Reads the leaf of this size at this place.
+    /// Reads the leaf of this size at column `x` and row `y` of luma.
     #[tactic(auto, using(crate::proofs::Formats::adding))]
     fn leaf(&mut self, header: &Header, size: BlockSize, x: u16, y: u16) -> Result<(), PlanError>
         requires { IsSound self.old }
@@ -46,7 +46,7 @@ impl<'a> Parser<'a> {
     fn next_part(&mut self, header: &Header, walk: &mut TreeWalk) -> Result<bool, PlanError>
         requires sound { IsSound self.old }
         requires frame { walk.old.header ≡ header.now }
-        // What the parts that remain add to the leaves is the same before and after.
+        // Reading all parts that remain has the same result before and after.
         ensures read { OnOk result
             (add (parts_format header.now (remaining walk.new)) (state self.new) ≡ add (parts_format header.now (remaining walk.old)) (state self.old)) }
         ensures fails { IfErr result (λ e. Fails e (add (parts_format header.now (remaining walk.old)) (state self.old))) }
@@ -84,7 +84,7 @@ impl<'a> Parser<'a> {
         Ok(())
     }
 
-    /// No leaves yet.
+    /// A parser that has read no leaves.
     fn new(alloc: Global, reader: Reader<'a>) -> Parser<'a>
         ensures sound { IsSound result }
         ensures state { state result ≡ ([], input reader.entry) }
@@ -113,7 +113,7 @@ impl<'a> Parser<'a> {
         Ok(parser)
     }
 
-    /// The leaves that were read. No byte may be left.
+    /// The leaves that were read. A byte that is left is an error.
     pub fn finish(self) -> Result<Leaves, PlanError>
         requires { IsSound self }
         ensures { Gives (λ l. leaves_value l) result (ended (state self.entry)) }

@@ -1,4 +1,4 @@
-//! The parts of a superblock that remain to be coded, on a stack in a fixed space.
+//! The parts of a superblock that remain to be coded, on a stack of fixed size.
 
 ghost use Rattle.std.specs.Prelude.{◌≡◌, ◌<◌, ◌≤◌, true, List, length};
 ghost use Rattle.av1_plan.specs.declared.nodes.Part.{Part};
@@ -10,17 +10,17 @@ use av1_blocks::BlockSize;
 use av1_blocks::PartitionType::{self, *};
 use std::marker::Model;
 
-// The most that are asked for at once: three of each of the sides 32, 16 and 8, and four of side 4.
+// The greatest number of parts at the same time: three of each of the sides 32, 16 and 8, and four of side 4.
 const MOST_PARTS: usize = 13;
 
-/// Parts one on top of the other: the first `count` of these, the last one on top. The others are not on it.
+/// Parts on a stack: the first `count` of `parts`, the last one on top. The others are not on the stack.
 #[derive(Copy, Clone)]
 pub struct Stacked {
     pub parts: [Part; MOST_PARTS],
     pub count: usize,
 }
 
-/// Whether the parts of this one have room in its place, on top of `below` others.
+/// Whether the stack has room for the parts of this one in its place, on top of `below` others.
 #[tactic(auto, unfolding(crate::specs::Stacks::has_room))]
 fn has_room(part: Part, below: usize) -> bool
     requires { below < 13 }
@@ -38,7 +38,7 @@ fn has_room(part: Part, below: usize) -> bool
     }
 }
 
-/// Whether that holds of each of the first `count` parts.
+/// Whether the stack has that room for each of the first `count` parts.
 #[tactic(auto, using(crate::proofs::Stacks::room_below))]
 fn have_room(parts: &[Part], count: usize) -> bool
     requires most { count ≤ 13 }
@@ -52,7 +52,7 @@ fn have_room(parts: &[Part], count: usize) -> bool
     room
 }
 
-/// The parts of a superblock that are asked for, the next one on top.
+/// The parts of a superblock that remain, the next one on top.
 #[derive(Drop)]
 pub struct PartStack {
     parts: [Part; MOST_PARTS],
@@ -89,7 +89,7 @@ impl PartStack {
         }
     }
 
-    /// The stack of these parts: None where one of them has no room for its own, or there are fewer than `count`.
+    /// The stack of these parts. None if a part has no room for its own parts, or if `count` is over 13.
     pub fn from_stacked(stacked: &Stacked) -> Option<PartStack>
         ensures stack { IfSome result (λ s. s ≡ on_top stacked.now.parts stacked.now.count) }
         ensures exactly { is_some result ≡ are_stacked stacked.now }
@@ -115,7 +115,7 @@ impl PartStack {
         }
     }
 
-    /// The next part.
+    /// The next part, if there is one.
     pub fn first(&self) -> Option<Part>
         ensures value { result ≡ first_part self.now }
         ensures room { IfSome result (λ p. has_room p (length (later_parts self.now)) ≡ true) }
@@ -127,7 +127,7 @@ impl PartStack {
         }
     }
 
-    /// Takes the next part away, if there is one.
+    /// Takes away the next part, if there is one.
     pub fn take_first(&mut self)
         ensures { self.new ≡ later_parts self.old }
     {
@@ -145,7 +145,7 @@ impl PartStack {
         self.count += 1;
     }
 
-    /// Puts a leaf before the others, where it lies in the frame.
+    /// Puts a leaf before the others, if it begins in the frame.
     #[tactic(auto, unfolding(crate::specs::Stacks::has_room))]
     fn leaf(&mut self, header: &Header, size: BlockSize, x: u16, y: u16)
         requires { length self.old < 13 }
@@ -157,8 +157,8 @@ impl PartStack {
         }
     }
 
-    /// Puts the part of side `4 << level` at this place before the others, where it lies in the frame: a leaf at level
-    /// 0, else a node.
+    /// Puts the part of side `4 << level` at column `x` and row `y` before the others, if it begins in the frame: a
+    /// leaf at level 0, else a node.
     #[tactic(auto, using(crate::proofs::Stacks::blocks), unfolding(crate::specs::Stacks::has_room))]
     fn block(&mut self, header: &Header, level: u8, x: u16, y: u16)
         requires level { level ≤ 4 }
@@ -192,7 +192,7 @@ impl PartStack {
         self.block(header, level - 1, x, y);
     }
 
-    /// Puts the parts of a node of side `4 << level` that is cut so before the others.
+    /// Puts the parts of a node of side `4 << level` with this cut before the others.
     #[tactic(auto, unfolding(crate::specs::Remaining::cut_before))]
     pub fn cut(&mut self, header: &Header, level: u8, x: u16, y: u16, cut: PartitionType)
         requires level { (0 < level) × (level ≤ 4) }

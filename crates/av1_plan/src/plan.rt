@@ -17,7 +17,7 @@ pub struct Plan {
     pub(crate) leaves: Leaves,
     // A complete proper list of fields spells the plan.
     ghost spelled: { ∥ IsSpelled plan (value_of header references.items leaves.leaves.items leaves.triples.items) ∥₁ },
-    // A slot has planes exactly where the mask has it.
+    // A slot has planes exactly if the mask has it.
     ghost slots: { vec_len references ≡ 8 },
     ghost present: { ArePresent header references.items 8 },
 }

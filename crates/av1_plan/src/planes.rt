@@ -1,6 +1,6 @@
 //! The reference planes of a plan.
 
-/// The planes of a slot, each row by row without padding.
+/// The planes of a slot, row by row, without padding.
 #[derive(Debug, Drop)]
 pub struct SlotPlanes {
     pub y: Vec<u16>,

@@ -9,11 +9,11 @@ mod references;
 
 use crate::error::PlanError;
 
-/// What is left of the bytes.
+/// The bytes that are left.
 #[derive(Drop)]
 pub struct Reader<'a> {
     pub rest: &'a [u8],
-    /// The place of the next byte.
+    /// The position of the next byte.
     pub at: u32,
     ghost fits: { at + length rest.now ≤ 2 ^ 26 },
 }
@@ -30,7 +30,7 @@ impl<'a> Reader<'a> {
         Err(PlanError::Malformed { at: self.at })
     }
 
-    /// No byte is left.
+    /// Checks that no byte is left.
     pub fn end(&self) -> Result<(), PlanError>
         ensures done { OnOk result (length self.now.rest.now ≡ 0) }
         ensures left { OnErr result (0 < length self.now.rest.now) }
@@ -42,7 +42,7 @@ impl<'a> Reader<'a> {
         Ok(())
     }
 
-    /// Any byte.
+    /// Reads any byte.
     #[tactic(auto, unfolding(crate::specs::Format::read_field))]
     pub fn any_byte(&mut self) -> Result<u8, PlanError>
         ensures read { Gives (λ x. (x, input self.new)) result (read_field (any one) (input self.old)) }
@@ -60,7 +60,7 @@ impl<'a> Reader<'a> {
         }
     }
 
-    /// Any number of two bytes.
+    /// Reads any number of two bytes.
     #[tactic(auto, unfolding(crate::specs::Format::read_field))]
     pub fn any_u16(&mut self) -> Result<u16, PlanError>
         ensures read { Gives (λ x. (x, input self.new)) result (read_field (any two) (input self.old)) }
@@ -79,7 +79,7 @@ impl<'a> Reader<'a> {
         }
     }
 
-    /// Any number of four bytes.
+    /// Reads any number of four bytes.
     #[tactic(auto, unfolding(crate::specs::Format::read_field))]
     pub fn any_u32(&mut self) -> Result<u32, PlanError>
         ensures read { Gives (λ x. (x, input self.new)) result (read_field (any four) (input self.old)) }
@@ -98,7 +98,7 @@ impl<'a> Reader<'a> {
         }
     }
 
-    /// A part of any length: a number of four bytes, and so many bytes, which are one field.
+    /// Reads a part of any length: a number of four bytes, and then that many bytes, which are one field.
     #[tactic(auto, unfolding(crate::specs::Format::read_part))]
     pub fn part(&mut self) -> Result<&'a [u8], PlanError>
         ensures read { Gives (λ x. (x.now, input self.new)) result (read_part (input self.old)) }
@@ -115,7 +115,7 @@ impl<'a> Reader<'a> {
         Ok(&rest[..len])
     }
 
-    /// A byte from `first` to `last`.
+    /// Reads a byte from `first` to `last`.
     #[tactic(auto, using(crate::proofs::Narrow::narrow))]
     pub fn byte(&mut self, first: u8, last: u8) -> Result<u8, PlanError>
         ensures read { Gives (λ x. (x, input self.new)) result (read_field (byte_from first last) (input self.old)) }

@@ -1,4 +1,4 @@
-//! The superblocks of a frame that are left.
+//! The superblocks of a frame that remain.
 
 ghost use Rattle.std.specs.Prelude.{◌≡◌, ◌≤◌};
 ghost use Rattle.av1_plan.specs.Remaining.{across, down};
@@ -6,15 +6,15 @@ ghost use Rattle.av1_plan.specs.Remaining.{across, down};
 use crate::header::Header;
 use crate::nodes::Part;
 
-/// The superblocks from this one on, in raster order: its row and its column, counted in superblocks. Behind the last
-/// one the column is past the last, in the last row.
+/// The superblocks from one on, in raster order: its row and its column, counted in superblocks. After the last
+/// superblock the column is past the last one, in the last row.
 #[derive(Copy, Clone, Debug, PartialEq, Eq)]
 pub struct Superblocks {
     pub row: u16,
     pub col: u16,
 }
 
-/// How many stand side by side.
+/// The number of superblocks side by side.
 fn across(header: &Header) -> u16
     requires { header.now.width ≤ 2048 }
     ensures { result ≡ across header.now }
@@ -22,7 +22,7 @@ fn across(header: &Header) -> u16
     (header.width + 63) / 64
 }
 
-/// How many stand one above the other.
+/// The number of superblocks one above the other.
 fn down(header: &Header) -> u16
     requires { header.now.height ≤ 2048 }
     ensures { result ≡ down header.now }
@@ -37,7 +37,7 @@ impl Superblocks {
     ghost use Rattle.av1_plan.specs.Stacks.{has_room};
     ghost use Rattle.av1_plan.specs.Walk.{is_next_superblock};
 
-    /// The first of them, a node whose mark comes next.
+    /// The first of them, if there is one: a node whose mark comes next.
     #[tactic(auto, using(crate::proofs::LeftSuperblocks::firsts), unfolding(crate::specs::Stacks::has_room))]
     pub fn first(self, header: &Header) -> Option<Part>
         requires width { header.now.width ≤ 2048 }
@@ -59,7 +59,7 @@ impl Superblocks {
         }
     }
 
-    /// Whether they are superblocks of this frame, or none behind the last one.
+    /// Whether this is a superblock of the frame, or the position after the last one.
     #[tactic(auto, unfolding(crate::specs::Walk::is_next_superblock))]
     pub fn are_of(self, header: &Header) -> bool
         requires width { header.now.width ≤ 2048 }
@@ -70,7 +70,7 @@ impl Superblocks {
         self.row < rows && (self.col < columns || (self.col == columns && rows <= self.row + 1))
     }
 
-    /// Those behind the first.
+    /// The superblocks after the first.
     #[tactic(auto, using(crate::proofs::LeftSuperblocks::laters))]
     pub fn later(self, header: &Header) -> Superblocks
         requires width { header.now.width ≤ 2048 }

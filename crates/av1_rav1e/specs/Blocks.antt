@@ -1,4 +1,4 @@
--- A block in the first rows and columns of a region, and the samples beside it.
+-- A block in the first rows and columns of a region, and the samples next to it.
 use Rattle.std.specs.Prelude.{ℕ, ◌+◌, ◌-◌, ◌≤◌, List, length, map, slice_index, Option}
 use Rattle.std.specs.Option.{option_map}
 use Rattle.av1_blocks.specs.declared.predict.PredictionMode.{PredictionMode}
@@ -27,8 +27,8 @@ pub record AreBeside {T : Type 0} (w h : ℕ) (above left : List T) : Type 0 whe
   pub above_long : w ≤ length above
   pub left_long : h ≤ length left
 
--- the block of w columns and h rows at the first sample of the region r, along the angle p; its sides are filtered
--- where there are parameters
+-- the block of w columns and h rows at the first sample of the region r, along the angle p; its sides are filtered if
+-- there are parameters
 abbrev pub block_at : {T : Type 0} → PlaneRegionMut T → ℕ → ℕ → ℕ → ℕ → Option IntraEdgeFilterParameters →
     DirectionalBlock
 block_at r p w h depth parameters = record {

@@ -14,7 +14,7 @@ use Rattle.av1_intra.specs.declared.luma.LumaLeaf.{LumaLeaf}
 abbrev pub tile_luma : {T : Type 0} → (T → ℕ) → PlaneRegionMut T → ℕ → ℕ → ℕ
 tile_luma num r x y = slice_index (map num (stored r)) (row_start r.plane_cfg.stride r.area y + x)
 
--- the leaf at a cell of the tile; all counts from the tile's first sample
+-- the leaf at a cell of the tile; all positions count from the tile's first sample
 abbrev pub leaf_in_tile : {T : Type 0} → TileStateMut T → TileBlockOffset → BlockSize → TxSize → FrameInvariants T →
     LumaLeaf
 leaf_in_tile ts bo bsize tx_size fi = record {

@@ -1,16 +1,16 @@
-//! rav1e's own names over planes and regions, for callers that hold their samples so.
+//! rav1e's own names over planes and regions, for callers whose samples are in planes and regions.
 //!
-//! Each is a short call over a form of `av1_intra` that takes a slice and a stride, with a contract of its own. The
-//! walk over a plan and the library call those forms; nothing but tests calls this crate. It promises:
+//! Each call is a short one over a form of `av1_intra` that takes a slice and a stride, with a contract of its own. The
+//! walk over a plan and the library call those forms; only tests call this crate. Its promises:
 //!
-//! - `predict_intra` and `dispatch_predict_intra` turn each sample of the first rows and columns of a region into that
-//!   of one definition for all intra modes, `predicted` (`av1_intra`, `specs/Predicted.antt`), over the edge that
-//!   `get_intra_edges` prepares, and leave all others as they were, in one equation,
-//!   `output.new ≡ painted output.old width height f`;
-//! - so do the predictors of one kind, each by its own definition, in the module `rust`;
-//! - `luma_ac` is `leaf_luma_ac` in a tile, and lends what it put.
+//! - `predict_intra` and `dispatch_predict_intra` predict each sample of the first rows and columns of a region, by one
+//!   definition for all intra modes, `predicted` (`av1_intra`, `specs/Predicted.antt`), over the edge that
+//!   `get_intra_edges` prepares. All other samples are unchanged. One equation says both: `output.new ≡ painted
+//!   output.old width height f`.
+//! - So do the predictors of one kind, each by its own definition, in the module `rust`.
+//! - `luma_ac` is `leaf_luma_ac` in a tile, and returns the entries that it wrote.
 //!
-//! Nothing allocates, and nothing is refused: what a call needs stands in its `requires`.
+//! The crate does not allocate and rejects nothing: each call states its conditions in `requires`.
 #![tactic(auto)]
 
 mod predict;

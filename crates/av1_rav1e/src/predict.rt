@@ -54,11 +54,11 @@ fn transform_in<T: Pixel>(
 }
 
 /// Predicts the samples of a transform of `tx_size`, in the first rows and columns of `dst`, by an intra mode and the
-/// edge round it. `variant` tells which sides lie in the tile, for the modes that take a mean; `angle` is that of a
-/// directional mode, in degrees, or the weight of luma in `UV_CFL_PRED`, whose `ac` holds the differences of luma row
-/// by row. All other samples stay.
+/// edge round it. `variant` says which sides lie in the tile, for the modes that take a mean. `angle` is the angle of a
+/// directional mode, in degrees, or the weight of luma in `UV_CFL_PRED`. Then `ac` holds the differences of luma, row
+/// by row. All other samples are unchanged.
 ///
-/// `PAETH_PRED` takes the nearest neighbour whatever the variant is: see `predict_intra`.
+/// `PAETH_PRED` takes the nearest neighbour for every variant: see `predict_intra`.
 #[tactic(auto, using(av1_frame::proofs::Regions::region_lending))]
 pub fn dispatch_predict_intra<T: Pixel>(
     mode: PredictionMode,
@@ -119,12 +119,12 @@ fn place_in_tile<T: Pixel>(region: &PlaneRegionMut<'_, T>, tile_rect: TileRect) 
 }
 
 /// Predicts the samples of a transform of `tx_size`, in the first rows and columns of `dst`, by an intra mode and the
-/// edge round it, which is the one that `get_intra_edges` prepares for this mode and place. All other samples stay.
+/// edge round it, which `get_intra_edges` prepares for this mode and position. All other samples are unchanged.
 ///
-/// `intra_param` gives the steps that a directional mode turns, or the weight of luma in `UV_CFL_PRED`, whose `ac`
-/// holds the differences of luma row by row; one of another kind counts as none. `tile_rect` is the tile in which `dst`
-/// begins: at its left and upper end modes that take a mean, and Paeth prediction, do without the sides outside. With
-/// `ief_params` the edge filter is on.
+/// `intra_param` gives the angle delta of a directional mode in steps, or the weight of luma in `UV_CFL_PRED`, whose
+/// `ac` holds the differences of luma, row by row. A parameter of another kind has no effect. `tile_rect` is the tile
+/// in which `dst` begins: at its left and upper end, modes that take a mean, and Paeth prediction, leave out the sides
+/// outside. With `ief_params` the edge filter is on.
 pub fn predict_intra<T: Pixel>(
     mode: PredictionMode,
     tile_rect: TileRect,

@@ -8,7 +8,7 @@ ghost use Rattle.av1_rav1e.specs.Blocks.{block_at};
 use av1_frame::{Pixel, PlaneRegionMut};
 use av1_intra::{DirectionalBlock, IntraEdgeFilterParameters, smooth_filter_of};
 
-/// How many of `visible` samples there are from `first` on, which counts from the first of them and may lie before it.
+/// The number of `visible` samples from `first` on, which counts from the first of them and may lie before it.
 fn visible_from(visible: usize, first: isize) -> usize
     requires visible { visible < 2 ^ 63 }
     requires fits { FitsSigned w64 (pos visible -ℤ first) }
@@ -17,7 +17,7 @@ fn visible_from(visible: usize, first: isize) -> usize
     (visible as isize - first).max(0) as usize
 }
 
-/// The block of these sides at the first sample of a region, along an angle.
+/// The block of this width and height at the first sample of a region, along an angle.
 pub(crate) fn block_in<T: Pixel>(
     region: &PlaneRegionMut<'_, T>,
     p_angle: usize,

@@ -1,9 +1,9 @@
-//! The predictors of one kind each, under the module's name in rav1e: its plain functions, beside those for single
+//! The predictors of one kind each, under the module's name in rav1e: its plain functions, next to those for single
 //! processors.
 //!
-//! Each turns the samples of the first `height` rows and `width` columns of its region `output`; all others stay.
-//! `above` runs from the left: its first sample stands above the first column. `left` runs from the bottom up: its
-//! sample at `height - 1` stands beside the first row, and the one before it beside the second. Samples past those are
+//! Each predicts the samples of the first `height` rows and `width` columns of its region `output`. All others are
+//! unchanged. `above` runs from the left: its first sample is above the first column. `left` runs from the bottom up:
+//! its sample at `height - 1` is next to the first row, and the sample before it next to the second. Other samples are
 //! not read. Depths are in bits. An argument whose name begins with `_` is not read.
 #![tactic(auto, using(av1_frame::proofs::Regions::region_lending))]
 
@@ -51,7 +51,7 @@ pub fn pred_v<T: Pixel>(
     pred_v_to(output.rows_mut(), stride, area, above);
 }
 
-/// Each row becomes its sample of `left`, again and again.
+/// Each row becomes its sample of `left`, repeated.
 pub fn pred_h<T: Pixel>(output: &mut PlaneRegionMut<'_, T>, left: &[T], width: usize, height: usize)
     requires block { HoldsBlock output.old width height }
     requires left_long { height ≤ length left.now }
@@ -63,8 +63,8 @@ pub fn pred_h<T: Pixel>(output: &mut PlaneRegionMut<'_, T>, left: &[T], width: u
     pred_h_to(output.rows_mut(), stride, area, left);
 }
 
-/// Each sample becomes the one of the sample above its column, the left one of its row and the corner `above_left` that
-/// is nearest to the first two less the third.
+/// Each sample becomes the sample above its column, the left sample of its row or the corner `above_left`: whichever is
+/// nearest to the first two less the third.
 pub fn pred_paeth<T: Pixel>(
     output: &mut PlaneRegionMut<'_, T>,
     above: &[T],
@@ -84,7 +84,7 @@ pub fn pred_paeth<T: Pixel>(
     pred_paeth_to(output.rows_mut(), stride, area, above, left, above_left);
 }
 
-/// Each sample becomes the mean of that of `pred_smooth_v` and that of `pred_smooth_h`, rounded once.
+/// Each sample becomes the mean of the results of `pred_smooth_v` and `pred_smooth_h`, rounded once.
 pub fn pred_smooth<T: Pixel>(
     output: &mut PlaneRegionMut<'_, T>,
     above: &[T],
@@ -105,8 +105,8 @@ pub fn pred_smooth<T: Pixel>(
     pred_smooth_to(output.rows_mut(), stride, area, above, left);
 }
 
-/// Each sample becomes a mean of the left sample of its row and the last one above, which weighs the more the further
-/// to the right the column is.
+/// Each sample becomes a weighted mean of the left sample of its row and the last one above, whose weight grows to the
+/// right.
 pub fn pred_smooth_h<T: Pixel>(
     output: &mut PlaneRegionMut<'_, T>,
     above: &[T],
@@ -126,8 +126,8 @@ pub fn pred_smooth_h<T: Pixel>(
     pred_smooth_h_to(output.rows_mut(), stride, area, above, left);
 }
 
-/// Each sample becomes a mean of the sample above its column and the lowest one on the left, which weighs the more the
-/// further down the row is.
+/// Each sample becomes a weighted mean of the sample above its column and the lowest one on the left, whose weight
+/// grows downward.
 pub fn pred_smooth_v<T: Pixel>(
     output: &mut PlaneRegionMut<'_, T>,
     above: &[T],
@@ -147,19 +147,19 @@ pub fn pred_smooth_v<T: Pixel>(
     pred_smooth_v_to(output.rows_mut(), stride, area, above, left);
 }
 
-/// Each sample is predicted along the angle `p_angle`, in degrees: one that a directional mode and an angle step from
-/// -3 to 3 give, except 90 and 180, which copy a side, or another one that `dr_intra_derivative` knows.
+/// Each sample is predicted along the angle `p_angle`, in degrees. A directional mode and an angle step from -3 to 3
+/// give the angle (90 and 180, which copy a side, are left out), or `dr_intra_derivative` knows it.
 ///
-/// Below 90 degrees a sample is what its line meets on the side `above`, past 180 on the side `left`, and between them
-/// on the one that it meets first. The line meets a side between two samples, and the prediction is between these two,
-/// in 32nds, clipped to the depth.
+/// A sample is taken from the point where its line meets a side: below 90 degrees the side `above`, past 180 the side
+/// `left`, and between them the side that it meets first. The line meets the side between two samples. The prediction
+/// is interpolated between these two, in 32nds, and clipped to the depth.
 ///
-/// Below 90 degrees `above` has `height` samples more. The last sample of `left` is that of the first row, and past 180
-/// degrees it has `width` more before those beside the block. `top_left` is the corner. A side that the angle doesn't
-/// meet is not read.
+/// Below 90 degrees `above` has `height` more samples. The last sample of `left` is next to the first row, and past 180
+/// degrees `left` has `width` more samples before those next to the block. `top_left` is the corner. A side that the
+/// angle doesn't meet is not read.
 ///
-/// With `ief_params` the sides are first smoothed and upsampled, as the angle, the block's sides and the neighbours
-/// ask. Of the places beside the block only those are smoothed that lie in the plane's visible columns and rows.
+/// With `ief_params` the sides are first smoothed and upsampled, as the angle, the block's dimensions and the
+/// neighbours require. Next to the block, only samples in the plane's visible columns and rows are smoothed.
 ///
 /// AV1 specification: directional intra prediction process.
 pub fn pred_directional<T: Pixel>(
@@ -205,7 +205,7 @@ fn fill_rows<T: Pixel>(output: &mut PlaneRegionMut<'_, T>, value: T, width: usiz
     fill_block(output.rows_mut(), stride, area, value);
 }
 
-/// Each sample becomes the mean of the samples beside the block on both sides, rounded.
+/// Each sample becomes the rounded mean of the samples next to the block on both sides.
 pub fn pred_dc<T: Pixel>(
     output: &mut PlaneRegionMut<'_, T>,
     above: &[T],
@@ -249,7 +249,7 @@ pub fn pred_dc_128<T: Pixel>(
     fill_rows(output, half_sample(bit_depth), width, height);
 }
 
-/// Each sample becomes the mean of the samples of `left`, of which there are `height`, rounded.
+/// Each sample becomes the rounded mean of the `height` samples of `left`.
 pub fn pred_dc_left<T: Pixel>(
     output: &mut PlaneRegionMut<'_, T>,
     _above: &[T],

@@ -1,4 +1,4 @@
-//! The luma that chroma of a leaf takes in a tile.
+//! The luma that the chroma of a leaf uses in a tile.
 
 ghost use Rattle.std.specs.Prelude.{◌≡◌, ℕ, ◌+◌, ◌*◌, ◌^◌, ◌-◌, ◌<◌, ◌≤◌, min, length, take, drop, IsTrue};
 ghost use Rattle.std.specs.Borrow.{sem};
@@ -12,11 +12,11 @@ use av1_blocks::{BlockSize, TxSize};
 use av1_frame::{FrameInvariants, Pixel, TileBlockOffset, TileStateMut};
 use av1_intra::{LumaLeaf, leaf_luma_ac};
 
-/// How many cells the greatest leaf has along a side.
+/// The number of cells along a side of the largest leaf.
 const MOST_CELLS: usize = 32;
 
-/// How many luma samples of a tile are visible along one direction, as far as a leaf at the cell `cell` reaches. The
-/// tile begins at the cell `start` of a frame that has `count`.
+/// The number of luma samples of a tile that are visible along one direction, as far as a leaf at the cell `cell`
+/// reaches. The tile begins at the cell `start` of a frame that has `count` cells.
 fn visible_near(count: usize, start: usize, cell: usize) -> usize
     requires { cell + 32 < 2 ^ 62 }
     ensures { result ≡ 4 * min (count - start) (cell + 32) }
@@ -24,7 +24,7 @@ fn visible_near(count: usize, start: usize, cell: usize) -> usize
     4 * count.saturating_sub(start).min(cell + MOST_CELLS)
 }
 
-/// The leaf at the cell `tile_bo` of a tile. What is visible past it doesn't matter, and is not counted.
+/// The leaf at the cell `tile_bo` of a tile. Visible samples past the leaf have no effect, and are not counted.
 fn leaf_in_tile<T: Pixel>(
     ts: &TileStateMut<'_, T>,
     tile_bo: TileBlockOffset,
@@ -52,7 +52,7 @@ fn leaf_in_tile<T: Pixel>(
     }
 }
 
-/// The first `count` entries of `ac`, for all the time that it has left.
+/// The first `count` entries of `ac`, for the rest of its lifetime.
 fn front<'ac>(ac: &'ac mut [i16], count: usize) -> &'ac mut [i16]
     requires few { count ≤ length ac.old }
     ensures* writes_back { sem 𝓛 (LendsBefore ac.entry (drop count ac.old) result) }
@@ -61,7 +61,7 @@ fn front<'ac>(ac: &'ac mut [i16], count: usize) -> &'ac mut [i16]
     &mut ac[..count]
 }
 
-/// Fills `ac` as `luma_ac` says, and hands it on with the count of the entries that are the leaf's.
+/// Fills `ac` as `luma_ac` says, and returns it with the number of the leaf's entries.
 fn filled<'ac, T: Pixel>(
     ac: &'ac mut [i16],
     ts: &mut TileStateMut<'_, T>,
@@ -94,9 +94,9 @@ fn filled<'ac, T: Pixel>(
     (ac, leaf.area())
 }
 
-/// Puts into `ac`, row by row, how far the luma over each sample of chroma of the leaf at the cell `tile_bo` is from
-/// its mean, in eighths, and gives these entries, whose last values then stand in `ac`. The other entries of `ac` stay.
-/// See `leaf_luma_ac`, which asks for no tile.
+/// Writes to `ac`, row by row, how far the luma over each chroma sample of the leaf at the cell `tile_bo` is from its
+/// mean, in eighths, and returns these entries. What a caller writes to them is in `ac` afterwards. The other entries
+/// of `ac` are unchanged. See `leaf_luma_ac`, which needs no tile.
 pub fn luma_ac<'ac, T: Pixel>(
     ac: &'ac mut [i16],
     ts: &mut TileStateMut<'_, T>,

@@ -1,4 +1,4 @@
--- The exit status and the line of each answer.
+-- The exit status and the line of each result.
 use Rattle.std.specs.Prelude.{ℕ, List, ◌++◌, Option, codes, decimal}
 use Rattle.std.specs.Io.KnownBytes.{Appends}
 use Rattle.av1_plan.specs.declared.error.InvalidKind.{InvalidKind}
@@ -13,11 +13,11 @@ use Rattle.av1_recon.specs.declared.error.ReconError.TheVariants.{Memory}
 use Rattle.av1_recon.specs.Ends.{answer_line, answer_status, written}
 use Rattle.av1_recon.specs.Outcomes.{Answer, cause}
 
--- the exit status of an answer
+-- the exit status of a result
 abbrev pub status_of : Answer → ℕ
 status_of answer = answer_status cause written answer
 
--- what a fault of a leaf is called
+-- the name of a fault of a leaf
 abbrev pub kind_text : InvalidKind → List ℕ
 kind_text kinds.InvalidBlockSize = codes "block size"
 kind_text kinds.Transform = codes "transform"
@@ -26,14 +26,14 @@ kind_text kinds.Vector = codes "vector"
 kind_text kinds.MissingReference = codes "missing reference"
 kind_text kinds.Coefficient = codes "coefficient"
 
--- what is said of the field that begins at a byte, and of the leaf at fault
+-- the text for the field that begins at a byte; then the text for the leaf at fault
 abbrev pub malformed_text : ℕ → List ℕ
 malformed_text at = codes "malformed at " ++ decimal at ++ codes "\n"
 
 abbrev pub invalid_text : ℕ → InvalidKind → List ℕ
 invalid_text leaf kind = codes "invalid leaf " ++ decimal leaf ++ codes ": " ++ kind_text kind ++ codes "\n"
 
--- what is said of a plan that is refused
+-- the text for a plan that is rejected
 abbrev pub refusal_text : PlanFault → List ℕ
 refusal_text (refusals.Malformed at) = malformed_text at
 refusal_text (refusals.Invalid leaf kind) = invalid_text leaf kind
@@ -47,15 +47,15 @@ error_line (Invalid leaf kind) = invalid_text leaf kind
 error_line WriteFault = codes "write fault\n"
 error_line Memory = codes "out of memory\n"
 
--- the line for an answer
+-- the line for a result
 abbrev pub line_of : Answer → List ℕ
 line_of answer = answer_line error_line answer
 
--- the line for words that are no command
+-- the line for arguments that are not a valid command
 abbrev pub usage : List ℕ
 usage = codes "usage: recon [make N | sum N]\n"
 
--- The line stands on the sink, or a prefix of it where a write failed.
+-- The line was appended to the sink, or a prefix of it if a write failed.
 pub record HasLine {E : Type 0} (taken : E → Option (List ℕ)) (faults : E → ℕ) (sink sink' : E)
     (line : List ℕ) : Type 0 where
   pub prefix : AppendsPrefix (taken sink) (taken sink') line

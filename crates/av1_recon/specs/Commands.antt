@@ -1,4 +1,4 @@
--- The words after the program's name.
+-- The arguments after the program's name.
 use Rattle.std.specs.Prelude.{◌≡◌, ℕ, List, [], ◌∷◌, Option, Some, None, option_and_then, bytes_eq, codes}
 use Rattle.std.specs.Prelude.{if◌then◌else◌, ⊤}
 use Rattle.av1_plan.specs.Generator.{plan_bytes}
@@ -12,7 +12,7 @@ unfoldable pub named : List ℕ → ℕ → Option Command
 named name number = if bytes_eq name (codes "make") then Some (Make number)
     else if bytes_eq name (codes "sum") then Some (Sum number) else None
 
--- what the words ask for, each word given by its bytes; None where they are no command
+-- the command of these arguments, each given by its bytes; None if they are not a valid command
 abbrev pub command_of : List (List ℕ) → Option Command
 command_of [] = Some Reconstruct
 command_of (word ∷ []) = None
@@ -26,7 +26,7 @@ ReadsNothing (Some (Make number)) = ⊤
 ReadsNothing (Some (Sum number)) = ⊤
 ReadsNothing None = ⊥
 
--- what a command that reads nothing writes where all goes well: the plan of its number, or the four lines on that plan
+-- what a command that reads nothing writes if no write fails: the plan of its number, or the four lines on that plan
 abbrev pub IsMade : Option Command → List ℕ → Type 0
 IsMade (Some Reconstruct) bytes = ⊥
 IsMade (Some (Make number)) bytes = bytes ≡ plan_bytes number

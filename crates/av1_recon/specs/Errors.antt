@@ -1,4 +1,4 @@
--- What an error of a lower call is for the whole path.
+-- The errors of lower calls as errors of the whole path.
 use Rattle.av1_plan.specs.declared.error.PlanError.{PlanError}
 use Rattle.av1_plan.specs.declared.error.PlanError.TheVariants as plan_errors
 use Rattle.av1_plan.specs.declared.error.Invalid.{Invalid}

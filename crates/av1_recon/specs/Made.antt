@@ -1,4 +1,4 @@
--- What is written of the plan of a number.
+-- The output for the plan of a number.
 use Rattle.std.specs.Prelude.{ℕ, List, Ok}
 use Rattle.av1_plan.specs.Generator.{plan_bytes}
 use Rattle.av1_recon.specs.Lines.{sum_lines}

@@ -11,11 +11,11 @@ use Rattle.av1_recon.specs.declared.error.ReconError.{ReconError}
 use Rattle.av1_recon.specs.declared.error.ReconError.TheVariants.{ReadFault, TooLong, Malformed, Invalid as InvalidLeaf}
 use Rattle.av1_recon.specs.declared.error.ReconError.TheVariants.{WriteFault, Memory}
 
--- the bytes that are to be written, or why there are none
+-- the bytes that should be written, or why there are none
 abbrev pub Outcome : Type 0
 Outcome = Result (List ℕ) ReconError
 
--- what a call answers
+-- what a call returns
 abbrev pub Answer : Type 0
 Answer = Result (Unit {0}) ReconError
 
@@ -25,8 +25,8 @@ Answer = Result (Unit {0}) ReconError
 abbrev pub ArePlan : List ℕ → PlanValue → Type 0
 ArePlan bytes value = (length bytes ≤ max_plan_bytes) × AreText plan bytes value
 
--- Why bytes are refused: they are too long, or no text of a plan, or the text of a plan whose first faulty leaf has
--- this fault.
+-- Why bytes are rejected: they are too long, or not the text of a plan, or the text of a plan whose first faulty leaf
+-- has this fault.
 abbrev pub AreRefusedFor : List ℕ → ReconError → Type 0
 AreRefusedFor bytes TooLong = max_plan_bytes < length bytes
 AreRefusedFor bytes (Malformed at) = (length bytes ≤ max_plan_bytes) × AreRefused plan bytes at
@@ -36,24 +36,24 @@ AreRefusedFor bytes ReadFault = ⊥
 AreRefusedFor bytes WriteFault = ⊥
 AreRefusedFor bytes Memory = ⊥
 
--- The outcome of bytes for a call that writes `output` of a plan: that, where they are the text of a plan without a
--- faulty leaf, else why they are refused.
+-- The outcome of bytes for a call that writes `output` of a plan. It is this output if the bytes are the text of a plan
+-- without a faulty leaf, and else why they are rejected.
 abbrev pub HasOutcomeBy : (PlanValue → List ℕ) → List ℕ → Outcome → Type 0
 HasOutcomeBy output bytes (Ok written) = (value : PlanValue) × ArePlan bytes value × (first_fault value ≡ None) ×
     (written ≡ output value)
 HasOutcomeBy output bytes (Err e) = AreRefusedFor bytes e
 
--- the outcome of bytes: the visible planes of the slow definition, or why they are refused
+-- the outcome of bytes: the visible planes of the slow definition, or why they are rejected
 abbrev pub HasOutcome : List ℕ → Outcome → Type 0
 HasOutcome bytes outcome = HasOutcomeBy planes_of bytes outcome
 
--- where the source told its bytes their outcome is an output, and P holds of it
+-- if the source reported its bytes, their outcome is an output, and P holds for it
 abbrev pub Outputs : (PlanValue → List ℕ) → Option (List ℕ) → (List ℕ → Type 0) → Type 0
 Outputs output left P = IfSome left (λ bytes. (written : List ℕ) × HasOutcomeBy output bytes (Ok written) × P written)
 
 -- ---- what a call does
 
--- what an error blames
+-- the cause of an error
 abbrev pub cause : ReconError → Cause
 cause ReadFault = read_failed
 cause TooLong = too_long
@@ -62,7 +62,7 @@ cause (InvalidLeaf leaf kind) = refused
 cause WriteFault = write_failed
 cause Memory = no_memory
 
--- what a call is to do that reads a plan and writes `output` of it
+-- the task of a call that reads a plan and writes `output` of it
 abbrev pub plan_task : (PlanValue → List ℕ) → Task (List ℕ) (Unit {0}) ReconError
 plan_task output = record {
   limit = max_plan_bytes;

@@ -1,4 +1,4 @@
--- The bytes of what a walk has kept of its predictions, and what is left where planes and predictions could not both be
+-- The bytes of the predictions that a walk has kept, and the errors if planes and predictions could not both be
 -- written.
 use Rattle.std.specs.Prelude.{◌≡◌, ◌⊎◌, ℕ, List, Option, Ok, Err, ◌++◌, map}
 use Rattle.std.specs.List.{flat_map}
@@ -16,9 +16,9 @@ kept_bytes depth num kept =
     flat_map (sample_bytes depth) (map num kept.y.samples) ++ flat_map (sample_bytes depth) (map num kept.u.samples)
     ++ flat_map (sample_bytes depth) (map num kept.v.samples)
 
--- What an error says of a call that writes the planes of a plan to one sink, and then its predictions to another: these
--- were not begun, and the error is that of writing the planes; or all planes were written, and a write of the
--- predictions failed.
+-- What an error says of a call that writes the planes of a plan to one sink, and then its predictions to another.
+-- Either writing the planes failed with this error, and the predictions were not begun. Or all planes were written, and
+-- a write of the predictions failed.
 abbrev pub FailsInTurn : {K : Type 0} → (K → Option (List ℕ)) → (K → ℕ) → PlanValue →
     (planes planes' predictions predictions' : K) → ReconError → Type 0
 FailsInTurn taken faults plan planes planes' predictions predictions' e =

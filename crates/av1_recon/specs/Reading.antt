@@ -8,7 +8,7 @@ use Rattle.av1_streams.specs.Tasks.{Reads}
 use Rattle.av1_recon.specs.declared.error.ReconError.{ReconError}
 use Rattle.av1_recon.specs.Outcomes.{ArePlan, AreRefusedFor, cause}
 
--- what is found in bytes: the valid plan that they are the text of, or why they are refused
+-- what is found in bytes: the valid plan whose text they are, or why they are rejected
 abbrev pub IsFound : List ℕ → Result Plan ReconError → Type 0
 IsFound bytes (Ok plan) = ArePlan bytes (plan_value plan) × (first_fault (plan_value plan) ≡ None)
 IsFound bytes (Err e) = AreRefusedFor bytes e

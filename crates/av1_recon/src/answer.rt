@@ -1,4 +1,4 @@
-//! The exit status and the line of each answer.
+//! The exit status and the line of each result.
 ghost use Rattle.std.specs.Prelude.{◌≡◌, ◌≤◌, ◌++◌, length, codes};
 ghost use Rattle.av1_recon.specs.Answers.{status_of, line_of, error_line, kind_text, malformed_text, invalid_text, refusal_text, HasLine};
 
@@ -30,7 +30,7 @@ pub fn plain_line(text: &[u8]) -> Line
     line
 }
 
-/// Appends what is said of the field that begins at byte `at`: `malformed at N`, and the end of the line.
+/// Appends the text for the field that begins at byte `at`: `malformed at N`, and the end of the line.
 #[tactic(auto, using(std::proofs::lemmas::List::append_assoc))]
 pub fn push_malformed(line: &mut Line, at: u32)
     requires { length line.old ≤ 64 }
@@ -41,7 +41,7 @@ pub fn push_malformed(line: &mut Line, at: u32)
     line.push(b"\n");
 }
 
-/// Appends what is said of the leaf at fault: `invalid leaf N: K`, and the end of the line.
+/// Appends the text for the leaf at fault: `invalid leaf N: K`, and the end of the line.
 #[tactic(auto, using(std::proofs::lemmas::List::append_assoc))]
 pub fn push_invalid(line: &mut Line, leaf: u32, kind: InvalidKind)
     requires { length line.old ≤ 64 }
@@ -54,7 +54,7 @@ pub fn push_invalid(line: &mut Line, leaf: u32, kind: InvalidKind)
     line.push(b"\n");
 }
 
-/// Appends what is said of a plan that is refused, and the end of the line.
+/// Appends the text for a plan that is rejected, and the end of the line.
 pub fn push_refusal(line: &mut Line, refusal: PlanFault)
     requires { length line.old ≤ 64 }
     ensures { line.new ≡ line.old ++ refusal_text refusal }
@@ -96,7 +96,7 @@ fn error_line(error: ReconError) -> Line
     }
 }
 
-/// Writes the line of the answer, if it has one, and gives its exit status.
+/// Writes the line of the result, if it has one, and returns its exit status.
 pub fn report<E: Sink>(answer: Result<(), ReconError>, err: &mut E) -> u8
     ensures status { result ≡ status_of answer }
     ensures line { HasLine E.taken E.faults err.old err.new (line_of answer) }
@@ -113,10 +113,10 @@ pub fn report<E: Sink>(answer: Result<(), ReconError>, err: &mut E) -> u8
     }
 }
 
-/// Writes a line, or a prefix of it where a write fails.
+/// Writes a line, or a prefix of it if a write fails.
 pub fn say<E: Sink>(line: &[u8], err: &mut E)
     ensures { HasLine E.taken E.faults err.old err.new line.now }
 {
-    // A line that can't be written changes no answer.
+    // A line that can't be written doesn't change the exit status.
     let _ = write_bytes(err, line);
 }

@@ -1,10 +1,10 @@
-//! What the words after the program's name ask for.
+//! The command that the arguments after the program's name give.
 ghost use Rattle.std.specs.Prelude.{◌≡◌, map, string_bytes};
 ghost use Rattle.av1_recon.specs.Commands.{named, command_of};
 
 use crate::number_of;
 
-/// What the program is asked to do.
+/// What the program should do.
 #[derive(Clone, Copy, Debug, PartialEq, Eq)]
 pub enum Command {
     /// Read a plan and write its planes.
@@ -16,7 +16,7 @@ pub enum Command {
 }
 
 impl Command {
-    /// What the words after the program's name ask for, if they are a command.
+    /// The command of the arguments after the program's name, if they are a valid command.
     pub fn from_words(words: &[String]) -> Option<Command>
         ensures { result ≡ command_of (map string_bytes words.now) }
     {

@@ -7,13 +7,13 @@ use av1_blocks::OutOfMemory;
 use av1_plan::{Invalid, InvalidKind, PlanError};
 use av1_streams::{ReadError, WriteFault};
 
-/// Why a plan is refused.
+/// Why a plan is rejected.
 #[derive(Clone, Copy, Debug, PartialEq, Eq)]
 pub enum PlanFault {
-    /// The field that begins at byte `at` of the plan is cut, has a value that is not admitted, or is left over after
-    /// the end.
+    /// The field that begins at byte `at` of the plan is cut, has a value that is not valid there, or is left over
+    /// after the end.
     Malformed { at: u32 },
-    /// Leaf number `leaf`, counted from 0 in coding order, is the first that is refused, and why.
+    /// Leaf number `leaf`, counted from 0 in coding order, is the first that is rejected, for the reason `kind`.
     Invalid { leaf: u32, kind: InvalidKind },
 }
 
@@ -24,13 +24,13 @@ pub enum ReconError {
     ReadFault,
     /// The source gave a byte past the longest plan.
     TooLong,
-    /// The field that begins at byte `at` is cut, has a value that is not admitted, or is left over after the end.
+    /// The field that begins at byte `at` is cut, has a value that is not valid there, or is left over after the end.
     Malformed { at: u32 },
-    /// Leaf number `leaf`, counted from 0 in coding order, is the first that is refused, and why.
+    /// Leaf number `leaf`, counted from 0 in coding order, is the first that is rejected, for the reason `kind`.
     Invalid { leaf: u32, kind: InvalidKind },
     /// A write failed. A prefix of the planes was written.
     WriteFault,
-    /// An allocation was refused, before the first written byte.
+    /// Memory ran out, before the first written byte.
     Memory,
 }
 

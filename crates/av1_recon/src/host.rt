@@ -1,21 +1,21 @@
-//! How a program starts and ends on the system.
+//! The start and the end of a program on the system.
 
 use std::env;
 use std::io::{ErrorKind, Write};
 use std::process::ExitCode;
 
-// The status where the output could not be flushed, as where a write failed.
+// The status if the output could not be flushed, which is also the status of a failed write.
 const WRITE_FAULT: u8 = 5;
 
-// The status where the words could not be taken.
+// The status if the arguments could not be read.
 const NO_WORDS: u8 = 6;
 
-/// Does `run` with the words after the program's name, flushes the output and gives the status with which the program
-/// is to end. It is that of `run`, but 5 where the flush fails after status 0, and 6 where memory runs out before `run`
-/// has its words.
+/// Calls `run` with the arguments after the program's name, flushes the output and returns the exit status of the
+/// program. It is the status of `run`, with two exceptions. It is 5 if `run` returns 0 and the flush fails. It is 6 if
+/// memory runs out before `run` has its arguments.
 ///
-/// Where a word or the program's name is no UTF-8, `run` gets one empty word in place of them all: no program has such
-/// a command, so it answers as it does to every other word that it doesn't know.
+/// If an argument or the program's name is not UTF-8, `run` gets one empty argument instead of all. No program has such
+/// a command, so it responds as to every other unknown command.
 pub fn run_on_words<F: FnOnce(&[String]) -> u8>(rt: &HostRuntime, run: F) -> ExitCode
     requires { F.IsAlwaysCallable run }
 {
@@ -29,7 +29,7 @@ pub fn run_on_words<F: FnOnce(&[String]) -> u8>(rt: &HostRuntime, run: F) -> Exi
     ExitCode::from(status)
 }
 
-// The words after the program's name, or an empty one where they are no text, unless memory runs out.
+// The arguments after the program's name, or one empty argument if they are not text, unless memory runs out.
 fn words(rt: &HostRuntime) -> Option<Vec<String>> {
     match env::args(rt) {
         Ok(words) => words.skip(1).collect(rt.alloc()).ok(),

@@ -1,22 +1,28 @@
 //! Plans read from a source, reconstructed, and their planes written to a sink; and the program around them.
 //!
 //! [`reconstruct_plan`] is the whole path: it reads a source to its end, parses the plan, checks it, reconstructs it
-//! and writes its visible planes, Y, U and V row by row. [`run`] is all that the program does with the words of its
-//! command line. For programs beside it the parts stand alone: [`read_plan`] reads and checks,
-//! [`write_with_predictions`] writes the planes and beside them what each block is predicted as before its residue is
-//! added, [`write_sums`] reconstructs and writes four lines on a plan whose planes nobody reads, its leaves and the
-//! [`plane_sum`] of each plane, [`number_of`] is a number among the words, [`report`] the line and the exit status of
-//! an answer, and [`run_on_words`] what a `main` does beside.
+//! and writes its visible planes, Y, U and V row by row. [`run`] does what the program's command line says.
 //!
-//! It stands on `av1_streams` for sources and sinks, on `av1_plan` for the grammar and the check of plans, and on
-//! `av1_tile` for the samples, and passes on what its callers need of them.
+//! Other programs use the parts:
 //!
-//! Promised: these calls return, over every source and sink. The outcome of bytes is one definition, `HasOutcome`
-//! (`specs/Outcomes.antt`), and each answer is read off it: Ok only where the bytes are a valid plan, and then exactly
-//! the planes of the slow definition were appended; a refusal only where it is the outcome of the bytes, and always
-//! there unless a read failed or memory ran out; a fault exactly where the source or the sink counted one, up to the
-//! last value of a `u64`. Running out of memory is the one free answer, and comes before the first written byte. All
-//! calls that read a plan and write of it promise the same, `Converts`, whatever they write.
+//! - [`read_plan`] reads and checks a plan.
+//! - [`write_with_predictions`] writes the planes, and to a second sink the prediction of each sample before the
+//!   residual is added.
+//! - [`write_sums`] reconstructs a plan and writes four lines on it: the number of its leaves, and the [`plane_sum`] of
+//!   each plane.
+//! - [`number_of`] is a number among the arguments.
+//! - [`report`] gives the line and the exit status of a result.
+//! - [`run_on_words`] does the rest of a `main`.
+//!
+//! The crate takes sources and sinks from `av1_streams`, the grammar and the check of plans from `av1_plan`, and the
+//! samples from `av1_tile`. It passes on what its callers need of them.
+//!
+//! Promised: these calls return, over every source and sink. One definition gives the outcome of bytes, `HasOutcome`
+//! (`specs/Outcomes.antt`), and each result follows from it. The result is Ok only if the bytes are a valid plan; then
+//! exactly the planes of the slow definition were appended. The bytes are rejected only if that is their outcome, and
+//! then always, unless a read failed or memory ran out. The result is a fault exactly if the source or the sink counted
+//! one, up to the last value of a `u64`. Only running out of memory is not determined; it comes before the first
+//! written byte. All calls that read a plan and write of it promise the same, `Converts`, whatever they write.
 #![tactic(auto)]
 
 mod answer;

@@ -1,4 +1,4 @@
-//! Four lines on a plan: how many leaves it has, and the sums of its planes.
+//! Four lines on a plan: the number of its leaves, and the sums of its planes.
 ghost use Rattle.std.specs.Prelude.{◌≡◌, ◌≤◌, None, IfOk};
 ghost use Rattle.av1_plan.specs.Values.{plan_value};
 ghost use Rattle.av1_plan.specs.Validity.{first_fault};
@@ -15,8 +15,8 @@ use av1_streams::{Line, write_bytes};
 use std::alloc::Global;
 use std::num::NonZeroU32;
 
-/// Reconstructs a valid plan as often as `rounds` says, in one state, and appends four lines to the sink: the number of
-/// its leaves, and the sum of the visible samples of each plane.
+/// Reconstructs a valid plan `rounds` times, in one state, and appends four lines to the sink: the number of its
+/// leaves, and the sum of the visible samples of each plane.
 ///
 /// # Errors
 ///
@@ -62,7 +62,7 @@ fn lines_as<T: Pixel>(alloc: Global, rounds: NonZeroU32, plan: &Plan) -> Result<
     ))
 }
 
-// Reconstructs the plan over and over again in the state.
+// Reconstructs the plan `rounds` times in the state.
 fn reconstruct_often<T: Pixel>(state: &mut TileState<T>, rounds: NonZeroU32, plan: &Plan)
     requires valid { first_fault (plan_value plan.now) ≡ None }
     requires sound { IsSound T.num state.old }

@@ -59,7 +59,7 @@ pub fn write_made_sums<W: Sink>(alloc: Global, number: u32, sink: &mut W) -> Res
     write_sums(alloc, NonZeroU32::MIN, &plan, sink)
 }
 
-// The plan of a number, parsed. It is valid, so that memory is all that can be wanting.
+// The plan of a number, parsed. It is valid, so the only error is running out of memory.
 fn parse_made(alloc: Global, number: u32) -> Result<Plan, ReconError>
     ensures plan { IfOk result (λ plan. ArePlan (plan_bytes number) (plan_value plan)) }
     ensures valid { IfOk result (λ plan. first_fault (plan_value plan) ≡ None) }

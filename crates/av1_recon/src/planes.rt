@@ -17,14 +17,14 @@ use av1_plan::Header;
 use av1_streams::write_bytes;
 use av1_tile::{Planes, visible_row};
 
-// The samples that are written at once: a row of the widest frame.
+// The greatest number of samples that are written at once: a row of the widest frame.
 const MOST_SAMPLES: usize = 2048;
 
-// The bytes of these.
+// The number of bytes of these samples.
 pub const MOST_BYTES: usize = 2 * MOST_SAMPLES;
 
 /// Appends the visible planes to the sink: Y, U and V, each row by row, one byte a sample at depth 8, else two, the low
-/// one first. The first write that fails ends the call, and a prefix of the planes stands.
+/// one first. The first write that fails ends the call; then a prefix of the planes was appended.
 pub fn write_planes<T: Pixel, W: Sink>(state: &TileState<T>, sink: &mut W) -> Result<(), WriteFault>
     requires sound { IsSound T.num state.now }
     requires narrow { (state_header state.now).depth ≡ 8 → T.BITS ≤ 8 }
@@ -74,7 +74,7 @@ fn write_plane<T: Pixel, W: Sink>(
     Ok(())
 }
 
-/// Appends samples that stand one after another, or a prefix of their bytes.
+/// Appends samples one after another, or a prefix of their bytes.
 pub fn write_row<T: Pixel, W: Sink>(
     depth: u8,
     row: &[T],

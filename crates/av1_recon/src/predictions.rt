@@ -18,13 +18,13 @@ use av1_plan::Plan;
 use av1_tile::{Planes, PredictedPlanes, reconstruct_with_predictions};
 use std::alloc::Global;
 
-/// Reconstructs a valid plan once, and appends its visible planes to `planes`, as [`crate::reconstruct_valid`] does,
-/// and then to `predictions` what is predicted of each of their samples before its residue is added, in the same order.
+/// Reconstructs a valid plan once, and appends its visible planes to `planes`, as [`crate::reconstruct_valid`] does.
+/// Then it appends to `predictions` the prediction of each sample before its residual is added, in the same order.
 ///
 /// # Errors
 ///
-/// `WriteFault` where a write to either failed; nothing was written to `predictions` then unless all of `planes` was.
-/// `Memory` may stand in place of it, before the first written byte.
+/// `WriteFault` if a write to either failed. In that case, `predictions` was not begun unless all of `planes` was
+/// written. `Memory` may be returned instead, before the first written byte.
 pub fn write_with_predictions<W: Sink>(
     alloc: Global,
     plan: &Plan,
@@ -44,7 +44,7 @@ pub fn write_with_predictions<W: Sink>(
     }
 }
 
-// The same in samples of this type.
+// As `write_with_predictions`, in samples of this type.
 fn write_both<T: Pixel, W: Sink>(
     alloc: Global,
     plan: &Plan,

@@ -12,22 +12,22 @@ use crate::answer::{report, say};
 use crate::{Command, Sink, Source, reconstruct_plan, write_made, write_made_sums};
 use std::alloc::Global;
 
-/// Does what the words after the program's name ask for, and gives the exit status. Without words a plan is read from
-/// `source` and its planes are written to `out`. `make N` writes the plan of the number N, and `sum N` reconstructs
-/// that plan and writes four lines on it; both read nothing. N is a number by [`crate::number_of`]. All other words are
-/// no command.
+/// Does what the arguments after the program's name say, and returns the exit status. Without arguments, a plan is read
+/// from `source` and its planes are written to `out`. `make N` writes the plan of the number N. `sum N` reconstructs
+/// that plan and writes four lines on it. Both read nothing. N is a number by [`crate::number_of`]. No other arguments
+/// are a valid command.
 ///
-/// | status | where | line on `err` |
+/// | status | if | line on `err` |
 /// |---|---|---|
 /// | 0 | the planes, the plan or the lines were written | none |
-/// | 1 | the words are no command | `usage: recon [make N \| sum N]` |
-/// | 2 | the plan is refused | `too long`, `malformed at N` or `invalid leaf N: K` |
+/// | 1 | the arguments are not a valid command | `usage: recon [make N \| sum N]` |
+/// | 2 | the plan is rejected | `too long`, `malformed at N` or `invalid leaf N: K` |
 /// | 3 | memory ran out | `out of memory` |
 /// | 4 | a read failed | `read fault` |
 /// | 5 | a write failed | `write fault` |
 ///
-/// K is `block size`, `transform`, `mode`, `vector`, `missing reference` or `coefficient`. Where a write to `err`
-/// failed a prefix of the line stands, and the status stays.
+/// K is `block size`, `transform`, `mode`, `vector`, `missing reference` or `coefficient`. If a write to `err` fails, a
+/// prefix of the line was written, and the status is the same.
 pub fn run<R: Source, W: Sink, E: Sink>(
     alloc: Global,
     words: &[String],

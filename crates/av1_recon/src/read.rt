@@ -15,8 +15,8 @@ use std::alloc::Global;
 ///
 /// # Errors
 ///
-/// `ReadFault` and `TooLong` while it reads, then `Malformed`, then `Invalid`. `Memory` may stand in place of any of
-/// them.
+/// `ReadFault` and `TooLong` while it reads, then `Malformed`, then `Invalid`. `Memory` may be returned instead of any
+/// of them.
 pub fn read_plan<R: Source>(alloc: Global, source: &mut R) -> Result<Plan, ReconError>
     ensures { ReadsPlan R.left R.faults source.old source.new result }
 {
@@ -24,7 +24,7 @@ pub fn read_plan<R: Source>(alloc: Global, source: &mut R) -> Result<Plan, Recon
     plan_of_bytes(alloc, &bytes)
 }
 
-// The valid plan that these bytes are.
+// The valid plan with these bytes.
 fn plan_of_bytes(alloc: Global, bytes: &[u8]) -> Result<Plan, ReconError>
     requires short { length bytes.now ≤ max_plan_bytes }
     ensures found { IfOk result (λ plan. ArePlan bytes.now (plan_value plan) × (first_fault (plan_value plan) ≡ None)) }

@@ -13,20 +13,20 @@ use av1_frame::Pixel;
 use av1_plan::Plan;
 use std::alloc::Global;
 
-/// Reads a plan from the source to its end, and appends the visible planes that it says to the sink: Y, U and V, each
-/// row by row, one byte a sample at depth 8, else two, the low one first.
+/// Reads a plan from the source to its end, and appends the plan's visible planes to the sink: Y, U and V, each row by
+/// row, one byte a sample at depth 8, else two, the low one first.
 ///
 /// # Errors
 ///
-/// `ReadFault` and `TooLong` while it reads, then `Malformed`, then `Invalid`, then `WriteFault`. `Memory` may stand in
-/// place of any of them, before the first written byte.
+/// `ReadFault` and `TooLong` while it reads, then `Malformed`, then `Invalid`, then `WriteFault`. `Memory` may be
+/// returned instead of any of them, before the first written byte.
 pub fn reconstruct_plan<R: Source, W: Sink>(
     alloc: Global,
     source: &mut R,
     sink: &mut W,
 ) -> Result<(), ReconError>
     ensures does { Reconstructs R.left R.faults W.taken W.faults source.old source.new sink.old sink.new result }
-    // What follows for a source that tells its bytes.
+    // What follows for a source that reports its bytes.
     ensures tells { AnswersBytes (plan_task planes_of) R.left R.faults W.taken W.faults source.old source.new sink.old sink.new result }
 {
     let plan = read_plan(alloc, source)?;
@@ -37,7 +37,7 @@ pub fn reconstruct_plan<R: Source, W: Sink>(
 ///
 /// # Errors
 ///
-/// `WriteFault`. `Memory` may stand in place of it, before the first written byte.
+/// `WriteFault`. `Memory` may be returned instead, before the first written byte.
 pub fn reconstruct_valid<W: Sink>(
     alloc: Global,
     plan: &Plan,

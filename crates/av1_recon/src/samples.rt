@@ -5,7 +5,7 @@ ghost use Rattle.av1_tile.specs.Output.{sample_bytes};
 
 use av1_frame::Pixel;
 
-// The samples at the front of the bytes, one byte each.
+// Writes the samples to the front of the bytes, one byte each.
 fn pack_one<T: Pixel>(samples: &[T], bytes: &mut [u8])
     requires narrow { T.BITS ≤ 8 }
     requires room { length samples.now ≤ length bytes.old }
@@ -16,7 +16,7 @@ fn pack_one<T: Pixel>(samples: &[T], bytes: &mut [u8])
     }
 }
 
-// The samples at the front of the bytes, two bytes each.
+// Writes the samples to the front of the bytes, two bytes each.
 fn pack_two<T: Pixel>(samples: &[T], bytes: &mut [u8])
     requires room { 2 * length samples.now ≤ length bytes.old }
     ensures { take (2 * length samples.now) bytes.new ≡ flat_map (λ s. sample_bytes 16 (T.num s)) samples.now }
@@ -28,7 +28,7 @@ fn pack_two<T: Pixel>(samples: &[T], bytes: &mut [u8])
     }
 }
 
-/// Puts the samples of this depth at the front of the bytes, and says how many bytes these are.
+/// Writes the samples of this depth to the front of the bytes, and returns the number of these bytes.
 pub fn pack<T: Pixel>(depth: u8, samples: &[T], bytes: &mut [u8]) -> usize
     requires narrow { depth ≡ 8 → T.BITS ≤ 8 }
     requires room { 2 * length samples.now ≤ length bytes.old }

@@ -18,7 +18,7 @@ pub fn plane_sum<T: Pixel>(state: &TileState<T>, p: usize) -> u64
     rows_sum(state, *state.header(), p)
 }
 
-// The sum of the rows of plane `p` of a state with this header, whose sides have 16 bits.
+// The sum of the rows of plane `p` of a state with this header, whose width and height have 16 bits.
 #[tactic(auto, using(crate::proofs::RowSums::row_within))]
 fn rows_sum<T: Pixel>(state: &TileState<T>, header: Header, p: usize) -> u64
     requires sound { IsSound T.num state.now }

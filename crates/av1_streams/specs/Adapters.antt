@@ -7,7 +7,7 @@ use Rattle.av1_streams.specs.declared.sink.WriteSink.{WriteSink}
 abbrev pub reader_of : {R : Type 0} → ReadSource R → R
 reader_of s = s.inner
 
--- how many reads have failed
+-- the number of reads that have failed
 abbrev pub reader_faults : {R : Type 0} → ReadSource R → ℕ
 reader_faults s = s.faults
 
@@ -15,6 +15,6 @@ reader_faults s = s.faults
 abbrev pub writer_of : {W : Type 0} → WriteSink W → W
 writer_of s = s.inner
 
--- how many writes have failed
+-- the number of writes that have failed
 abbrev pub writer_faults : {W : Type 0} → WriteSink W → ℕ
 writer_faults s = s.faults

@@ -7,7 +7,7 @@ use Rattle.av1_streams.specs.declared.sink.MemSink.{MemSink}
 abbrev pub source_bytes : SliceSource → List ℕ
 source_bytes s = s.bytes.now
 
--- the most bytes that a read gives
+-- the greatest number of bytes that a read gives
 abbrev pub source_piece : SliceSource → ℕ
 source_piece s = s.piece
 
@@ -19,7 +19,7 @@ source_fails s = s.fails.now
 abbrev pub source_calls : SliceSource → ℕ
 source_calls s = s.calls
 
--- how many reads have failed
+-- the number of reads that have failed
 abbrev pub source_faults : SliceSource → ℕ
 source_faults s = s.faults
 
@@ -27,11 +27,11 @@ source_faults s = s.faults
 abbrev pub sink_bytes : MemSink → List ℕ
 sink_bytes s = s.bytes.items
 
--- how many bytes it holds at most
+-- the greatest number of bytes that it holds
 abbrev pub sink_room : MemSink → ℕ
 sink_room s = s.room
 
--- the most bytes that a write takes
+-- the greatest number of bytes that a write takes
 abbrev pub sink_piece : MemSink → ℕ
 sink_piece s = s.piece
 
@@ -43,6 +43,6 @@ sink_fails s = s.fails.now
 abbrev pub sink_calls : MemSink → ℕ
 sink_calls s = s.calls
 
--- how many writes have failed
+-- the number of writes that have failed
 abbrev pub sink_faults : MemSink → ℕ
 sink_faults s = s.faults

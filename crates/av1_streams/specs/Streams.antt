@@ -1,8 +1,8 @@
--- What a call takes from a source or appends to a sink, where these tell their bytes.
+-- What a call takes from a source or appends to a sink, if the source or the sink reports its bytes.
 use Rattle.std.specs.Prelude.{◌≡◌, ℕ, ◌<◌, ◌≤◌, ◌^◌, List, ◌++◌, length, Option, All}
 use Rattle.std.specs.Io.KnownBytes.{Consumes, Appends}
 
--- the most bytes that a plan has: 64 MiB
+-- the greatest length of a plan in bytes: 64 MiB
 abbrev pub max_plan_bytes : ℕ
 max_plan_bytes = 2 ^ 26
 
@@ -10,7 +10,7 @@ max_plan_bytes = 2 ^ 26
 abbrev pub AreBytes : List ℕ → Type 0
 AreBytes bytes = All (λ byte. byte < 2 ^ 8) bytes
 
--- this many bytes of the front were taken, so what is left is a suffix of what there was
+-- this many bytes of the front were taken, and the rest is left
 abbrev pub Takes : ℕ → Option (List ℕ) → Option (List ℕ) → Type 0
 Takes count old new = (front : List ℕ) × AreBytes front × (length front ≡ count) × Consumes old new front
 
@@ -18,6 +18,6 @@ Takes count old new = (front : List ℕ) × AreBytes front × (length front ≡ 
 abbrev pub TakesAtMost : ℕ → Option (List ℕ) → Option (List ℕ) → Type 0
 TakesAtMost limit old new = (front : List ℕ) × AreBytes front × (length front ≤ limit) × Consumes old new front
 
--- some front of these bytes was appended
+-- a prefix of these bytes was appended
 abbrev pub AppendsPrefix : Option (List ℕ) → Option (List ℕ) → List ℕ → Type 0
 AppendsPrefix old new bytes = (front : List ℕ) × (rest : List ℕ) × (front ++ rest ≡ bytes) × Appends old new front

@@ -1,18 +1,17 @@
-//! Where the bytes of a plan come from, and where the bytes of planes go.
+//! Sources of the bytes of a plan, and sinks for the bytes of planes.
 //!
-//! A [`Source`] gives bytes and a [`Sink`] takes them, in pieces of any size, and each counts its
-//! faults. [`read_bytes`] reads a source to its end, [`read_plan_bytes`] one that has a plan, and
-//! [`write_bytes`] writes all of a slice, or a prefix of it up to a fault. They are generic, so what they promise holds
-//! of standard input and output ([`ReadSource`], [`WriteSink`]) as of memory ([`SliceSource`], [`MemSink`]), whose
-//! calls fail on request. A [`Line`] is a line of text for such a sink, built without memory.
+//! A [`Source`] gives bytes and a [`Sink`] takes them, in pieces of any size, and each counts its faults.
+//! [`read_bytes`] reads a source to its end, and [`read_plan_bytes`] reads one that has a plan. [`write_bytes`] writes
+//! all of a slice, or a prefix of it up to a fault. They are generic, so their promises hold for standard input and
+//! output ([`ReadSource`], [`WriteSink`]) and for memory ([`SliceSource`], [`MemSink`]), whose calls fail on request. A
+//! [`Line`] is a line of text for such a sink, built without allocating.
 //!
-//! It stands on `av1_lists` for counts, and takes the answer for running out of memory from `av1_blocks`.
+//! The crate takes counts from `av1_lists`, and the error for running out of memory from `av1_blocks`.
 //!
-//! Promised to the layer above: every call returns. Where a source or a sink tells its bytes, the
-//! clauses say which were taken from it and which stand on it after every answer, the failing ones
-//! too. A count of faults rises by one, up to the last value of a `u64`, where a read or a write
-//! fails, and nowhere else; a call over many of them that blames a fault has counted one, and every
-//! other answer of it leaves the count as it was.
+//! Promised to the layer above: every call returns. If a source or a sink reports its bytes, the clauses say which
+//! bytes were taken from it or appended to it, also for errors. A count of faults rises by one, up to the last value of
+//! a `u64`, if a read or a write fails, and only then. A call that makes many reads or writes and returns a fault has
+//! counted one; with every other result the count is unchanged.
 #![tactic(auto)]
 
 mod line;

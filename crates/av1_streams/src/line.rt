@@ -4,10 +4,10 @@ ghost use Rattle.av1_streams.specs.declared.line.TheConstants.{LINE_BYTES};
 
 use std::marker::Model;
 
-/// The most bytes that a line holds.
+/// The greatest number of bytes of a line.
 pub const LINE_BYTES: usize = 128;
 
-/// A line of text, built without memory. Clauses see its bytes.
+/// A line of text, built without allocating. Clauses see its bytes.
 #[derive(Drop)]
 pub struct Line {
     bytes: [u8; LINE_BYTES],
@@ -53,7 +53,7 @@ impl Line {
         self.push_digits(number);
     }
 
-    // The digits before the last one, and then that one.
+    // Appends the digits before the last one, and then the last one.
     #[tactic(auto, using(crate::proofs::Digits::lengths, std::proofs::lemmas::Fmt::decimal_step, std::proofs::lemmas::Fmt::decimal_digit, std::proofs::lemmas::List::append_assoc))]
     fn push_digits(&mut self, number: u64)
         requires { length self.old + length (decimal number) ≤ LINE_BYTES }

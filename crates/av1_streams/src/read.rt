@@ -8,13 +8,13 @@ ghost use Rattle.av1_streams.specs.declared.read.ReadError.TheVariants.{Memory};
 use crate::{Failed, Source};
 use std::alloc::{AllocError, Global};
 
-/// The most bytes that a plan has: 64 MiB.
+/// The greatest length of a plan in bytes: 64 MiB.
 pub const MAX_PLAN_BYTES: usize = 1 << 26;
 
-// What the first read asks for, as much as a pipe holds.
+// The size of the first read: as much as a pipe holds.
 const FIRST_READ: usize = 1 << 16;
 
-// How many zeros are appended at a time.
+// The number of zeros that are appended at a time.
 const RUN: usize = 1024;
 
 /// Why the bytes of a plan could not be read.
@@ -24,7 +24,7 @@ pub enum ReadError {
     ReadFault,
     /// The source gave a byte past the longest plan.
     TooLong,
-    /// An allocation was refused.
+    /// Memory ran out.
     Memory,
 }
 
@@ -36,7 +36,7 @@ impl From<AllocError> for ReadError {
     }
 }
 
-/// All that the source has left, read to its end, at most [`MAX_PLAN_BYTES`], as [`read_bytes`] does.
+/// Reads all that the source has left, to its end, at most [`MAX_PLAN_BYTES`], as [`read_bytes`] does.
 pub fn read_plan_bytes<R: Source>(alloc: Global, source: &mut R) -> Result<Vec<u8>, ReadError>
     ensures bytes { IfOk result (λ bytes. IfSome (R.left source.old) (λ left. bytes.items ≡ left)) }
     ensures consumed { IfOk result (λ bytes. Consumes (R.left source.old) (R.left source.new) bytes.items) }
@@ -44,13 +44,13 @@ pub fn read_plan_bytes<R: Source>(alloc: Global, source: &mut R) -> Result<Vec<u
     ensures fits { IfOk result (λ bytes. AreBytes bytes.items) }
     ensures short { IfOk result (λ bytes. length bytes.items ≤ max_plan_bytes) }
 
-    // It takes at most a byte past the longest plan, and `TooLong` comes where it took that byte.
+    // It takes at most one byte past the longest plan, and returns `TooLong` if it took that byte.
     ensures taken { TakesAtMost (max_plan_bytes + 1) (R.left source.old) (R.left source.new) }
     ensures too_long { IsErrOf result ReadError.TooLong → Takes (max_plan_bytes + 1) (R.left source.old) (R.left source.new) }
     ensures longer { IsErrOf result ReadError.TooLong → IfSome (R.left source.old) (λ left. max_plan_bytes < length left) }
 
-    // `ReadFault` comes exactly where a read failed: it counts this one, and every other answer leaves the count as it
-    // was.
+    // `ReadFault` is returned exactly if a read failed: the source counts this one. With every other result the count
+    // is unchanged.
     ensures read_fault { IsErrOf result ReadError.ReadFault → FaultCounted (R.faults source.old) (R.faults source.new) }
     ensures uncounted { ¬ IsErrOf result ReadError.ReadFault → R.faults source.new ≡ R.faults source.old }
     ensures later { R.faults source.old ≤ R.faults source.new }
@@ -58,8 +58,8 @@ pub fn read_plan_bytes<R: Source>(alloc: Global, source: &mut R) -> Result<Vec<u
     read_bytes(alloc, source, MAX_PLAN_BYTES)
 }
 
-/// All that the source has left, read to its end, at most `limit` bytes: from 64 KiB, which the first read asks for, to
-/// 1 TiB. Each read asks for as much as there is room for. The first that fails ends the call.
+/// Reads all that the source has left, to its end, at most `limit` bytes. The limit is from 64 KiB, the size of the
+/// first read, to 1 TiB. Each read fills the buffer as far as it can. The first read that fails ends the call.
 pub fn read_bytes<R: Source>(
     alloc: Global,
     source: &mut R,
@@ -73,13 +73,13 @@ pub fn read_bytes<R: Source>(
     ensures fits { IfOk result (λ bytes. AreBytes bytes.items) }
     ensures short { IfOk result (λ bytes. length bytes.items ≤ limit) }
 
-    // It takes at most a byte past the limit, and `TooLong` comes where it took that byte.
+    // It takes at most one byte past the limit, and returns `TooLong` if it took that byte.
     ensures taken { TakesAtMost (limit + 1) (R.left source.old) (R.left source.new) }
     ensures too_long { IsErrOf result ReadError.TooLong → Takes (limit + 1) (R.left source.old) (R.left source.new) }
     ensures longer { IsErrOf result ReadError.TooLong → IfSome (R.left source.old) (λ left. limit < length left) }
 
-    // `ReadFault` comes exactly where a read failed: it counts this one, and every other answer leaves the count as it
-    // was.
+    // `ReadFault` is returned exactly if a read failed: the source counts this one. With every other result the count
+    // is unchanged.
     ensures read_fault { IsErrOf result ReadError.ReadFault → FaultCounted (R.faults source.old) (R.faults source.new) }
     ensures uncounted { ¬ IsErrOf result ReadError.ReadFault → R.faults source.new ≡ R.faults source.old }
     ensures later { R.faults source.old ≤ R.faults source.new }
@@ -101,7 +101,7 @@ pub fn read_bytes<R: Source>(
     Err(ReadError::TooLong)
 }
 
-// Makes `bytes` longer than what is filled of it, by zeros: twice as long, where it is full.
+// Makes `bytes` longer than its filled part, by zeros: twice as long, if it is full.
 fn make_room(bytes: &mut Vec<u8>, filled: usize, limit: usize) -> Result<(), AllocError>
     requires within { filled ≤ vec_len bytes.old }
     requires least { 2 ^ 16 ≤ limit }
@@ -118,7 +118,7 @@ fn make_room(bytes: &mut Vec<u8>, filled: usize, limit: usize) -> Result<(), All
     lengthen(bytes, (2 * filled).clamp(FIRST_READ, limit + 1))
 }
 
-// Makes `bytes` so long, by zeros.
+// Makes `bytes` `end` bytes long, by zeros.
 fn lengthen(bytes: &mut Vec<u8>, end: usize) -> Result<(), AllocError>
     requires { vec_len bytes.old ≤ end }
     ensures len { OnOk result (vec_len bytes.new ≡ end) }
@@ -133,7 +133,7 @@ fn lengthen(bytes: &mut Vec<u8>, end: usize) -> Result<(), AllocError>
     bytes.resize(end, 0)
 }
 
-// One read into what stands behind the filled part.
+// Reads once into the bytes after the filled part.
 fn read_at<R: Source>(source: &mut R, bytes: &mut [u8], filled: usize) -> Result<usize, Failed>
     requires { filled < length bytes.old }
     ensures front { take filled bytes.new ≡ take filled bytes.old }

@@ -1,4 +1,4 @@
-//! Where bytes go.
+//! Sinks of bytes.
 ghost use Rattle.std.specs.Prelude.{◌≡◌, ◌⊎◌, ◌↔◌, ℕ, ◌-◌, ◌<◌, ◌≤◌, min, List, [], length, Option, Some, Contains, IsErr, IfOk, vec_len, vec_capacity};
 ghost use Rattle.std.specs.Io.{WritesAtMost};
 ghost use Rattle.std.specs.Io.KnownBytes.{WriteAppends};
@@ -12,14 +12,14 @@ use std::io::Write;
 
 /// A sink of bytes that counts its faults.
 pub trait Sink {
-    /// The bytes taken so far, where the sink tells them.
+    /// The bytes taken so far, if the sink reports them.
     ghost taken: { Self → Option (List ℕ) };
 
     /// How many writes have failed, up to the last value of a `u64`.
     ghost faults: { Self → ℕ };
 
-    /// Takes the first bytes of `buf`, at least one, and says how many. A write that failed took
-    /// nothing. It is counted, and no other is.
+    /// Takes the first bytes of `buf`, at least one, and returns how many. A write that failed took nothing. It is
+    /// counted, and no other write is.
     fn write(&mut self, buf: &[u8]) -> Result<usize, Failed>
         requires { 0 < length buf.now }
         ensures some { IfOk result (λ count. 0 < count) }
@@ -28,8 +28,8 @@ pub trait Sink {
         ensures cause { HasCause (faults self.old) (faults self.new) result };
 }
 
-/// A sink in memory: it has room for so many bytes, a write takes at most `piece` of them, and the
-/// writes whose numbers are listed fail.
+/// A sink in memory, with a buffer of `room` bytes. A write takes at most `piece` of them, and the writes whose numbers
+/// are listed fail.
 #[derive(Drop)]
 pub struct MemSink<'a> {
     bytes: Vec<u8>,
@@ -46,8 +46,8 @@ pub struct MemSink<'a> {
 impl<'a> MemSink<'a> {
     ghost use Rattle.av1_streams.specs.Memory.{sink_bytes, sink_room, sink_piece, sink_fails, sink_calls, sink_faults};
 
-    /// An empty sink. It reserves the room, so that no write needs memory. The writes numbered in
-    /// `fails`, from 0, fail, and those where no room is left.
+    /// An empty sink. It reserves the whole buffer, so that no write allocates. The writes numbered in `fails`, from 0,
+    /// fail, and writes to a full buffer.
     pub fn new(
         alloc: Global,
         room: usize,
@@ -94,7 +94,7 @@ impl Sink for MemSink<'_> {
         ensures bytes { WriteAppends (Some (sink_bytes self.old)) (Some (sink_bytes self.new)) result buf.now }
         ensures cause { HasCause (sink_faults self.old) (sink_faults self.new) result }
 
-        // It takes what fits, up to a piece, and fails without room and in the numbered calls alone.
+        // It takes what fits, up to a piece. It fails only if the buffer is full and in the numbered calls.
         ensures count { IfOk result (λ n. n ≡ min (sink_piece self.old) (min (sink_room self.old - length (sink_bytes self.old)) (length buf.now))) }
         ensures numbered { IsErr result ↔ (Contains (sink_fails self.old) (sink_calls self.old) ⊎ (sink_room self.old ≤ length (sink_bytes self.old))) }
         ensures calls { sink_calls self.new ≡ counted (sink_calls self.old) }
@@ -109,16 +109,16 @@ impl Sink for MemSink<'_> {
             self.faults = self.faults.saturating_add(1);
             return Err(Failed);
         }
-        // The room was reserved, so this can't be refused.
+        // The buffer was reserved, so this can't fail.
         self.bytes.extend_from_slice(&buf[..count]).unwrap();
         Ok(count)
     }
 }
 
-/// A sink over any writer, as standard output. It tells the bytes that the writer tells.
+/// A sink over any writer, such as standard output. It reports the bytes that the writer reports.
 ///
-/// Each write is one write to the writer. No clause can say so of a writer that tells nothing, nor
-/// of a write that failed, as at [`crate::ReadSource`].
+/// Each write is one write to the writer. No clause can say so of a writer that reports nothing, nor of a write that
+/// failed, as for [`crate::ReadSource`].
 #[derive(Drop)]
 pub struct WriteSink<W> {
     inner: W,
@@ -144,7 +144,7 @@ impl<W: Write> Sink for WriteSink<W> {
 
     ghost faults = { writer_faults };
 
-    /// Each error of the writer is a fault, and each write that took nothing.
+    /// Each error of the writer is a fault, and so is each write that took nothing.
     fn write(&mut self, buf: &[u8]) -> Result<usize, Failed>
         requires { 0 < length buf.now }
         ensures some { IfOk result (λ count. 0 < count) }

@@ -1,4 +1,4 @@
-//! Where bytes come from.
+//! Sources of bytes.
 ghost use Rattle.std.specs.Prelude.{◌≡◌, ◌↔◌, ℕ, ◌<◌, min, List, length, drop, Option, Some, Contains, MatchResult, IsErr, IfOk};
 ghost use Rattle.std.specs.Io.{ReadsAtMost};
 ghost use Rattle.std.specs.Io.KnownBytes.{ReadConsumes};
@@ -7,20 +7,20 @@ ghost use Rattle.av1_streams.specs.Faults.{HasCause};
 
 use std::io::Read;
 
-/// The answer of a read or a write that failed.
+/// The error of a read or a write that failed.
 #[derive(Clone, Copy, Debug, PartialEq, Eq)]
 pub struct Failed;
 
 /// A source of bytes that counts its faults.
 pub trait Source {
-    /// The bytes that are left, where the source tells them.
+    /// The bytes that are left, if the source reports them.
     ghost left: { Self → Option (List ℕ) };
 
     /// How many reads have failed, up to the last value of a `u64`.
     ghost faults: { Self → ℕ };
 
-    /// Moves the first bytes that are left into the front of `buf`, and says how many. `Ok(0)` is
-    /// the end: nothing is left. A read that failed moved nothing. It is counted, and no other is.
+    /// Moves the first bytes that are left into the front of `buf`, and returns how many. `Ok(0)` is the end: nothing
+    /// is left. A read that failed moved nothing. It is counted, and no other read is.
     fn read(&mut self, buf: &mut [u8]) -> Result<usize, Failed>
         requires { 0 < length buf.old }
         ensures bound { ReadsAtMost result buf.new }
@@ -75,7 +75,7 @@ impl Source for SliceSource<'_> {
         ensures bytes { ReadConsumes (Some (source_bytes self.old)) (Some (source_bytes self.new)) result buf.new }
         ensures cause { HasCause (source_faults self.old) (source_faults self.new) result }
 
-        // It gives what there is, up to a piece, and fails in the numbered calls alone.
+        // It gives the bytes that are left, up to a piece, and fails only in the numbered calls.
         ensures count { IfOk result (λ n. n ≡ min (source_piece self.old) (min (length (source_bytes self.old)) (length buf.old))) }
         ensures rest { MatchResult result (λ n. drop n buf.new ≡ drop n buf.old) (λ _. buf.new ≡ buf.old) }
         ensures numbered { IsErr result ↔ Contains (source_fails self.old) (source_calls self.old) }
@@ -96,10 +96,10 @@ impl Source for SliceSource<'_> {
     }
 }
 
-/// A source over any reader, as standard input. It tells the bytes that the reader tells.
+/// A source over any reader, such as standard input. It reports the bytes that the reader reports.
 ///
-/// Each read is one read of the reader. No clause can say so of a reader that tells nothing, nor of
-/// a read that failed: std counts no reads, and promises of none that it succeeds.
+/// Each read is one read of the reader. No clause can say so of a reader that reports nothing, nor of a read that
+/// failed: std counts no reads, and doesn't promise that any succeeds.
 #[derive(Drop)]
 pub struct ReadSource<R> {
     inner: R,

@@ -1,4 +1,4 @@
-//! Bytes written whole.
+//! Writing all of some bytes.
 ghost use Rattle.std.specs.Prelude.{OnOk};
 ghost use Rattle.std.specs.Io.KnownBytes.{Appends};
 ghost use Rattle.av1_streams.specs.Faults.{HasCause};
@@ -6,7 +6,7 @@ ghost use Rattle.av1_streams.specs.Streams.{AppendsPrefix};
 
 use crate::{Failed, Sink};
 
-/// The answer of a call that could not write all of its bytes.
+/// The error of a call that could not write all of its bytes.
 #[derive(Clone, Copy, Debug, PartialEq, Eq)]
 pub struct WriteFault;
 
@@ -16,8 +16,8 @@ impl From<Failed> for WriteFault {
     }
 }
 
-/// Appends the bytes to the sink, in as many writes as it asks for. The first write that fails ends
-/// the call, and a prefix of the bytes stands.
+/// Appends the bytes to the sink, in as many writes as it needs. The first write that fails ends the call; then a
+/// prefix of the bytes was appended.
 pub fn write_bytes<W: Sink>(sink: &mut W, bytes: &[u8]) -> Result<(), WriteFault>
     ensures whole { OnOk result (Appends (W.taken sink.old) (W.taken sink.new) bytes.now) }
     ensures prefix { AppendsPrefix (W.taken sink.old) (W.taken sink.new) bytes.now }

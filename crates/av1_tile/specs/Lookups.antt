@@ -1,5 +1,5 @@
--- What the slow walk looks up has been written before, at each of its steps and at its end: no sample that is absent
--- counts as 0.
+-- At each of its steps and at its end, the slow walk looks up only samples that were written before. So no missing
+-- sample counts as 0.
 use Rattle.std.specs.Prelude.{◌≡◌, ℕ, suc, ◌+◌, ◌-◌, ◌<◌, ◌&&◌, ◌||◌, Bool, true, nat_lt, min, None, List, ◌∷◌}
 use Rattle.std.specs.Prelude.{◌++◌, is_some}
 use Rattle.std.specs.List.{fold}
@@ -27,22 +27,21 @@ use Rattle.av1_tile.specs.Walk.{answer_right, answer_low, has_edge}
 abbrev pub IsThere : Written → (x y : ℕ) → Type 0
 IsThere written x y = is_some (written x y) ≡ true
 
--- Round a block: the first sample above it where it isn't in the first row, the first to the left of it where it isn't
--- in the first column, and their corner. These are all that its edge looks up where it doesn't ask whether they are
--- there: in the first row the sample to the left stands for those above, and in the first column the one above for
--- those to the left.
+-- The samples that the edge of a block looks up without a test whether they were written: the first one above (unless
+-- the block is in row 0), the first one to the left (unless it is in column 0), and their corner. In row 0 the sample
+-- to the left replaces the samples above. In column 0 the sample above replaces the samples to the left.
 pub record EdgeIsThere (written : Written) (a : VisibleArea) : Type 0 where
   pub above : (y : ℕ) → a.y ≡ suc y → IsThere written a.x y
   pub left : (x : ℕ) → a.x ≡ suc x → IsThere written x a.y
   pub corner : (x y : ℕ) → a.x ≡ suc x → a.y ≡ suc y → IsThere written x y
 
--- the samples of luma that a leaf's chroma is predicted from
+-- the luma samples that a leaf's chroma is predicted from were written
 abbrev pub LumaIsThere : Header → Written → LumaBlock → Type 0
 LumaIsThere h written leaf =
     (x y : ℕ) → x < columns_read (chroma_block (luma_of h leaf)) → y < rows_read (chroma_block (luma_of h leaf)) →
     IsThere written (first_luma_column (luma_of h leaf) + x) (first_luma_row (luma_of h leaf) + y)
 
--- what a prediction looks up
+-- the samples that a prediction looks up were written
 abbrev pub PredictionFinds : Header → Canvas → Component → PlaneBlock → VisibleArea → Prediction → Type 0
 PredictionFinds h canvas k block a (predictions.Intra mode step filter) = EdgeIsThere (canvas k) a
 PredictionFinds h canvas k block a (predictions.FromLuma alpha) =
@@ -50,32 +49,32 @@ PredictionFinds h canvas k block a (predictions.FromLuma alpha) =
 PredictionFinds h canvas k block a (predictions.Inter motion) = Unit {0}
 PredictionFinds h canvas k block a (predictions.Parts parts) = Unit {0}
 
--- what a step looks up: what its prediction does, or each sample that it adds to
+-- the samples that a step looks up were written: those of its prediction, or each sample that it adds to
 abbrev pub StepFinds : Header → Canvas → Component → Step → Type 0
 StepFinds h canvas k (predict block n a) = PredictionFinds h canvas k block a block.prediction
 StepFinds h canvas k (add block triples n a) = (x y : ℕ) → in_visible a x y ≡ true → IsThere (canvas k) x y
 
--- P of each step of a plan and of the canvas that the steps before it left
+-- P holds at each step of a plan, for the canvas that the steps before it left
 abbrev pub AtEachStep : (Header → Canvas → Component → Step → Type 0) → PlanValue → Type 0
 AtEachStep P plan =
     (before later : List PlaneStep) (s : PlaneStep) → steps plan.header plan.leaves ≡ before ++ s ∷ later →
     P plan.header (fold (slow_step (scene plan)) blank before) s.component s.step
 
--- each step of a valid plan finds what it looks up
+-- Each step of a valid plan finds the samples that it looks up.
 abbrev pub StepsFindSamples : Type 0
 StepsFindSamples = (plan : PlanValue) → IsSpelled grammar plan → first_fault plan ≡ None → AtEachStep StepFinds plan
 
--- and at the end each visible sample is there
+-- At the end each coded sample was written.
 abbrev pub OutputIsThere : Type 0
 OutputIsThere =
     (plan : PlanValue) → IsSpelled grammar plan → first_fault plan ≡ None → (k : Component) (x y : ℕ)
     → x < plane_width plan.header (number k) → y < plane_height plan.header (number k) →
     IsThere (slow_walk plan k) x y
 
--- ---- what else of the sides is there
+-- ---- the other samples of the sides
 
--- Of the sides of a block just those samples are there that lie in the frame and beside the block, or past it where
--- they may be taken.
+-- Which samples at the sides of a block were written: exactly the ones that lie in the frame and are next to the
+-- block, or past its end if `right` (above) or `low` (to the left) is true.
 pub record KnowsSides (extent : PlaneExtent) (written : Written) (a : VisibleArea) (right low : Bool) : Type 0 where
   pub some_columns : 0 < a.width
   pub some_rows : 0 < a.height
@@ -89,7 +88,7 @@ pub record KnowsSides (extent : PlaneExtent) (written : Written) (a : VisibleAre
       (nat_lt 0 a.x && nat_lt (a.y + i) extent.height && (nat_lt i a.height || low))
   pub corner : 0 < a.x → 0 < a.y → is_some (written (a.x - 1) (a.y - 1)) ≡ true
 
--- where a step predicts from the samples round a block, those are there that the tables of availability tell
+-- if a step predicts from the samples round a block, exactly those were written that the availability tables name
 abbrev pub StepIsAnswered : Header → Canvas → Component → Step → Type 0
 StepIsAnswered h canvas k (predict block n a) =
     has_edge block.prediction ≡ true →
@@ -97,7 +96,7 @@ StepIsAnswered h canvas k (predict block n a) =
     (answer_low h (number k) block n a)
 StepIsAnswered h canvas k (add block triples n a) = Unit {0}
 
--- the tables answer what coding order has, at each step of a valid plan
+-- At each step of a valid plan the availability tables agree with the samples that were written.
 abbrev pub StepsAreAnswered : Type 0
 StepsAreAnswered =
     (plan : PlanValue) → IsSpelled grammar plan → first_fault plan ≡ None → AtEachStep StepIsAnswered plan

@@ -16,17 +16,17 @@ use Rattle.av1_tile.specs.PlaneBlocks.{number}
 use Rattle.av1_tile.specs.Reference.{Scene, slow_walk, walk_of}
 use Rattle.av1_tile.specs.Walk.{ServesScene, samples_of}
 
--- what callers see of the memory of a walk: how many cells of 4 by 4 luma samples it has a record for, and how many
--- edges were prepared in it
+-- what callers see of the memory of a walk: the number of cells of 4x4 luma samples that it has a record for, and the
+-- number of edges that were prepared in it
 pub record WalkRoom : Type 0 where
   pub cells : ℕ
   pub edges : ℕ
 
--- it has one for each cell of a frame
+-- the memory has a record for each cell of a frame
 abbrev pub HasRoomFor : Header → WalkRoom → Type 0
 HasRoomFor h room = coded_height h / 4 * (coded_width h / 4) ≤ room.cells
 
--- a valid plan with this header and these leaves, whose references the frame settings serve
+-- a valid plan with this header and these leaves; the frame settings serve its references
 pub record IsPlanOver {T : Type 0} (num : T → ℕ) (h : Header) (own : List LeafValue) (fi : FrameInvariants T)
     (plan : PlanValue) : Type 0 where
   pub spelled : ∥ IsSpelled grammar plan ∥₁
@@ -35,7 +35,7 @@ pub record IsPlanOver {T : Type 0} (num : T → ℕ) (h : Header) (own : List Le
   pub leaves : plan.leaves ≡ own
   pub references : ServesPlan num plan fi
 
--- a valid plan with this header and these leaves, walked as a scene whose motion the references of a tile serve
+-- a valid plan with this header and these leaves, and a scene whose motion the references of a tile serve
 pub record IsTileOver {T : Type 0} (num : T → ℕ) (h : Header) (own : List LeafValue) (from : TileReferences T)
     (scene : Scene) (plan : PlanValue) : Type 0 where
   pub spelled : ∥ IsSpelled grammar plan ∥₁
@@ -45,13 +45,13 @@ pub record IsTileOver {T : Type 0} (num : T → ℕ) (h : Header) (own : List Le
   pub same : scene.header ≡ h
   pub references : ServesScene num scene from
 
--- planes show what a scene with these leaves comes to, at each sample that is shown
+-- the planes show the result of a scene with these leaves, at each shown sample
 abbrev pub ShowsScene : {T : Type 0} → (T → ℕ) → Scene → List LeafValue → Planes T → Type 0
 ShowsScene num scene leaves planes =
     (k : Component) (x y : ℕ) → x < shown_columns scene.header (number k) → y < shown_rows scene.header (number k) →
     samples_of num planes k x y ≡ sample_of (walk_of scene leaves k x y)
 
--- planes show what a plan comes to, at each sample that is shown
+-- the planes show the result of a plan, at each shown sample
 abbrev pub ShowsPlan : {T : Type 0} → (T → ℕ) → PlanValue → Planes T → Type 0
 ShowsPlan num plan planes =
     (k : Component) (x y : ℕ) → x < shown_columns plan.header (number k) → y < shown_rows plan.header (number k) →

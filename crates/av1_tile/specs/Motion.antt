@@ -35,7 +35,7 @@ use Rattle.av1_tile.specs.declared.references.TileReferences.{TileReferences}
 
 -- ---- the motion of a leaf
 
--- from one reference, and from two
+-- the motion from one reference, and then from two
 abbrev pub from_one : PredictionMode → RefType → MotionVector → Motion
 from_one mode reference mv = record {
   mode = mode;
@@ -54,11 +54,11 @@ motion_of (Compound mode references mvs) = Some (from_two mode references mvs)
 
 -- ---- the references of a plan
 
--- the samples of plane p of a slot, row by row: none where the slot carries no planes
+-- the samples of plane p of a slot, row by row; none if the slot carries no planes
 abbrev pub slot_samples : PlanValue → (slot p : ℕ) → List ℕ
 slot_samples value slot p = unwrap_or (carried_plane value slot p) []
 
--- plane p of a slot, as motion compensation reads it: what is shown of it
+-- plane p of a slot, as motion compensation reads it: its shown part
 abbrev pub reference_plane : PlanValue → (slot p : ℕ) → ReferencePlane
 reference_plane value slot p = record {
   width = shown_columns value.header p;
@@ -68,7 +68,7 @@ reference_plane value slot p = record {
   sample = λ x y. slice_index (slot_samples value slot p) (y * shown_columns value.header p + x);
 }
 
--- the slot that a reference names: reference n, from 1 to 7, names the header's slot in place n - 1
+-- the slot that a reference names: reference n, from 1 to 7, names the slot at place n - 1 of the header's list
 abbrev pub slot_in : Header → RefType → ℕ
 slot_in h reference = slice_index h.slots (reference_number reference - 1)
 
@@ -78,7 +78,7 @@ slot_in h reference = slice_index h.slots (reference_number reference - 1)
 abbrev pub leaf_area : PlaneArea → VisibleArea
 leaf_area a = record { x = a.x; y = a.y; width = block_width a.size; height = block_height a.size }
 
--- the filter of a frame along a side of such a rectangle: in the third version AV1's, before it rav1e's
+-- the filter of a frame along a side of a rectangle: AV1's in the third version, rav1e's before it
 abbrev pub plan_filter : Header → (side : ℕ) → FilterMode
 plan_filter h = mode_along (follows_av1 h) h.filter
 
@@ -86,13 +86,13 @@ plan_filter h = mode_along (follows_av1 h) h.filter
 abbrev pub visible_in : StoredArea → VisibleArea
 visible_in a = record { x = a.x; y = a.y; width = a.width; height = a.height }
 
--- the sample at row r and column c of an area of plane p that a vector predicts from a reference
+-- the sample at row r and column c of an area of plane p that a vector predicts from one reference
 abbrev pub single_motion : PlanValue → (p : ℕ) → RefType → MotionVector → VisibleArea → (r c : ℕ) → ℕ
 single_motion value p reference mv area r c =
     single_prediction value.header.depth (plan_filter value.header)
     (reference_plane value (slot_in value.header reference) p) mv area r c
 
--- and that two vectors predict, each from its reference
+-- the sample that two vectors predict there, each from its reference
 abbrev pub compound_motion : PlanValue → (p : ℕ) → List RefType → List MotionVector → VisibleArea → (r c : ℕ) → ℕ
 compound_motion value p references mvs area r c =
     compound_prediction value.header.depth (plan_filter value.header)
@@ -100,18 +100,18 @@ compound_motion value p references mvs area r c =
     (reference_plane value (slot_in value.header (reference_in references 1)) p)
     (vector_of mvs 0) (vector_of mvs 1) area r c
 
--- the sample that a motion predicts there: from two references where the second is one, or else from the first
+-- the sample that a motion predicts there: from two references if it has a second one, else from the first
 abbrev pub plan_motion : PlanValue → (p : ℕ) → Motion → VisibleArea → (r c : ℕ) → ℕ
 plan_motion plan p motion area r c =
     if is_reference (reference_in motion.references 1) then
     compound_motion plan p motion.references motion.mvs area r c
     else single_motion plan p (reference_in motion.references 0) (vector_of motion.mvs 0) area r c
 
--- ---- the frame settings that hold them
+-- ---- the frame settings that hold the references
 
--- These samples, row by row, are those of a plane that stores what is shown of plane p of a frame, padded for blocks of
--- sides up to 64 in luma: their filters reach 7 samples past a side. Where the plane is halved, the sides of blocks
--- are, and so are its pads.
+-- The plane stores these samples, row by row, as the shown part of plane p of a frame. Its pads are at least 80 luma
+-- samples: blocks have sides up to 64, and their filters reach 7 samples further. In a direction in which the plane is
+-- halved, blocks and pads are halved.
 pub record HoldsPlane {T : Type 0} (num : T → ℕ) (h : Header) (p : ℕ) (samples : List ℕ)
     (plane : Plane T) : Type 0 where
   pub padded : IsPadded num plane
@@ -135,8 +135,8 @@ pub record HasSettings {T : Type 0} (h : Header) (fi : FrameInvariants T) : Type
   pub edge_filter : fi.enable_intra_edge_filter ≡ h.edge_filter
   pub slots : fi.ref_frames ≡ h.slots
 
--- The frame has the settings of the plan's header, its slots are filled exactly where the plan's mask has them, and
--- what fills them are the plan's planes.
+-- The frame has the settings of the plan's header. A slot is filled exactly if the plan's mask has it, and then it
+-- holds the plan's planes.
 pub record HoldsReferences {T : Type 0} (num : T → ℕ) (value : PlanValue) (fi : FrameInvariants T) : Type 0 where
   pub settings : HasSettings value.header fi
   pub depth : IsDepth fi.bit_depth
@@ -154,9 +154,8 @@ pub record PredictsAs {T : Type 0} (h : Header) (fi : FrameInvariants T) : Type 
   pub filter : fi.default_filter ≡ h.filter
   pub short_by_av1 : fi.short_by_av1 ≡ follows_av1 h
 
--- The frame predicts as the plan's header says, and each reference that the header has names a filled slot of the
--- frame, with the planes of the plan's slot. In which slots the frame keeps planes, and which others it keeps, is not
--- asked.
+-- The frame predicts as the plan's header says. Each reference that the header has names a filled slot of the frame,
+-- with the planes of the plan's slot. The frame may keep these planes in any of its slots, and may keep others.
 pub record ServesPlan {T : Type 0} (num : T → ℕ) (value : PlanValue) (fi : FrameInvariants T) : Type 0 where
   pub settings : PredictsAs value.header fi
   pub depth : IsDepth fi.bit_depth
@@ -169,12 +168,12 @@ pub record ServesPlan {T : Type 0} (num : T → ℕ) (value : PlanValue) (fi : F
 
 -- ---- a tile in its frame
 
--- the rectangle of plane p of its frame that a tile is
+-- the rectangle of plane p of its frame that a tile covers
 abbrev pub rect_of : {T : Type 0} → TileReferences T → (p : ℕ) → TileRect
 rect_of from zero = from.luma
 rect_of from (suc p) = from.chroma
 
--- a rectangle, so many columns and rows further
+-- a rectangle, moved by `columns` and `rows`
 abbrev pub shifted : (columns rows : ℕ) → VisibleArea → VisibleArea
 shifted columns rows a = record { x = columns + a.x; y = rows + a.y; width = a.width; height = a.height }
 
@@ -182,7 +181,7 @@ shifted columns rows a = record { x = columns + a.x; y = rows + a.y; width = a.w
 abbrev pub in_frame : (tile : TileRect) → VisibleArea → VisibleArea
 in_frame tile a = shifted tile.x tile.y a
 
--- whose places can be counted with a sign
+-- the rectangle's positions in the frame are less than 2 ^ 63
 pub record IsPlaced (tile : TileRect) (a : VisibleArea) : Type 0 where
   pub columns : tile.x + (a.x + a.width) < 2 ^ 63
   pub rows : tile.y + (a.y + a.height) < 2 ^ 63

@@ -47,27 +47,27 @@ component zero = Y
 component (suc zero) = U
 component n = V
 
--- the sides of a plane that are coded, by its number, and the depth of its samples
+-- the width and height of the coded part of a plane, by its number, and the depth of its samples
 abbrev pub extent_of : Header → ℕ → PlaneExtent
 extent_of h plane = record { width = plane_width h plane; height = plane_height h plane; depth = h.depth }
 
--- and those that are shown
+-- the width and height of its shown part, and the depth
 abbrev pub shown_of : Header → ℕ → PlaneExtent
 shown_of h plane = record { width = shown_columns h plane; height = shown_rows h plane; depth = h.depth }
 
--- the planes that a leaf covers a part of, in their order
+-- the planes in which a leaf has a block, in their order
 abbrev pub components_of : Header → LeafValue → List Component
 components_of h leaf = if carries_chroma h leaf.x leaf.y leaf.size then Y ∷ U ∷ V ∷ [] else Y ∷ []
 
--- ---- what is told of neighbours
+-- ---- the neighbours of a leaf
 
--- the chroma mode of an intra leaf; one that carries no chroma is asked for it by no plane
+-- the chroma mode of an intra leaf. For a leaf that carries no chroma it is DC_PRED, which no plane looks up
 abbrev pub chroma_mode_of : Option ChromaMode → PredictionMode
 chroma_mode_of (Some (Plain mode step)) = mode
 chroma_mode_of (Some (Cfl alpha_u alpha_v)) = UV_CFL_PRED
 chroma_mode_of None = DC_PRED
 
--- what later leaves are told of a leaf
+-- what later leaves look up of a leaf: its modes and its references
 abbrev pub coded_info : LeafKind → CodedBlockInfo
 coded_info (Intra mode step chroma) =
     record { luma_mode = mode; chroma_mode = chroma_mode_of chroma; reference_types = INTRA_FRAME ∷ NONE_FRAME ∷ [] }
@@ -76,18 +76,18 @@ coded_info (Single mode reference mv) =
 coded_info (Compound mode references mvs) =
     record { luma_mode = mode; chroma_mode = mode; reference_types = references }
 
--- what is told of the leaf of these whose area in plane p holds the sample at column x of row y
+-- the modes and references of the leaf, of these, whose area in plane p holds the sample at column x of row y
 abbrev pub told_of : Header → (p : ℕ) → List LeafValue → (x y : ℕ) → Option CodedBlockInfo
 told_of h p leaves x y = option_map (λ (l : LeafValue). coded_info l.kind) (area_of h p leaves x y)
 
--- the neighbour above the first sample of an area of plane p, among the leaves before, and the one to its left
+-- the neighbour above the first sample of an area of plane p, among the earlier leaves; then the one to its left
 abbrev pub neighbour_above : Header → (p : ℕ) → List LeafValue → PlaneArea → Option CodedBlockInfo
 neighbour_above h p earlier a = if nat_lt 0 a.y then told_of h p earlier a.x (a.y - 1) else None
 
 abbrev pub neighbour_left : Header → (p : ℕ) → List LeafValue → PlaneArea → Option CodedBlockInfo
 neighbour_left h p earlier a = if nat_lt 0 a.x then told_of h p earlier (a.x - 1) a.y else None
 
--- what the edge filter is told of both, where it is on
+-- the neighbours' parameters for the edge filter, if the filter is on
 abbrev pub filter_parameters : Header → (p : ℕ) → (above left : Option CodedBlockInfo) →
     Option IntraEdgeFilterParameters
 filter_parameters h p above left = if h.edge_filter then Some (parameters_of p above left) else None
@@ -103,27 +103,27 @@ intra_in filter U mode step (Some (Cfl alpha_u alpha_v)) = predictions.FromLuma 
 intra_in filter V mode step (Some (Cfl alpha_u alpha_v)) = predictions.FromLuma alpha_v
 intra_in filter component mode step None = predictions.Intra DC_PRED (pos 0) filter
 
--- how a leaf with this motion does: in parts, where others share its block, or else by its own
+-- how an inter leaf predicts a block: in parts if leaves share the block, else by its own motion
 abbrev pub shared : Option MotionParts → Motion → Prediction
 shared (Some parts) own = predictions.Parts parts
 shared None own = predictions.Inter own
 
--- how a leaf predicts a plane, of which the leaves before it say `near`
+-- how a leaf predicts a plane; `near` is what the earlier leaves say
 abbrev pub prediction_in : Nearby → Component → LeafKind → Prediction
 prediction_in near component (Intra mode step chroma) = intra_in near.filter component mode step chroma
 prediction_in near component (Single mode reference mv) = shared near.parts (from_one mode reference mv)
 prediction_in near component (Compound mode references mvs) = shared near.parts (from_two mode references mvs)
 
--- the type of its transforms
+-- the type of a leaf's transforms in a plane
 abbrev pub type_in : Component → LeafValue → TxType
 type_in Y leaf = leaf.tx_type
 type_in component leaf = unwrap_or leaf.uv_type DCT_DCT
 
--- its triples
+-- the triples of a leaf in a plane
 abbrev pub triples_in : Component → LeafValue → List Triple
 triples_in component leaf = slice_index_or leaf.triples (number component) []
 
--- its block in a plane, of which the leaves before it say so much
+-- a leaf's block in a plane, if the earlier leaves say `near`
 abbrev pub block_told : Header → Nearby → Component → LeafValue → PlaneBlock
 block_told h near component leaf = record {
   plane = number component;
@@ -133,23 +133,23 @@ block_told h near component leaf = record {
   tx_type = type_in component leaf;
 }
 
--- what the edge filter is told at a leaf, behind the leaves before it
+-- the neighbours' parameters for the edge filter at a leaf, after the earlier leaves
 abbrev pub told_at : Header → (earlier : List LeafValue) → Component → LeafValue → Option IntraEdgeFilterParameters
 told_at h earlier component leaf =
     let p = number component in
     let a = plane_area h leaf.x leaf.y leaf.size leaf.tx_size p in
     filter_parameters h p (neighbour_above h p earlier a) (neighbour_left h p earlier a)
 
--- all that the leaves before it say of its block: that, and its parts
+-- what the earlier leaves say of a leaf's block: these parameters, and its parts
 abbrev pub near_at : Header → (earlier : List LeafValue) → Component → LeafValue → Nearby
 near_at h earlier component leaf =
     record { filter = told_at h earlier component leaf; parts = parts_in h earlier (number component) leaf }
 
--- a leaf's block in a plane, behind the leaves before it
+-- a leaf's block in a plane, after the earlier leaves
 abbrev pub plane_block : Header → (earlier : List LeafValue) → Component → LeafValue → PlaneBlock
 plane_block h earlier component leaf = block_told h (near_at h earlier component leaf) component leaf
 
--- whether it is predicted from references, over its whole area at once
+-- whether a block is predicted from references, over its whole area at once
 abbrev pub is_whole : Prediction → Bool
 is_whole (predictions.Intra mode step filter) = false
 is_whole (predictions.FromLuma alpha) = false

@@ -1,4 +1,4 @@
--- The predictions of a plan: the canvas of its Predict steps alone, beside the canvas of all its steps.
+-- The predictions of a plan: a canvas that only its Predict steps write, next to the canvas of all its steps.
 -- AV1 specification: prediction processes, as the decode block syntax calls them.
 use Rattle.std.specs.Prelude.{ℕ, ◌+◌, ◌*◌, ◌≡◌, List, map, replicate, Some, ℤ}
 use Rattle.std.specs.List.{fold}
@@ -31,7 +31,7 @@ pub record Progress : Type 0 where
   pub canvas : Canvas
   pub predictions : Canvas
 
--- what a step leaves of the predictions of its plane: a Predict step draws what it predicts, an Add step nothing
+-- the predictions of a plane after a step: a Predict step draws what it predicts, an Add step changes nothing
 unfoldable pub predictions_in : Scene → Canvas → Component → Step → Written → Written
 predictions_in scene canvas component (predict block n a) before =
     drawn a (λ r c _. Some (predicted scene canvas component block a r c)) before
@@ -49,17 +49,17 @@ slow_progress scene p s = record {
 abbrev pub no_progress : Progress
 no_progress = record { canvas = blank; predictions = blank }
 
--- what every Predict step of the plan has left
+-- the predictions after all steps of a plan
 unfoldable pub slow_predictions : PlanValue → Canvas
 slow_predictions plan = (fold (slow_progress (scene plan)) no_progress (steps plan.header plan.leaves)).predictions
 
--- the bytes of the predictions of what is shown of the planes
+-- the bytes of the predictions of the shown part of the planes
 unfoldable pub predictions_of : PlanValue → List ℕ
 predictions_of plan = visible plan.header (λ component x y. sample_of (slow_predictions plan component x y))
 
--- ---- what the walk keeps of them
+-- ---- the predictions that the walk keeps
 
--- the predictions of a plane, and all of them with others in place of that plane's
+-- the kept predictions of a plane; then all of them, with others in place of that plane's
 abbrev pub rows_in : {T : Type 0} → Component → PredictedPlanes T → SampleRows T
 rows_in Y kept = kept.y
 rows_in U kept = kept.u
@@ -70,25 +70,26 @@ with_rows Y kept rows = record kept { y = rows }
 with_rows U kept rows = record kept { u = rows }
 with_rows V kept rows = record kept { v = rows }
 
--- a rectangle of visible samples, where their rows are all that is stored
+-- a rectangle of visible samples, in a buffer that has only the rows of visible samples
 abbrev pub stored_in : VisibleArea → StoredArea
 stored_in a = record { x = a.x; y = a.y; width = a.width; height = a.height }
 
--- rows of visible samples with those of a plane's rectangle a in place of their own
+-- rows of visible samples, after the rectangle a of a plane is copied into them
 abbrev pub copied : {T : Type 0} → (T → ℕ) → (ℕ → T) → Plane T → StoredArea → SampleRows T → SampleRows T
 copied num pixel plane a rows = record {
   width = rows.width;
   samples = paint rows.width a (λ r c _. pixel (sample_at num plane (a.x + c) (a.y + r))) rows.samples;
 }
 
--- what is kept after a step that has left plane p so: of a Predict step its rectangle, of an Add step nothing more
+-- the kept predictions after a step that has left plane p as `plane`: a Predict step copies its rectangle, an Add step
+-- nothing
 unfoldable pub kept_in : {T : Type 0} → (T → ℕ) → (ℕ → T) → (p : ℕ) → Plane T → PredictedPlanes T → Step →
     PredictedPlanes T
 kept_in num pixel p plane kept (predict block n a) =
     with_rows (component p) kept (copied num pixel plane (stored_in a) (rows_in (component p) kept))
 kept_in num pixel p plane kept (add block triples n a) = kept
 
--- what the walk has beside the planes: the predictions that it keeps, and how many edges it has prepared
+-- what the walk has apart from the planes: the predictions that it keeps, and the number of edges that it has prepared
 pub record Gathered (T : Type 0) : Type 0 where
   pub predictions : PredictedPlanes T
   pub edges : ℕ
@@ -96,12 +97,12 @@ pub record Gathered (T : Type 0) : Type 0 where
 abbrev pub gathered : {T : Type 0} → PredictedPlanes T → ℕ → Gathered T
 gathered predictions edges = record { predictions = predictions; edges = edges }
 
--- both after a step that has left plane p so
+-- both after a step that has left plane p as `plane`
 abbrev pub gathered_in : {T : Type 0} → (T → ℕ) → (ℕ → T) → (p : ℕ) → Plane T → Gathered T → Step → Gathered T
 gathered_in num pixel p plane b step =
     gathered (kept_in num pixel p plane b.predictions step) (edges_in b.edges step)
 
--- a plane, or all three, and that
+-- a plane, or all three, with what was gathered
 abbrev pub Keeping : (X T : Type 0) → Type 0
 Keeping X T = X × Gathered T
 
@@ -111,8 +112,8 @@ unfoldable pub keeping_in : {T : Type 0} → (T → ℕ) → (ℕ → T) → Sce
 keeping_in num pixel scene p luma s step =
     let plane = fast_in num pixel scene p luma s.0 step in (plane, gathered_in num pixel p plane s.1 step)
 
--- what steps of a block make of both, in any scene with this header; `luma` is how far luma is from its mean, row by
--- row
+-- `after` is the result of these steps of a block, in any scene with this header. `luma` holds the distance of luma
+-- from its mean, row by row.
 abbrev pub WalksKeeping : {T : Type 0} → (T → ℕ) → (ℕ → T) → Header → PlaneBlock → (luma : List ℤ) → List Step →
     (before after : Keeping (Plane T) T) → Type 0
 WalksKeeping num pixel h block luma steps before after =
@@ -128,9 +129,9 @@ keeping_step num pixel scene s step =
     let planes = fast_step num pixel scene s.0 step in
     (planes, gathered_in num pixel (number step.component) (plane_of step.component planes) s.1 step.step)
 
--- ---- what callers see of it
+-- ---- what callers see of the predictions
 
--- zeros for each sample that is shown of a plane, and of all three
+-- zeros for each shown sample of a plane, and then of all three planes
 abbrev pub no_rows : {T : Type 0} → (ℕ → T) → Header → (p : ℕ) → SampleRows T
 no_rows pixel h p =
     record { width = shown_columns h p; samples = replicate (shown_rows h p * shown_columns h p) (pixel 0) }
@@ -140,7 +141,7 @@ pub record AreBlank {T : Type 0} (pixel : ℕ → T) (h : Header) (kept : Predic
   pub u : kept.u ≡ no_rows pixel h 1
   pub v : kept.v ≡ no_rows pixel h 2
 
--- the predictions of each plane are those of a plan, row by row
+-- the kept predictions of each plane are those of a plan, row by row
 abbrev pub ShowsPredictions : {T : Type 0} → (T → ℕ) → PlanValue → PredictedPlanes T → Type 0
 ShowsPredictions num plan kept =
     (k : Component) → map num (rows_in k kept).samples ≡

@@ -40,8 +40,9 @@ use Rattle.av1_tile.specs.Steps.{Step, predict, add, PlaneStep, steps}
 
 -- ---- prediction
 
--- The sample at row r and column c of the rectangle a that is predicted by an intra mode: `edge m step` is its edge for
--- the mode m in effect, and `luma` how far luma is from its mean.
+-- The sample at row r and column c of the rectangle a, predicted by an intra mode. `edge m step` is its edge for the
+-- mode m in effect. `luma` is how far luma is from its mean. `visible_columns` and `visible_rows` count what is left of
+-- the extent from a on. For UV_CFL_PRED, p is alpha, and `p_angle` is not used.
 abbrev pub by_mode : PlaneExtent → Option IntraEdgeFilterParameters → PredictionMode → IntraParam → VisibleArea →
     (edge : PredictionMode → ℤ → Edge) → (luma : ℕ → ℕ → ℤ) → (r c : ℕ) → ℕ
 by_mode extent filter mode param a edge luma r c =
@@ -57,12 +58,12 @@ by_mode extent filter mode param a edge luma r c =
       visible_rows = extent.height - a.y;
     }) (variant_at a.x a.y) m p luma (edge m (step_of param)) r c
 
--- luma has no luma to be predicted from
+-- the distance of luma from its mean for a block that does not read luma: 0
 abbrev pub no_luma : ℕ → ℕ → ℤ
 no_luma r c = pos 0
 
--- What is walked: the header of a frame, or of a tile as a frame of its own, and what motions predict in it:
--- `motion p m a r c` is the sample at row r and column c of the rectangle a of plane p.
+-- The header of a frame, or of a tile as a frame of its own; `motion p m a r c` is the sample that the motion m
+-- predicts at row r and column c of the rectangle a of plane p.
 pub record Scene : Type 0 where
   pub header : Header
   pub motion : (p : ℕ) → Motion → VisibleArea → (r c : ℕ) → ℕ
@@ -71,7 +72,7 @@ pub record Scene : Type 0 where
 abbrev pub scene : PlanValue → Scene
 scene plan = record { header = plan.header; motion = plan_motion plan }
 
--- a rectangle that g predicts; or, where it has two columns of parts, f its left half and g the right one
+-- What g predicts of a rectangle. If the rectangle has two columns of parts, f predicts its left half and g the right
 abbrev pub beside : (narrow : Bool) → (f g : VisibleArea → ℕ → ℕ → ℕ) → VisibleArea → (r c : ℕ) → ℕ
 beside false f g a r c = g a r c
 beside true f g a r c =
@@ -79,7 +80,7 @@ beside true f g a r c =
     if nat_lt c w then f (record a { width = w }) r c
     else g (record a { x = a.x + w; width = a.width - w }) r (c - w)
 
--- and, where it has two rows of them, f the upper half and g the lower one
+-- What g predicts of a rectangle. If the rectangle has two rows of parts, f predicts its upper half and g the lower
 abbrev pub above : (low : Bool) → (f g : VisibleArea → ℕ → ℕ → ℕ) → VisibleArea → (r c : ℕ) → ℕ
 above false f g a r c = g a r c
 above true f g a r c =
@@ -87,13 +88,13 @@ above true f g a r c =
     if nat_lt r n then f (record a { height = n }) r c
     else g (record a { y = a.y + n; height = a.height - n }) (r - n) c
 
--- a rectangle that is predicted in parts, by what the motion of each predicts
+-- a rectangle that is predicted in parts, each part by its own motion
 abbrev pub parts_motion : (motion : Motion → VisibleArea → ℕ → ℕ → ℕ) → MotionParts → VisibleArea → (r c : ℕ) → ℕ
 parts_motion motion parts =
     above parts.low (beside parts.narrow (motion parts.corner) (motion parts.over))
     (beside parts.narrow (motion parts.side) (motion parts.own))
 
--- The sample that is predicted there, in plane p of a scene.
+-- The sample that a prediction gives at row r and column c of the rectangle a of plane p of a scene.
 unfoldable pub by_prediction : Scene → (p : ℕ) → Prediction → VisibleArea → (edge : PredictionMode → ℤ → Edge) →
     (luma : ℕ → ℕ → ℤ) → (r c : ℕ) → ℕ
 by_prediction scene p (predictions.Intra mode step filter) a edge luma r c =
@@ -103,7 +104,8 @@ by_prediction scene p (predictions.FromLuma alpha) a edge luma r c =
 by_prediction scene p (predictions.Inter motion) a edge luma r c = scene.motion p motion a r c
 by_prediction scene p (predictions.Parts parts) a edge luma r c = parts_motion (scene.motion p) parts a r c
 
--- a leaf of a frame, as chroma from luma sees it
+-- a leaf of a frame, as chroma from luma reads it: `visible_width` and `visible_height` are those of the coded luma
+-- plane
 abbrev pub luma_of : Header → LumaBlock → LumaLeaf
 luma_of h leaf = record {
   x = leaf.x;
@@ -116,13 +118,13 @@ luma_of h leaf = record {
   ydec = ydec h 1;
 }
 
--- how far the luma of a leaf's block is from its mean, for the planes of chroma: `luma x y` is the sample at column x
--- of row y
+-- how far luma is from its mean, for each chroma sample of a leaf's block; `luma x y` is the luma sample at column x of
+-- row y
 abbrev pub luma_for : Header → (luma : ℕ → ℕ → ℕ) → Component → PlaneBlock → (r c : ℕ) → ℤ
 luma_for h luma Y = λ block. no_luma
 luma_for h luma component = λ block. leaf_difference luma (luma_of h block.leaf)
 
--- the sample at row r and column c of the rectangle a of a block, from the samples that have been written
+-- the sample that a block predicts at row r and column c of the rectangle a, from the samples that have been written
 unfoldable pub predicted : Scene → Canvas → Component → PlaneBlock → VisibleArea → (r c : ℕ) → ℕ
 predicted scene canvas component block a r c =
     let h = scene.header in
@@ -131,28 +133,28 @@ predicted scene canvas component block a r c =
     (λ mode step. edge (extent_of h p) h.edge_filter (canvas component) mode step a)
     (luma_for h (λ x y. sample_of (canvas Y x y)) component block) r c
 
--- ---- residue
+-- ---- residual
 
--- the list of coefficients with a triple's value at its place, if the triple is one of this block
+-- the list of coefficients with a triple's value at its place, if the triple belongs to transform block n
 abbrev pub with_triple : ℕ → List ℤ → Triple → List ℤ
 with_triple n coefficients t = if t.block == n then slice_set coefficients t.place t.value else coefficients
 
--- the coefficients of a transform block: those of its triples at their places, and 0 at all others
+-- the coefficients of transform block n: the values of its triples at their places, and 0 at all others
 unfoldable pub coefficients : TxSize → (n : ℕ) → List Triple → List ℤ
 coefficients size n triples = fold (with_triple n) (replicate (coded_area size) (pos 0)) triples
 
--- what is added to the sample at row r and column c of transform block n: by AV1's rule of identities, or by rav1e's
+-- the residual at row r and column c of transform block n, by AV1's rule for identities or by rav1e's
 unfoldable pub block_residue : (by_av1 : Bool) (depth : ℕ) → PlaneBlock → List Triple → (n r c : ℕ) → ℤ
 block_residue by_av1 depth block triples n r c =
     residue_by by_av1 block.area.tx_size block.tx_type depth (coefficients block.area.tx_size n triples) r c
 
--- what a sample is with z added: clipped to the depth
+-- the sample v with z added, clipped to the depth
 abbrev pub added : (depth : ℕ) → ℕ → ℤ → ℕ
 added depth v z = clip depth (pos v +ℤ z)
 
 -- ---- the walk
 
--- what a step writes in its plane: each sample of its rectangle is predicted, or has its residue added
+-- what a step writes in its plane: it predicts each sample of its rectangle, or adds the residual to each
 unfoldable pub slow_in : Scene → Canvas → Component → Step → Written
 slow_in scene canvas component (predict block n a) =
     drawn a (λ r c _. Some (predicted scene canvas component block a r c)) (canvas component)
@@ -169,6 +171,6 @@ slow_step scene canvas s = with_written s.component (slow_in scene canvas s.comp
 unfoldable pub walk_of : Scene → List LeafValue → Canvas
 walk_of scene leaves = fold (slow_step scene) blank (steps scene.header leaves)
 
--- and after every step of a plan
+-- the canvas after every step of a plan
 unfoldable pub slow_walk : PlanValue → Canvas
 slow_walk plan = walk_of (scene plan) plan.leaves

@@ -16,8 +16,9 @@ use Rattle.av1_tile.specs.Reference.{slow_walk}
 use Rattle.av1_tile.specs.Steps.{steps}
 use Rattle.av1_tile.specs.Walk.{plane_of, StoresAll, HasRoom, AreFilledWith, edges_after}
 
--- what callers see of a state: the header of the plan that was reconstructed last (before the first that of the one
--- that it was made for), the references that it holds, its planes, and how many edges were prepared in it
+-- what callers see of a state: the header of the plan that was reconstructed last, the references that it holds, its
+-- planes, and the number of edges that were prepared in it. Before the first plan, the header is the one that the state
+-- was made for.
 pub record Picture (T : Type 0) : Type 0 where
   pub header : Header
   pub references : FrameInvariants T
@@ -36,7 +37,7 @@ state_planes s = s.planes
 abbrev pub state_edges : {T : Type 0} → Picture T → ℕ
 state_edges s = s.edges
 
--- the planes store the frame, in whole superblocks
+-- the planes store the frame, padded to whole superblocks
 pub record IsSound {T : Type 0} (num : T → ℕ) (s : Picture T) : Type 0 where
   pub stores : StoresAll num s.header s.planes
   pub room : HasRoom s.header s.planes
@@ -48,7 +49,7 @@ pub record AreAlike (h k : Header) : Type 0 where
   pub depth : h.depth ≡ k.depth
   pub sampling : h.sampling ≡ k.sampling
 
--- frame settings with what a header says of prediction in place of their own, and the same slots
+-- frame settings with a header's filters and reference slots in place of their own; the rest is unchanged
 abbrev pub with_settings : {T : Type 0} → Header → FrameInvariants T → FrameInvariants T
 with_settings h fi =
     record fi {
@@ -64,7 +65,7 @@ pub record MadeFor {T : Type 0} (num : T → ℕ) (plan : PlanValue) (s : Pictur
   pub layout : AreAlike s.header plan.header
   pub references : HoldsReferences num plan (with_settings plan.header s.references)
 
--- the count of prepared edges once a plan has been reconstructed: one more for each prediction from an edge
+-- the number of prepared edges after a plan was reconstructed: one more for each prediction from an edge
 abbrev pub edges_of : ℕ → PlanValue → ℕ
 edges_of count plan = fold edges_after count (steps plan.header plan.leaves)
 
@@ -72,19 +73,19 @@ edges_of count plan = fold edges_after count (steps plan.header plan.leaves)
 abbrev pub shown : {T : Type 0} → (T → ℕ) → Picture T → Component → ℕ → ℕ → ℕ
 shown num s k x y = sample_at num (plane_of k s.planes) x y
 
--- row y of what is shown of plane p
+-- row y of the shown part of plane p of a state
 abbrev pub state_row : {T : Type 0} → (T → ℕ) → Picture T → ℕ → ℕ → List ℕ
 state_row num s p y = by_index (shown_of s.header p).width (λ x. shown num s (component p) x y)
 
--- and that row of what a plan comes to
+-- row y of the shown part of plane p of a plan
 abbrev pub plan_row : PlanValue → (p y : ℕ) → List ℕ
 plan_row plan p y = by_index (shown_of plan.header p).width (λ x. sample_of (slow_walk plan (component p) x y))
 
--- the state shows what the plan comes to, row by row
+-- the state shows the result of the plan, row by row
 abbrev pub ShowsRows : {T : Type 0} → (T → ℕ) → PlanValue → Picture T → Type 0
 ShowsRows num plan s = (p y : ℕ) → p < 3 → y < (shown_of plan.header p).height →
     state_row num s p y ≡ plan_row plan p y
 
--- each stored sample of its planes is this one
+-- each stored sample of its planes is `value`
 abbrev pub IsFilledWith : {T : Type 0} → T → Picture T → Type 0
 IsFilledWith value s = AreFilledWith value s.planes

@@ -1,5 +1,5 @@
--- The walk's own words: what one step does to the planes in memory, where edges are read by place and no record is kept
--- of what was written, and what its functions ask of planes, blocks and leaves.
+-- The definitions of the walk in memory: what a step does to the planes, and what the functions of the walk require of
+-- planes, blocks and leaves. Edges are read by position, and nothing records which samples were written.
 use Rattle.std.specs.Prelude.{ℕ, ◌+◌, ◌-◌, ◌*◌, ◌/◌, ◌%◌, ◌^◌, ◌<◌, ◌≤◌, ◌≡◌, [], ◌∷◌, ◌++◌, true, false, Bool, ◌&&◌}
 use Rattle.std.specs.Prelude.{List, All, IsTrue, min, nat_lt, if◌then◌else◌, Option, Some, None, ℤ, pos, length}
 use Rattle.std.specs.Prelude.{slice_index_or, unsigned_abs, IfSome}
@@ -71,8 +71,8 @@ use Rattle.av1_tile.specs.Steps.{Step, predict, add, PlaneStep, steps_of}
 
 -- ---- edges by place
 
--- The edge of the rectangle a, of samples s, for a mode that is in effect; `right` and `low` say whether the samples
--- above right and below left may be taken.
+-- The edge of the rectangle a for a mode in effect; `s x y` is the sample at column x of row y. `right` and `low` say
+-- whether the samples above right and below left may be read.
 abbrev pub edge_by_place : PlaneExtent → (s : ℕ → ℕ → ℕ) → (filter : Bool) → VisibleArea → (right low : Bool) →
     PredictionMode → ℤ → Edge
 edge_by_place extent s filter a right low mode step =
@@ -93,7 +93,7 @@ edge_by_place extent s filter a right low mode step =
 
 -- transform block n of a block, at the rectangle a of plane p
 module _ (h : Header) (p : ℕ) (block : PlaneBlock) (n : ℕ) (a : VisibleArea) where
-  -- the samples above right of it may be taken, and those below left of it
+  -- whether the samples above right of it may be read; then whether those below left may
   abbrev pub answer_right : Bool
   answer_right =
       takes_above_right block.leaf.size (block.leaf.x / 4)
@@ -135,7 +135,7 @@ plane_of Y planes = planes.y
 plane_of U planes = planes.u
 plane_of V planes = planes.v
 
--- the numbers of the samples of planes, by column and row
+-- the samples of planes as numbers, by plane, column and row
 abbrev pub samples_of : {T : Type 0} → (T → ℕ) → Planes T → Component → ℕ → ℕ → ℕ
 samples_of num planes = λ component x y. sample_at num (plane_of component planes) x y
 
@@ -151,9 +151,9 @@ fast_step num pixel scene planes s =
     with_plane s.component planes (fast_in num pixel scene (number s.component)
     (luma_for scene.header (sample_at num planes.y) s.component) (plane_of s.component planes) s.step)
 
--- ---- edges that are prepared
+-- ---- prepared edges
 
--- a block that is predicted from the samples round it
+-- whether a block is predicted from the samples round it
 abbrev pub has_edge : Prediction → Bool
 has_edge (predictions.Intra mode step filter) = true
 has_edge (predictions.FromLuma alpha) = true
@@ -170,7 +170,7 @@ edges_after count s = edges_in count s.step
 
 -- ---- planes
 
--- the plane has the sides and decimations of what is coded of plane p of a frame, what is shown lies in it, and its
+-- the plane has the width, height and decimations of the coded plane p of a frame, the shown part lies in it, and its
 -- samples fill its rows
 pub record IsPlaneOf {T : Type 0} (h : Header) (p : ℕ) (plane : Plane T) : Type 0 where
   pub whole : IsWhole plane
@@ -204,25 +204,24 @@ pub record StoresAll {T : Type 0} (num : T → ℕ) (h : Header) (planes : Plane
   pub u : Stores num h 1 planes.u
   pub v : Stores num h 2 planes.v
 
--- a plane of these settings has storage for plane p of the frame in whole superblocks, which have sides of 64 luma
--- samples
+-- a plane of these settings has storage for plane p of the frame, padded to whole superblocks of 64x64 luma samples
 pub record HasRoomIn (h : Header) (p : ℕ) (cfg : PlaneConfig) : Type 0 where
   pub columns : cfg.xorigin + next_multiple_of (plane_width h p) (64 / 2 ^ xdec h p) ≤ cfg.stride
   pub rows : cfg.yorigin + next_multiple_of (plane_height h p) (64 / 2 ^ ydec h p) ≤ cfg.alloc_height
 
--- and so has each plane
+-- each of the three planes has that storage
 pub record HasRoom {T : Type 0} (h : Header) (planes : Planes T) : Type 0 where
   pub y : HasRoomIn h 0 planes.y.plane_cfg
   pub u : HasRoomIn h 1 planes.u.plane_cfg
   pub v : HasRoomIn h 2 planes.v.plane_cfg
 
--- a plane of these settings stores so many samples of luma more on every side, in plane p half as many where it is
--- halved
+-- a plane of these settings has pads of `pad` luma samples on every side: half as many samples in a direction in which
+-- plane p is halved
 pub record HasPad (h : Header) (p pad : ℕ) (cfg : PlaneConfig) : Type 0 where
   pub columns : cfg.xpad ≡ pad / 2 ^ xdec h p
   pub rows : cfg.ypad ≡ pad / 2 ^ ydec h p
 
--- and so does each plane
+-- each of the three planes has these pads
 pub record HasPads {T : Type 0} (h : Header) (pad : ℕ) (planes : Planes T) : Type 0 where
   pub y : HasPad h 0 pad planes.y.plane_cfg
   pub u : HasPad h 1 pad planes.u.plane_cfg
@@ -234,7 +233,7 @@ pub record SameLayout {T : Type 0} (p q : Planes T) : Type 0 where
   pub u : q.u.plane_cfg ≡ p.u.plane_cfg
   pub v : q.v.plane_cfg ≡ p.v.plane_cfg
 
--- each stored sample of the three planes is this one
+-- each stored sample of the three planes is `value`
 pub record AreFilledWith {T : Type 0} (value : T) (planes : Planes T) : Type 0 where
   pub y : All (λ v. v ≡ value) planes.y.samples
   pub u : All (λ v. v ≡ value) planes.u.samples
@@ -242,12 +241,12 @@ pub record AreFilledWith {T : Type 0} (value : T) (planes : Planes T) : Type 0 w
 
 -- ---- blocks and leaves
 
--- a triple that stands in its block and fits the depth
+-- a triple that lies in its block and fits the depth
 pub record TripleFits (depth : ℕ) (block : PlaneBlock) (t : Triple) : Type 0 where
   pub place : t.place < coded_area block.area.tx_size
   pub value : FitsBits (depth + 8) t.value
 
--- the triples rise by their blocks
+-- the triples are sorted by their blocks
 abbrev pub AreRising : List Triple → Type 0
 AreRising triples = (i j : ℕ) (d : Triple) → i ≤ j → j < length triples →
     (slice_index_or triples i d).block ≤ (slice_index_or triples j d).block
@@ -257,7 +256,7 @@ abbrev pub area_at : PlaneBlock → BlockPlace → VisibleArea
 area_at block at =
     record { x = at.x; y = at.y; width = tx_width block.area.tx_size; height = tx_height block.area.tx_size }
 
--- a transform block of a leaf's block that begins in the visible plane, by its number, its column and its row
+-- a transform block of a leaf's block that begins in the coded plane; its number, column, row and position agree
 pub record IsPlaceIn (h : Header) (block : PlaneBlock) (at : BlockPlace) : Type 0 where
   pub column : at.column < blocks_across block.area
   pub number : at.number ≡ at.row * blocks_across block.area + at.column
@@ -269,13 +268,14 @@ pub record IsPlaceIn (h : Header) (block : PlaneBlock) (at : BlockPlace) : Type 
   pub few_columns : at.x < 2 ^ 16
   pub few_rows : at.y < 2 ^ 16
 
--- its edge, for a mode and its parameter
+-- the edge of a transform block, for a mode and its parameter
 abbrev pub edge_for : {T : Type 0} → Header → PlaneBlock → BlockPlace → PredictionMode → IntraParam → (num : T → ℕ) →
     Plane T → Edge
 edge_for h block at mode param num plane =
     placed_edge h block.plane block at.number (area_at block at) num plane (effective mode at.x at.y) (step_of param)
 
--- the sample at row r and column c that is predicted from it; `luma` is how far luma is from its mean, row by row
+-- the sample at row r and column c that is predicted from that edge; `luma` is how far luma is from its mean, row by
+-- row
 abbrev pub predicted_at : {T : Type 0} → Header → PlaneBlock → BlockPlace → EdgePrediction → (luma : List ℤ) →
     (num : T → ℕ) → Plane T → (r c : ℕ) → ℕ
 predicted_at h block at how luma num plane r c =
@@ -283,20 +283,21 @@ predicted_at h block at how luma num plane r c =
     (placed_edge h block.plane block at.number (area_at block at) num plane)
     (ac_at (tx_width block.area.tx_size) luma) r c
 
--- an intra mode that turns by few steps, or a small weight of luma, of which there is as much as the block has samples
+-- an intra mode with an angle delta of at most 3 steps, or a weight of luma of at most 16 eighths. For a weight, `luma`
+-- has a number for each sample of the block
 pub record EdgePredictionFits (block : PlaneBlock) (luma : List ℤ) (how : EdgePrediction) : Type 0 where
   pub intra : IsTrue (is_intra how.mode)
   pub few_steps : unsigned_abs (step_of how.param) ≤ 3
   pub small_weight : unsigned_abs (alpha_of how.param) ≤ 16
   pub luma_long : IsTrue (is_cfl how.mode) → tx_width block.area.tx_size * tx_height block.area.tx_size ≤ length luma
 
--- an intra mode that turns by few steps
+-- an intra mode other than chroma from luma, with an angle delta of at most 3 steps
 pub record ModeFits (mode : PredictionMode) (step : ℤ) : Type 0 where
   pub intra : IsTrue (is_intra mode)
   pub plain : is_cfl mode ≡ false
   pub few_steps : unsigned_abs step ≤ 3
 
--- a weight of luma, and an area that is one transform block with sides up to 32
+-- a weight of luma of at most 16 eighths, and transform blocks of at most 1024 samples
 pub record FromLumaFits (area : PlaneArea) (alpha : ℤ) : Type 0 where
   pub weight : unsigned_abs alpha ≤ 16
   pub few : tx_width area.tx_size * tx_height area.tx_size ≤ 1024
@@ -306,14 +307,14 @@ pub record ReferenceFits (h : Header) (reference : RefType) : Type 0 where
   pub other : IsOtherFrame reference
   pub has : IsTrue (has_reference h reference)
 
--- a motion that can be predicted: its mode is one of references, and each reference has a slot that carries planes
+-- a motion that can be predicted: its mode is an inter mode, and each of its references has a slot that carries planes
 pub record MotionServes (h : Header) (motion : Motion) : Type 0 where
   pub mode : is_intra motion.mode ≡ false
   pub first : ReferenceFits h (reference_of motion.references 0)
   pub second : is_reference (reference_of motion.references 1) ≡ true →
       ReferenceFits h (reference_of motion.references 1)
 
--- it predicts a rectangle of plane p with sides up to 64 samples of luma
+-- a motion that can be predicted for the rectangle a of plane p, whose sides are at most 64 luma samples
 pub record MotionFits (h : Header) (p : ℕ) (a : VisibleArea) (motion : Motion) : Type 0 where
   pub wide : a.width ≤ 64 / 2 ^ xdec h p
   pub high : a.height ≤ 64 / 2 ^ ydec h p
@@ -326,21 +327,21 @@ pub record PartsServe (h : Header) (parts : MotionParts) : Type 0 where
   pub side : MotionServes h parts.side
   pub own : MotionServes h parts.own
 
--- and so each part of a rectangle of plane p
+-- each part's motion can be predicted, for the rectangle a of plane p, whose sides are at most 64 luma samples
 pub record PartsFit (h : Header) (p : ℕ) (a : VisibleArea) (parts : MotionParts) : Type 0 where
   pub wide : a.width ≤ 64 / 2 ^ xdec h p
   pub high : a.height ≤ 64 / 2 ^ ydec h p
   pub serve : PartsServe h parts
 
--- a prediction of an area of plane p that can be made in a frame
+-- a prediction that can be made for an area of plane p
 abbrev pub PredictionFits : Header → (p : ℕ) → PlaneArea → Prediction → Type 0
 PredictionFits h p area (predictions.Intra mode step filter) = ModeFits mode step
 PredictionFits h p area (predictions.FromLuma alpha) = FromLumaFits area alpha
 PredictionFits h p area (predictions.Inter motion) = MotionFits h p (leaf_area area) motion
 PredictionFits h p area (predictions.Parts parts) = PartsFit h p (leaf_area area) parts
 
--- a block that is reconstructed: it lies in a plane's storage, its prediction and its transforms can be made, and its
--- triples fit and rise
+-- a block that can be reconstructed: it lies in a plane's storage, its prediction and its transforms can be made, and
+-- its triples fit and are sorted by their blocks
 pub record BlockFits (cfg : PlaneConfig) (h : Header) (block : PlaneBlock) (triples : List Triple) : Type 0 where
   pub columns : cfg.xorigin + (block.area.x + block_width block.area.size) ≤ cfg.stride
   pub rows : cfg.yorigin + (block.area.y + block_height block.area.size) ≤ cfg.alloc_height
@@ -354,8 +355,8 @@ pub record BlockFits (cfg : PlaneConfig) (h : Header) (block : PlaneBlock) (trip
 abbrev pub luma_block : LeafValue → LumaBlock
 luma_block leaf = record { x = leaf.x; y = leaf.y; size = leaf.size; tx_size = leaf.tx_size }
 
--- chroma of a leaf can be predicted from its luma: its block of chroma is one transform, and what is read lies in
--- storage
+-- the chroma of a leaf can be predicted from its luma: its chroma block is one transform, and the luma that it reads
+-- lies in storage
 pub record LumaFits (h : Header) (cfg : PlaneConfig) (leaf : LeafValue) : Type 0 where
   pub narrow : IsTrue (is_narrow leaf.size (xdec h 1)) → 4 ≤ leaf.x
   pub low : IsTrue (is_low leaf.size (ydec h 1)) → 4 ≤ leaf.y
@@ -373,18 +374,18 @@ pub record LumaFits (h : Header) (cfg : PlaneConfig) (leaf : LeafValue) : Type 0
       cfg.alloc_height
   pub depth : h.depth ≤ 12
 
--- a leaf's area in a plane begins in its visible part
+-- a leaf's area in a plane begins in the coded part
 pub record Begins (h : Header) (component : Component) (leaf : LeafValue) : Type 0 where
   pub column : (plane_area h leaf.x leaf.y leaf.size leaf.tx_size (number component)).x < plane_width h
       (number component)
   pub row : (plane_area h leaf.x leaf.y leaf.size leaf.tx_size (number component)).y < plane_height h (number component)
 
--- what the leaves before a leaf say of it: where it has parts, each of these can be predicted
+-- the parts that the earlier leaves give a leaf's block, if any, can be predicted
 abbrev pub NearServes : Header → Nearby → Type 0
 NearServes h near = IfSome near.parts (PartsServe h)
 
--- each of a leaf's blocks can be reconstructed in its plane, whatever the leaves before it say, and it serves later
--- ones
+-- each block of a leaf can be reconstructed in its plane, whatever the earlier leaves say, and the leaf's own motion
+-- can be predicted
 pub record LeafFits {T : Type 0} (h : Header) (planes : Planes T) (leaf : LeafValue) : Type 0 where
   pub begins_y : Begins h Y leaf
   pub begins_u : carries_chroma h leaf.x leaf.y leaf.size ≡ true → Begins h U leaf
@@ -401,36 +402,36 @@ pub record LeafFits {T : Type 0} (h : Header) (planes : Planes T) (leaf : LeafVa
 
 -- ---- the record of cells
 
--- what is told of the luma cell at column cx of row cy
+-- the modes and references that are recorded for the luma cell at column cx of row cy
 abbrev pub cell_at : CodedCells → (cx cy : ℕ) → CodedBlockInfo
 cell_at cells cx cy =
     slice_index_or cells.cells.items (cy * cells.columns + cx) (coded_info (Intra DC_PRED (pos 0) None))
 
--- the record is one of the frame's cells, and has room for each
+-- the record is laid out for the frame's cells, and has an entry for each
 pub record HasCells (h : Header) (cells : CodedCells) : Type 0 where
   pub columns : cells.columns ≡ coded_width h / 4
   pub rows : cells.rows ≡ coded_height h / 4
   pub filled : cells.rows * cells.columns ≤ length cells.cells.items
 
--- what is told of each luma cell
+-- the modes and references of each luma cell
 abbrev pub Told : Type 0
 Told = (cx cy : ℕ) → CodedBlockInfo
 
--- what is told once a leaf is noted in each of its cells
+-- the modes and references of the cells after a leaf is noted in each of its cells
 abbrev pub with_leaf : Told → LeafValue → Told
 with_leaf told leaf = λ cx cy. if leaf_holds leaf cx cy then coded_info leaf.kind else told cx cy
 
--- what is told of the sample at column x of row y of plane p: what is told of the last cell of the sample's unit
+-- what the record has for the sample at column x of row y of plane p: the entry of the last cell of the sample's unit
 abbrev pub told_by : Header → Told → (p x y : ℕ) → CodedBlockInfo
 told_by h told p x y = told (last_cell (xdec h p) x) (last_cell (ydec h p) y)
 
--- what the edge filter is told so at an area of plane p
+-- the neighbours' parameters for the edge filter at an area of plane p, by the record
 abbrev pub parameters_by : Header → Told → (p : ℕ) → PlaneArea → Option IntraEdgeFilterParameters
 parameters_by h told p a =
     filter_parameters h p (if nat_lt 0 a.y then Some (told_by h told p a.x (a.y - 1)) else None)
     (if nat_lt 0 a.x then Some (told_by h told p (a.x - 1) a.y) else None)
 
--- and at a leaf
+-- the parameters at a leaf's area in a plane
 abbrev pub filter_by : Header → Told → Component → LeafValue → Option IntraEdgeFilterParameters
 filter_by h told component leaf =
     parameters_by h told (number component) (plane_area h leaf.x leaf.y leaf.size leaf.tx_size (number component))
@@ -450,11 +451,11 @@ leaf_with l y u v = record {
 
 -- ---- leaves that share a block
 
--- of each luma cell the motion of the leaf that was noted last in it, where that is predicted from references
+-- for each luma cell, the motion of the last leaf that was noted in it; None if no leaf was, or if that leaf is intra
 abbrev pub Motions : Type 0
 Motions = (cx cy : ℕ) → Option Motion
 
--- none is noted yet; once a leaf is; and once leaves are, one after the other
+-- no motions; the motions after one more leaf; and the motions after these leaves
 abbrev pub no_motions : Motions
 no_motions = λ cx cy. None
 
@@ -464,11 +465,11 @@ with_motion motions leaf = λ cx cy. if leaf_holds leaf cx cy then motion_of lea
 abbrev pub motions_of : List Leaf → Motions
 motions_of leaves = fold (λ motions leaf. with_motion motions (leaf_with leaf [] [] [])) no_motions leaves
 
--- each can be predicted
+-- each of the motions can be predicted
 abbrev pub MotionsServe : Header → Motions → Type 0
 MotionsServe h motions = (cx cy : ℕ) → IfSome (motions cx cy) (MotionServes h)
 
--- the parts of a leaf's block in plane p
+-- the parts of a leaf's block in plane p, by these motions
 abbrev pub parts_by : Header → Motions → (p : ℕ) → LeafValue → Option MotionParts
 parts_by h motions p leaf =
     parts_at (is_narrow leaf.size (xdec h p)) (is_low leaf.size (ydec h p)) (with_motion motions leaf) (leaf.x / 4)
@@ -476,16 +477,16 @@ parts_by h motions p leaf =
 
 -- ---- steps by what is known
 
--- what is known of the leaves before one
+-- what is known of the leaves before a leaf
 pub record Known : Type 0 where
   pub told : Told
   pub motions : Motions
 
--- no leaf came before, whatever the record of cells tells
+-- no leaf came before; the record of cells may hold anything
 abbrev pub at_start : Told → Known
 at_start told = record { told = told; motions = no_motions }
 
--- one more leaf came, and more
+-- what is known after one more leaf, and after several
 abbrev pub with_known : Known → LeafValue → Known
 with_known known leaf =
     record { told = with_leaf known.told leaf; motions = with_motion known.motions leaf }
@@ -493,7 +494,7 @@ with_known known leaf =
 abbrev pub with_all_known : Known → List LeafValue → Known
 with_all_known known leaves = fold with_known known leaves
 
--- what it says of a leaf's block in a plane, the block, and its steps
+-- what the known leaves say of a leaf's block in a plane; then the block, and the leaf's steps
 abbrev pub near_by : Header → Known → Component → LeafValue → Nearby
 near_by h known component leaf = record {
   filter = filter_by h known.told component leaf;
@@ -506,15 +507,15 @@ block_by h known component leaf = block_told h (near_by h known component leaf) 
 abbrev pub leaf_steps_by : Header → Known → LeafValue → List PlaneStep
 leaf_steps_by h known leaf = steps_of h (λ component. block_by h known component leaf) leaf
 
--- the steps of leaves in coding order, each known once it is reconstructed
+-- the steps of leaves in coding order; each leaf is known to the leaves after it
 abbrev pub steps_by : Header → Known → List LeafValue → List PlaneStep
 steps_by h known [] = []
 steps_by h known (leaf ∷ leaves) = leaf_steps_by h known leaf ++ steps_by h (with_known known leaf) leaves
 
 -- ---- the references
 
--- What leaves from references predict of the scene is what the references of a tile have: those of a plan, read from
--- the tile's place in the frame on. In what motion reads of a header that plan's frame and the scene agree.
+-- The references of a tile give what inter leaves predict in the scene. They are the references of a plan, read from
+-- the tile's position in the frame. The plan's header and the scene's agree in all that motion reads of a header.
 pub record ServesScene {T : Type 0} (num : T → ℕ) (scene : Scene) (from : TileReferences T) : Type 0 where
   pub plan : PlanValue
   pub serves : ServesPlan num plan from.fi.now
@@ -529,8 +530,8 @@ pub record ServesScene {T : Type 0} (num : T → ℕ) (scene : Scene) (from : Ti
 
 -- ---- the frame that is walked
 
--- its header is one that can be read, of a depth that samples of so many bits have; the record is one of its cells, its
--- references serve a scene with that header, and so do the leaves before
+-- The header can be read, and its depth fits samples of `bits` bits. The record is laid out for the frame's cells. The
+-- references serve a scene with this header, and so do the motions of the earlier leaves.
 pub record IsWalked {T : Type 0} (num : T → ℕ) (bits : ℕ) (frame : WalkedFrame T) : Type 0 where
   pub header : IsReadFrame frame.header.now
   pub depth : frame.header.now.depth ≤ bits
@@ -538,30 +539,30 @@ pub record IsWalked {T : Type 0} (num : T → ℕ) (bits : ℕ) (frame : WalkedF
   pub references : (value : Scene) × ServesScene num (with_header frame.header.now value) frame.from.now
   pub motions : MotionsServe frame.header.now (motions_of frame.earlier.now)
 
--- plane p of a frame that can be read, of a depth that samples of so many bits have
+-- plane p of a frame that can be read; its depth fits samples of `bits` bits
 pub record IsWalkedPlane {T : Type 0} (num : T → ℕ) (bits : ℕ) (h : Header) (p : ℕ) (plane : Plane T) : Type 0 where
   pub frame : IsReadFrame h
   pub depth : h.depth ≤ bits
   pub stores : Stores num h p plane
 
--- and so each plane of it
+-- the three planes of such a frame
 pub record AreWalkedPlanes {T : Type 0} (num : T → ℕ) (bits : ℕ) (h : Header) (planes : Planes T) : Type 0 where
   pub frame : IsReadFrame h
   pub depth : h.depth ≤ bits
   pub stores : StoresAll num h planes
 
--- the plane after steps: it goes on storing its part of the frame, laid out as before
+-- the plane after some steps: it still stores its part of the frame, laid out as before
 pub record KeepsPlane {T : Type 0} (num : T → ℕ) (h : Header) (p : ℕ) (before after : Plane T) : Type 0 where
   pub stores : Stores num h p after
   pub config : after.plane_cfg ≡ before.plane_cfg
 
--- and so each of the three
+-- each of the three planes does so
 pub record KeepsPlanes {T : Type 0} (num : T → ℕ) (h : Header) (before after : Planes T) : Type 0 where
   pub stores : StoresAll num h after
   pub layout : SameLayout before after
 
--- what steps of a block make of its plane, in any scene with this header; `luma` is how far luma is from its mean, row
--- by row
+-- `after` is the result of these steps of a block in its plane, in any scene with this header. `luma` holds the
+-- distance of luma from its mean, row by row.
 abbrev pub Walks : {T : Type 0} → (T → ℕ) → (ℕ → T) → Header → PlaneBlock → (luma : List ℤ) → List Step →
     (before after : Plane T) → Type 0
 Walks num pixel h block luma steps before after =
@@ -570,10 +571,10 @@ Walks num pixel h block luma steps before after =
     fold (fast_in num pixel (with_header h value) block.plane (λ _. ac_at (tx_width block.area.tx_size) luma))
     before steps
 
--- what it knows of the leaves before
+-- what a walked frame knows of the earlier leaves
 abbrev pub known_in : {T : Type 0} → WalkedFrame T → Known
 known_in frame = record { told = cell_at frame.cells.now; motions = motions_of frame.earlier.now }
 
--- a leaf's block in plane p of it
+-- a leaf's block in plane p of a walked frame
 abbrev pub block_in : {T : Type 0} → WalkedFrame T → (p : ℕ) → Leaf → PlaneBlock
 block_in frame p leaf = block_by frame.header.now (known_in frame) (component p) (leaf_with leaf [] [] [])

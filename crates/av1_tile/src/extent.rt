@@ -1,8 +1,9 @@
-//! Width, height and depth of the visible part of a plane.
+//! Width, height and depth of a part of a plane.
 
 use av1_plan::Header;
 
-/// Width and height of the visible part of a plane in samples, and the depth of its samples in bits.
+/// Width and height of a part of a plane in samples (its coded or its visible part), and the depth of its samples in
+/// bits.
 #[derive(Clone, Copy, Debug, PartialEq, Eq)]
 pub struct PlaneExtent {
     /// The number of columns.
@@ -17,7 +18,7 @@ impl PlaneExtent {
     ghost use Rattle.std.specs.Prelude.{◌≡◌};
     ghost use Rattle.av1_tile.specs.PlaneBlocks.{extent_of};
 
-    /// The visible part of plane `p` of a plan's frame: 0 for Y, 1 for U and 2 for V.
+    /// The coded part of plane `p` of a plan's frame: 0 for Y, 1 for U and 2 for V.
     pub fn of_plane(header: &Header, p: usize) -> PlaneExtent
         ensures { result ≡ extent_of header.now p }
     {

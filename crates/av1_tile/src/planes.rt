@@ -35,7 +35,7 @@ fn pad_of(pad: usize, decimation: usize) -> usize
 /// A plane of zeros with the coded width and height of plane `p` (0 for Y, 1 for U and 2 for V) of a frame, and a pad
 /// of `pad` luma samples on every side: half as many samples in a direction in which the plane is halved.
 ///
-/// The storage is that of whole superblocks. The only error is running out of memory.
+/// It has storage for whole superblocks. The only error is running out of memory.
 fn plane_of_frame<T: Pixel>(
     alloc: Global,
     header: &Header,

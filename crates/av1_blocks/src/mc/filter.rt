@@ -27,8 +27,7 @@ impl FilterMode {
     }
 }
 
-/// The filters are those of AV1, and the weights of each sum to 128, so that samples which are all
-/// equal stay as they are.
+/// The filters are those of AV1, and the weights of each sum to 128. So samples that are all equal stay the same.
 pub fn filters_are_whole()
     ensures size { SUBPEL_FILTER_SIZE ≡ 8 }
     ensures value { SUBPEL_FILTERS ≡ subpel_filters }

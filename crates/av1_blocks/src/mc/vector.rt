@@ -33,7 +33,7 @@ impl MotionVector {
         }
     }
 
-    /// Nothing moves.
+    /// Whether the vector is zero.
     #[inline]
     pub fn is_zero(self) -> bool
         ensures { IsTrue result ↔ ((self.row ≡ pos 0) × (self.col ≡ pos 0)) }
@@ -41,8 +41,7 @@ impl MotionVector {
         self.row == 0 && self.col == 0
     }
 
-    /// Both components lie strictly between -16384 and 16384, as those of every vector in a
-    /// bitstream do.
+    /// Whether both components lie strictly between -16384 and 16384, as in every vector of a bitstream.
     #[inline]
     #[tactic(auto, unfolding(crate::specs::Vectors::is_valid_vector))]
     pub fn is_valid(self) -> bool
@@ -52,7 +51,7 @@ impl MotionVector {
     }
 }
 
-/// Strictly between the bounds of a component.
+/// Whether a component lies strictly between its bounds.
 #[inline]
 #[tactic(auto, unfolding(crate::specs::Vectors::is_valid_component))]
 fn is_valid_component(component: i16) -> bool

@@ -50,7 +50,7 @@ impl BlockSize {
     ///
     /// # Errors
     ///
-    /// `InvalidBlockSize` exactly where no block has these sides.
+    /// `InvalidBlockSize` exactly if no block has these sides.
     #[inline]
     pub fn from_width_and_height_opt(w: usize, h: usize) -> Result<BlockSize, InvalidBlockSize>
         ensures sides { IfOk result (λ b. (block_width b ≡ w) × (block_height b ≡ h)) }
@@ -83,7 +83,7 @@ impl BlockSize {
         }
     }
 
-    /// The size with these sides in luma samples, which some block has.
+    /// The size with these sides in luma samples; some block has them.
     pub fn from_width_and_height(w: usize, h: usize) -> BlockSize
         requires { HasBlockSides w h }
         ensures width { block_width result ≡ w }
@@ -93,7 +93,7 @@ impl BlockSize {
         BlockSize::from_width_and_height_opt(w, h).unwrap()
     }
 
-    /// Both sides are at most 32 luma samples, so that chroma may be predicted from luma.
+    /// Whether both sides are at most 32 luma samples, so that chroma may be predicted from luma.
     #[inline]
     #[tactic(auto, unfolding(crate::specs::Blocks::cfl_allowed))]
     pub fn cfl_allowed(self) -> bool
@@ -212,7 +212,7 @@ impl BlockSize {
         (self.height() >> IMP_B_LOG2).max(1)
     }
 
-    /// The greatest transform of the block: of its own sides, or 64 by 64 where a side is 128.
+    /// The greatest transform of the block: with the block's sides, or 64x64 if a side is 128.
     #[inline]
     pub fn tx_size(self) -> TxSize
         ensures { result ≡ block_tx_size self }
@@ -240,7 +240,7 @@ impl BlockSize {
         }
     }
 
-    /// Both sides are equal.
+    /// Whether both sides are equal.
     #[inline]
     pub fn is_sqr(self) -> bool
         ensures { result ≡ is_square self }
@@ -248,8 +248,7 @@ impl BlockSize {
         self.width_log2() == self.height_log2()
     }
 
-    /// The block may have a transform that is no square: it is no square itself, and no side is
-    /// 128.
+    /// Whether the block may have a transform that isn't square: the block itself isn't square, and no side is 128.
     pub fn is_rect_tx_allowed(self) -> bool
         ensures { result ≡ is_rect_tx_allowed self }
     {
@@ -267,14 +266,14 @@ impl BlockSize {
     }
 }
 
-/// How many sizes there are.
+/// The numbers of sizes.
 pub fn block_size_counts()
     ensures all { BlockSize.BLOCK_SIZES_ALL ≡ 22 }
     ensures near_square { BlockSize.BLOCK_SIZES ≡ 16 }
 {}
 
-/// How two sizes compare: equal exactly where they are one, less exactly where no side is greater
-/// and they are not one, and not at all exactly where one side is greater and the other less.
+/// The order of two sizes. They are equal exactly if they are the same. One is less exactly if none of its sides is
+/// greater and they aren't the same. They have no order exactly if one side is greater and the other less.
 pub fn sizes_compare_by_sides(a: BlockSize, b: BlockSize)
     ensures equal { (product_cmp a b ≡ Some Equal) ↔ (a ≡ b) }
     ensures less { (product_cmp a b ≡ Some Less) ↔ (IsNoGreater a b × (a ≢ b)) }
@@ -282,11 +281,10 @@ pub fn sizes_compare_by_sides(a: BlockSize, b: BlockSize)
     ensures none { (product_cmp a b ≡ None) ↔ (IsWiderAndLower a b ⊎ IsWiderAndLower b a) }
 {}
 
-/// The logarithm to base 2 of the side of the squares in which importance is counted, in luma
-/// samples.
+/// The logarithm to base 2 of the side of the squares in which importance is counted, in luma samples.
 const IMP_B_LOG2: usize = 3;
 
-/// The product order: a block is less where no side is greater and one is less.
+/// The product order: a block is less if none of its sides is greater and one is less.
 impl PartialOrd for BlockSize {
     ghost use Rattle.av1_blocks.specs.BlockOrder.{product_order};
 

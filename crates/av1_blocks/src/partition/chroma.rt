@@ -23,8 +23,8 @@ impl BlockSize {
     ///
     /// # Errors
     ///
-    /// `InvalidBlockSize` for a block that is taller than wide where only the columns are
-    /// decimated, and for decimations other than (0, 0), (1, 0) and (1, 1).
+    /// `InvalidBlockSize` for a block that is taller than wide if only the columns are decimated, and for decimations
+    /// other than (0, 0), (1, 0) and (1, 1).
     #[inline]
     pub fn subsampled_size(self, xdec: usize, ydec: usize) -> Result<BlockSize, InvalidBlockSize>
         ensures value { result ≡ subsampled_size self xdec ydec }
@@ -38,7 +38,7 @@ impl BlockSize {
         }
     }
 
-    /// The block of half the columns and as many rows.
+    /// The block with half the columns and as many rows.
     #[inline]
     fn with_half_the_columns(self) -> Result<BlockSize, InvalidBlockSize>
         ensures { result ≡ halved_columns self }
@@ -61,7 +61,7 @@ impl BlockSize {
         })
     }
 
-    /// The block of half the columns and half the rows.
+    /// The block with half the columns and half the rows.
     #[inline]
     fn with_half_the_sides(self) -> BlockSize
         ensures { result ≡ halved self }
@@ -87,7 +87,7 @@ impl BlockSize {
         }
     }
 
-    /// The transform of chroma under this luma block, as it is coded.
+    /// The transform of the chroma under this luma block, as it is coded.
     #[inline]
     pub fn largest_chroma_tx_size(self, xdec: usize, ydec: usize) -> TxSize
         requires { IsOk (subsampled_size self xdec ydec) }
@@ -97,8 +97,7 @@ impl BlockSize {
         coded_tx_size(plane_block.tx_size())
     }
 
-    /// In a decimated direction the block has only 4 luma samples, so that its chroma is less than
-    /// 4.
+    /// Whether the block has only 4 luma samples in a decimated direction, so that its chroma has fewer than 4.
     #[inline]
     pub fn is_sub8x8(self, xdec: usize, ydec: usize) -> bool
         ensures { result ≡ (is_narrow self xdec || is_low self ydec) }
@@ -106,8 +105,8 @@ impl BlockSize {
         xdec != 0 && self.width_log2() == 2 || ydec != 0 && self.height_log2() == 2
     }
 
-    /// In cells, how far to the right and down the block begins that chroma belongs to: -1 in each
-    /// direction in which this block's own chroma is less than 4 samples, else 0.
+    /// In cells, how far to the right and down the block to which the chroma belongs begins: -1 in each direction in
+    /// which this block's own chroma has fewer than 4 samples, else 0.
     #[inline]
     pub fn sub8x8_offset(self, xdec: usize, ydec: usize) -> (isize, isize)
         ensures across { result.0 ≡ (if is_narrow self xdec then negsuc 0 else pos 0) }
@@ -127,8 +126,8 @@ impl BlockSize {
     }
 }
 
-/// The luma block that chroma of this block belongs to: at least 8 samples in each decimated
-/// direction. The decimations are 0 or 1.
+/// The luma block to which the chroma of this block belongs: at least 8 samples in each decimated direction. The
+/// decimations are 0 or 1.
 pub fn supersample_chroma_bsize(bsize: BlockSize, ss_x: usize, ss_y: usize) -> BlockSize
     requires across { ss_x ≤ 1 }
     requires down { ss_y ≤ 1 }

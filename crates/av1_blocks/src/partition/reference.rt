@@ -44,7 +44,7 @@ impl RefType {
         self as usize - 1
     }
 
-    /// The number is below 5: the forward references, and `INTRA_FRAME`.
+    /// Whether the number is below 5: the forward references, and `INTRA_FRAME`.
     #[inline]
     pub fn is_fwd_ref(self) -> bool
         ensures { result ≡ nat_lt (reference_number self) 5 }
@@ -52,7 +52,7 @@ impl RefType {
         (self as usize) < 5
     }
 
-    /// The number is 5 or more: the backward references, and `NONE_FRAME`.
+    /// Whether the number is 5 or more: the backward references, and `NONE_FRAME`.
     #[inline]
     pub fn is_bwd_ref(self) -> bool
         ensures { result ≡ nat_le 5 (reference_number self) }
@@ -61,7 +61,7 @@ impl RefType {
     }
 }
 
-/// The numbers of the pairs of references in one direction, and how many pairs there are.
+/// The numbers of the pairs of references in one direction, and the number of these pairs.
 pub fn reference_pairs()
     ensures last_last2_frames { LAST_LAST2_FRAMES ≡ 0 }
     ensures last_last3_frames { LAST_LAST3_FRAMES ≡ 1 }
@@ -77,7 +77,7 @@ pub fn reference_pairs()
     ensures total_comp_refs { TOTAL_COMP_REFS ≡ 21 }
 {}
 
-/// How many references and frame slots there are, and the references to other frames.
+/// The numbers of references and frame slots, and the references to other frames.
 pub fn reference_counts()
     ensures fwd_refs { FWD_REFS ≡ 4 }
     ensures bwd_refs { BWD_REFS ≡ 3 }
@@ -91,8 +91,7 @@ pub fn reference_counts()
     ensures all_inter_refs { ALL_INTER_REFS ≡ inter_references }
 {}
 
-/// The contexts in which motion vectors are coded: how many there are, and where they stand in one
-/// number.
+/// The contexts in which motion vectors are coded: their numbers, and their positions in one number.
 pub fn motion_contexts()
     ensures newmv_mode_contexts { NEWMV_MODE_CONTEXTS ≡ 7 }
     ensures globalmv_mode_contexts { GLOBALMV_MODE_CONTEXTS ≡ 2 }

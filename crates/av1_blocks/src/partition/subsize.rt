@@ -9,14 +9,13 @@ use crate::partition::PartitionType::{self, *};
 use crate::partition::{InvalidBlockSize, RAV1E_PARTITION_TYPES};
 
 impl BlockSize {
-    /// The size of a partition's parts. Where `PARTITION_HORZ_A` and its like cut one half once
-    /// more, it is the size of the halves.
+    /// The size of a partition's parts. If the partition (such as `PARTITION_HORZ_A`) cuts one half once more, it is
+    /// the size of the halves.
     ///
     /// # Errors
     ///
-    /// `InvalidBlockSize` for `PARTITION_INVALID`, and where a partition other than
-    /// `PARTITION_NONE` would cut a block that is no square, or would leave a part that is no
-    /// block.
+    /// `InvalidBlockSize` for `PARTITION_INVALID`. Also for any partition other than `PARTITION_NONE` if the block
+    /// isn't square, or if the part would have sides that no block has.
     pub fn subsize(self, partition: PartitionType) -> Result<BlockSize, InvalidBlockSize>
         ensures value { result ≡ subsize self partition }
         ensures tiles { IfOk result (Tiles self partition) }

@@ -1,4 +1,4 @@
-//! What the prediction modes have.
+//! The properties of prediction modes.
 #![tactic(auto)]
 
 ghost use Rattle.std.specs.Prelude.{◌≡◌, pos, if◌then◌else◌, length, slice_get, Some};
@@ -24,8 +24,8 @@ use crate::predict::{
     RAV1E_INTRA_MODES,
 };
 
-/// The angle of a directional mode in degrees, from the row above counter-clockwise: 90 is from
-/// above and 180 from the left. Every other mode has 0.
+/// The angle of a directional mode in degrees, counter-clockwise from the row above: 90 is from above and 180 from the
+/// left. It is 0 for every other mode.
 pub fn intra_mode_to_angle(mode: PredictionMode) -> isize
     ensures { result ≡ intra_mode_to_angle mode }
 {
@@ -61,7 +61,7 @@ impl PredictionMode {
         self as u8
     }
 
-    /// The mode takes two references.
+    /// Whether the mode has two references.
     #[inline]
     pub fn is_compound(self) -> bool
         ensures { result ≡ is_compound self }
@@ -69,7 +69,7 @@ impl PredictionMode {
         self >= NEAREST_NEARESTMV
     }
 
-    /// The mode takes a vector of a near neighbour, by its place in the list of candidates.
+    /// Whether the mode has a vector of a near neighbour, by its place in the list of candidates.
     #[inline]
     pub fn has_nearmv(self) -> bool
         ensures { result ≡ has_nearmv self }
@@ -91,7 +91,7 @@ impl PredictionMode {
         )
     }
 
-    /// The mode takes a vector that is coded anew.
+    /// Whether the mode has a vector that is coded anew.
     #[inline]
     pub fn has_newmv(self) -> bool
         ensures { result ≡ has_newmv self }
@@ -111,7 +111,7 @@ impl PredictionMode {
         )
     }
 
-    /// The place of the near vector in the list of candidates, and 1 for the modes that have none.
+    /// The place of the near vector in the list of candidates, and 1 for modes without one.
     #[inline]
     pub fn ref_mv_idx(self) -> usize
         ensures { result ≡ ref_mv_idx self }
@@ -123,7 +123,7 @@ impl PredictionMode {
         }
     }
 
-    /// The mode takes no reference.
+    /// Whether the mode has no reference.
     #[inline]
     pub fn is_intra(self) -> bool
         ensures { result ≡ is_intra self }
@@ -131,7 +131,7 @@ impl PredictionMode {
         self < NEARESTMV
     }
 
-    /// The mode is chroma from luma.
+    /// Whether the mode is chroma from luma.
     #[inline]
     pub fn is_cfl(self) -> bool
         ensures { result ≡ is_cfl self }
@@ -139,7 +139,7 @@ impl PredictionMode {
         self == UV_CFL_PRED
     }
 
-    /// The mode has an angle.
+    /// Whether the mode has an angle.
     #[inline]
     pub fn is_directional(self) -> bool
         ensures { result ≡ is_directional self }
@@ -147,7 +147,7 @@ impl PredictionMode {
         self >= V_PRED && self <= D67_PRED
     }
 
-    /// How many angles the mode has: the seven from 3 steps below its own to 3 above, or one.
+    /// The number of angles of the mode: seven, from 3 steps below its own to 3 above, or one.
     #[inline]
     pub fn angle_delta_count(self) -> i8
         ensures { result ≡ (if is_directional self then pos 7 else pos 1) }
@@ -156,7 +156,7 @@ impl PredictionMode {
     }
 }
 
-/// How many modes there are, the step of an angle in degrees, and the modes that rav1e tries.
+/// The number of modes, the step of an angle in degrees, and the modes that rav1e tries.
 pub fn mode_constants()
     ensures prediction_modes { PREDICTION_MODES ≡ 34 }
     ensures angle_step { ANGLE_STEP ≡ pos 3 }

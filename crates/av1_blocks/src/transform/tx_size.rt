@@ -150,7 +150,7 @@ impl TxSize {
         self.width().min(32) * self.height().min(32)
     }
 
-    /// The block of the same sides.
+    /// The block with the same sides.
     #[inline]
     pub fn block_size(self) -> BlockSize
         ensures value { result ≡ tx_block_size self }
@@ -210,7 +210,7 @@ impl TxSize {
         }
     }
 
-    /// The size with these sides in samples, which some transform has.
+    /// The size with these sides in samples; some transform has them.
     #[inline]
     pub fn by_dims(w: usize, h: usize) -> TxSize
         requires { HasTxSides w h }
@@ -242,7 +242,7 @@ impl TxSize {
         }
     }
 
-    /// The sides differ.
+    /// Whether the sides differ.
     #[inline]
     pub fn is_rect(self) -> bool
         ensures { result ≡ not (tx_width self == tx_height self) }
@@ -250,8 +250,7 @@ impl TxSize {
         self.width_log2() != self.height_log2()
     }
 
-    /// The logarithm to base 2 of the width divided by the height: negative where the transform is
-    /// taller than wide.
+    /// The logarithm to base 2 of the width divided by the height: negative if the transform is taller than wide.
     #[inline]
     pub fn rect_ratio_log2(self) -> i8
         ensures { result ≡ pos (side_log2 (tx_width self)) -ℤ pos (side_log2 (tx_height self)) }
@@ -260,7 +259,7 @@ impl TxSize {
     }
 }
 
-/// The size of which a transform of size `t` is coded: a side of 64 keeps 32 of its coefficients.
+/// The size in which a transform of size `t` is coded: a side of 64 keeps 32 of its coefficients.
 #[inline]
 pub fn coded_tx_size(t: TxSize) -> TxSize
     ensures { result ≡ coded_tx_size t }

@@ -51,9 +51,9 @@ impl TxType {
     }
 }
 
-/// Whether a transform of this size may have this type: with a side of 64 `DCT_DCT` alone, with a
-/// greater side of 32 `IDTX` too, and every type below that. It allows `WHT_WHT` at sizes that have
-/// no such transform, as rav1e does.
+/// Whether a transform of this size may have this type. With a side of 64 only `DCT_DCT` is valid; with a greater side
+/// of 32 also `IDTX`; with shorter sides every type. As in rav1e, `WHT_WHT` is allowed at sizes that have no such
+/// transform.
 pub fn valid_av1_transform(tx_size: TxSize, tx_type: TxType) -> bool
     ensures { result ≡ valid_av1_transform tx_size tx_type }
 {

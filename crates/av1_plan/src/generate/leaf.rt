@@ -1,4 +1,4 @@
-//! Leaves: how one is predicted.
+//! The prediction of leaves.
 
 ghost use Rattle.std.specs.Prelude.{◌≡◌, ◌≤◌};
 ghost use Rattle.av1_plan.specs.Generator.{chroma_modes};
@@ -7,7 +7,7 @@ use crate::generate::maker::Maker;
 use crate::{Header, admits_references};
 use av1_blocks::{BlockSize, OutOfMemory};
 
-/// How many chroma modes a leaf of this size may have: chroma from luma, the last, is for sides up to 32.
+/// The number of chroma modes that a leaf of this size may have. The last one, chroma from luma, is for sides up to 32.
 #[tactic(auto, unfolding(crate::specs::Generator::chroma_modes, av1_blocks::specs::Blocks::cfl_allowed))]
 fn chroma_modes(size: BlockSize) -> u16
     ensures value { result ≡ chroma_modes size }
@@ -22,8 +22,8 @@ impl Maker {
     ghost use Rattle.av1_plan.specs.Generator.{step, weight, chroma_step, chroma_mode, intra, component, motion, single, compound, kind};
     ghost use Rattle.av1_plan.specs.Making.{work, run};
 
-    /// Writes the step on the angle of the mode with this number: from -3 to 3 on the modes 1 to 8, which have an
-    /// angle.
+    /// Writes the angle step of the mode with this number: from -3 to 3 for the modes 1 to 8, which have an angle, else
+    /// 0.
     #[tactic(auto, unfolding(crate::specs::Generator::step, crate::specs::Generator::less))]
     fn step(&mut self, mode: u16) -> Result<(), OutOfMemory>
         ensures { OnOk result (work self.new ≡ run (step mode) (work self.old)) }
@@ -44,7 +44,7 @@ impl Maker {
         self.byte(weight.wrapping_sub(16))
     }
 
-    /// Writes what the chroma mode with this number asks for: 13 is chroma from luma.
+    /// Writes the fields after the chroma mode with this number: 13 is chroma from luma.
     #[tactic(auto, unfolding(crate::specs::Generator::chroma_step))]
     fn chroma_step(&mut self, mode: u16) -> Result<(), OutOfMemory>
         ensures { OnOk result (work self.new ≡ run (chroma_step mode) (work self.old)) }
@@ -121,7 +121,7 @@ impl Maker {
         self.motion()
     }
 
-    /// Writes the kind of a leaf. Of those that may have references half are intra.
+    /// Writes the kind of a leaf. Half of the leaves that may have references are intra.
     #[tactic(auto, unfolding(crate::specs::Generator::kind, crate::specs::Generator::kind_of))]
     pub fn kind(
         &mut self,

@@ -1,4 +1,4 @@
-//! The plan of a number: what stands before the leaves, and then these.
+//! The plan of a number: its header, its reference and its leaves.
 
 ghost use Rattle.std.specs.Prelude.{◌≡◌, ◌≤◌, ◌^◌, IfOk, vec_len};
 ghost use Rattle.av1_plan.specs.Generator.{shown_side, frame, sample, plan_bytes_in, plan_bytes};
@@ -9,7 +9,7 @@ use crate::generate::maker::Maker;
 use av1_blocks::{FilterMode, OutOfMemory};
 use std::alloc::Global;
 
-/// A side of the frame that is shown: all that is coded, in the third version up to 7 fewer.
+/// A shown side of the frame: 512, or in the third version up to 7 less.
 #[tactic(auto, unfolding(crate::specs::Generator::shown_side))]
 fn shown_side(version: u8, v: u32) -> u16
     ensures value { result ≡ shown_side version v }
@@ -22,8 +22,8 @@ fn shown_side(version: u8, v: u32) -> u16
     }
 }
 
-/// The frame of the plan of a number in a version: 512 by 512 are coded, depth 10, 4:2:0. Every reference names slot 0,
-/// which alone carries planes.
+/// The frame of the plan of a number in a version: 512 by 512 coded luma samples, depth 10, 4:2:0. Every reference
+/// names slot 0, the only slot with planes.
 #[tactic(auto, unfolding(crate::specs::Generator::frame))]
 fn frame(version: u8, number: u32) -> Header
     ensures value { result ≡ frame version number }
@@ -139,7 +139,7 @@ impl Maker {
     }
 }
 
-/// The bytes that are drawn and written for a number in a version.
+/// Draws and writes the bytes of the plan of a number in a version.
 #[tactic(auto, using(crate::proofs::Written::by_draws), unfolding(crate::specs::Generator::plan))]
 fn draw_plan(alloc: Global, version: u8, number: u32) -> Result<Vec<u8>, OutOfMemory>
     requires { version ≤ 3 }
@@ -157,7 +157,8 @@ fn draw_plan(alloc: Global, version: u8, number: u32) -> Result<Vec<u8>, OutOfMe
 /// The plan of a number in a version of the plan grammar, 1, 2 or 3, as bytes.
 ///
 /// The number chooses the filter and the samples of the reference, and is the seed of everything else. In the third
-/// version it chooses the sides of the frame as well, 505 to 512, and leaves of any size may be from references.
+/// version it also chooses the width and height of the frame, 505 to 512, and leaves of any size may be predicted from
+/// references.
 ///
 /// # Errors
 ///
@@ -170,14 +171,14 @@ pub fn make_plan_in(alloc: Global, version: u8, number: u32) -> Result<Vec<u8>, 
     ensures plan { IfOk result (λ bytes. ArePlan bytes.items) }
     // No leaf of it is faulty.
     ensures faultless { IfOk result (λ bytes. AreFaultless bytes.items) }
-    // They are no more than a reader of plans takes.
+    // They are not too long for a reader of plans.
     ensures few { IfOk result (λ bytes. vec_len bytes ≤ 2 ^ 26) }
 {
     let bytes = draw_plan(alloc, version, number)?;
     Ok(bytes)
 }
 
-/// The plan of a number, as bytes: in the first version.
+/// The plan of a number in the first version, as bytes. The only error is running out of memory.
 #[tactic(auto, unfolding(crate::specs::Generator::plan_bytes))]
 pub fn make_plan(alloc: Global, number: u32) -> Result<Vec<u8>, OutOfMemory>
     // The bytes are those of the definition.
@@ -186,7 +187,7 @@ pub fn make_plan(alloc: Global, number: u32) -> Result<Vec<u8>, OutOfMemory>
     ensures plan { IfOk result (λ bytes. ArePlan bytes.items) }
     // No leaf of it is faulty.
     ensures faultless { IfOk result (λ bytes. AreFaultless bytes.items) }
-    // They are no more than a reader of plans takes.
+    // They are not too long for a reader of plans.
     ensures few { IfOk result (λ bytes. vec_len bytes ≤ 2 ^ 26) }
 {
     let bytes = make_plan_in(alloc, 1, number)?;

@@ -1,4 +1,4 @@
-//! A plan in the making: fields are written one behind the other, and numbers are drawn.
+//! A plan in the making: fields are written one after the other, and numbers are drawn.
 
 ghost use Rattle.std.specs.Prelude.{◌≡◌, ◌<◌, ◌%◌, [], OnOk};
 
@@ -19,7 +19,7 @@ impl Maker {
     ghost use Rattle.av1_plan.specs.Numbers.{state_after, number_of};
     ghost use Rattle.av1_plan.specs.Making.{work, run};
 
-    /// No bytes yet. The number is the seed of what is drawn.
+    /// A maker without bytes. The number is the seed of the draws.
     pub fn new(alloc: Global, number: u32) -> Maker
         ensures { work result ≡ ([], number) }
     {
@@ -29,7 +29,7 @@ impl Maker {
         }
     }
 
-    /// The next number below `k`. All randomness comes from here.
+    /// Draws the next number below `k`. All randomness comes from here.
     #[tactic(auto, unfolding(crate::specs::Numbers::state_after, crate::specs::Numbers::number_of))]
     pub fn draw(&mut self, k: u16) -> u16
         requires { 0 < k }

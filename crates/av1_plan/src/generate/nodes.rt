@@ -10,7 +10,7 @@ impl Maker {
     ghost use Rattle.av1_plan.specs.Generator.{leaf_part, parts, block, superblock_row, superblocks};
     ghost use Rattle.av1_plan.specs.Making.{work, run};
 
-    /// Writes the leaf at this place.
+    /// Writes the leaf of this size at column `x` and row `y` of luma.
     #[tactic(auto, unfolding(crate::specs::Generator::leaf_part))]
     fn leaf_part(
         &mut self,
@@ -25,7 +25,7 @@ impl Maker {
         self.leaf(frame, size, carried)
     }
 
-    /// Writes the part of side `4 << level` at this place: a leaf at level 0, else a node.
+    /// Writes the part of side `4 << level` at column `x` and row `y` of luma: a leaf at level 0, else a node.
     #[cycle(blocks)]
     #[tactic(auto, using(crate::proofs::DrawnBlocks::levels))]
     fn block(&mut self, frame: &Header, level: u8, x: u16, y: u16) -> Result<(), OutOfMemory>

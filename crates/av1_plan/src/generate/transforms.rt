@@ -1,4 +1,4 @@
-//! Leaves: how one is transformed, and its coefficients.
+//! The transforms of leaves, and their coefficients.
 
 use crate::Header;
 use crate::generate::maker::Maker;
@@ -11,8 +11,8 @@ impl Maker {
     ghost use Rattle.av1_plan.specs.Generator.{tx_type, luma_transforms, triple, triples, chroma_triples, leaf};
     ghost use Rattle.av1_plan.specs.Making.{work, run};
 
-    /// Writes a type that transforms of this size may have: the cosine transform alone at 64, or the identity (9) at
-    /// 32, and all but the Walsh-Hadamard transform below.
+    /// Writes a type that transforms of this size may have: only the cosine transform at 64, also the identity (9) at
+    /// 32, and any type except the Walsh-Hadamard transform below.
     #[tactic(auto, unfolding(crate::specs::Generator::tx_type, crate::specs::Generator::type_within))]
     fn tx_type(&mut self, size: TxSize) -> Result<(), OutOfMemory>
         ensures { OnOk result (work self.new ≡ run (tx_type size) (work self.old)) }
@@ -30,7 +30,7 @@ impl Maker {
         }
     }
 
-    /// Writes the size of luma's transforms, the block's own or the least, and their type.
+    /// Writes the size of luma's transforms, the block's own or 4x4, and their type.
     #[tactic(auto, unfolding(crate::specs::Generator::luma_transforms, crate::specs::Generator::luma_tx_size))]
     fn luma_transforms(&mut self, size: BlockSize) -> Result<(), OutOfMemory>
         ensures { OnOk result (work self.new ≡ run (luma_transforms size) (work self.old)) }
@@ -47,7 +47,7 @@ impl Maker {
         }
     }
 
-    /// Writes the type of chroma's transforms, where chroma is carried.
+    /// Writes the type of chroma's transforms, if chroma is carried.
     fn chroma_transforms(&mut self, size: BlockSize, carried: bool) -> Result<(), OutOfMemory>
         ensures { OnOk result (work self.new ≡ run (only_if carried (tx_type (largest_chroma_tx_size size 1 1))) (work self.old)) }
     {
@@ -81,7 +81,7 @@ impl Maker {
         Ok(())
     }
 
-    /// Writes the coefficients of U and V, where chroma is carried.
+    /// Writes the coefficients of U and V, if chroma is carried.
     #[tactic(auto, unfolding(crate::specs::Generator::chroma_triples))]
     fn chroma_triples(&mut self, carried: bool) -> Result<(), OutOfMemory>
         ensures { OnOk result (work self.new ≡ run (chroma_triples carried) (work self.old)) }

@@ -1,4 +1,4 @@
-//! Reading what stands before the reference samples.
+//! Reading the fields before the reference samples.
 
 use crate::error::PlanError;
 use crate::header::Header;
@@ -12,7 +12,7 @@ impl<'a> Reader<'a> {
     ghost use Rattle.av1_plan.specs.ReadPlans.{AreSlots, IsSide};
     ghost use Rattle.av1_plan.specs.Reading.{Gives, IsAtByte, input, Moves};
 
-    /// The four letters at the front.
+    /// Reads the four letters at the front.
     #[tactic(auto, using(crate::proofs::Narrow::narrow))]
     fn magic(&mut self) -> Result<u32, PlanError>
         ensures read { Gives (λ x. (x, input self.new)) result (read_field (where_ four is_magic) (input self.old)) }
@@ -31,7 +31,7 @@ impl<'a> Reader<'a> {
         }
     }
 
-    /// The version of the grammar, by the four letters at the front.
+    /// Reads the version of the grammar: the four letters at the front.
     #[tactic(auto, unfolding(crate::specs::Grammar::version))]
     fn version(&mut self) -> Result<u8, PlanError>
         ensures read { Gives (λ x. (x, input self.new)) result (read version (input self.old)) }
@@ -48,7 +48,7 @@ impl<'a> Reader<'a> {
         })
     }
 
-    /// A side of the frame that is shown, in this version of the grammar.
+    /// Reads a shown side of the frame, in this version of the grammar.
     #[tactic(auto, using(crate::proofs::Narrow::narrow))]
     pub fn side(&mut self, version: u8) -> Result<u16, PlanError>
         ensures read { Gives (λ x. (x, input self.new)) result (read_field (where_ two (is_side version)) (input self.old)) }
@@ -67,7 +67,7 @@ impl<'a> Reader<'a> {
         }
     }
 
-    /// The bits of a sample.
+    /// Reads the bits of a sample.
     #[tactic(auto, using(crate::proofs::Narrow::narrow))]
     pub fn depth(&mut self) -> Result<u8, PlanError>
         ensures read { Gives (λ x. (x, input self.new)) result (read_field (where_ one is_depth) (input self.old)) }
@@ -85,7 +85,7 @@ impl<'a> Reader<'a> {
         }
     }
 
-    /// The slots of the seven references.
+    /// Reads the slots of the seven references.
     #[tactic(auto, unfolding(crate::specs::Grammar::slots))]
     pub fn slots(&mut self) -> Result<[u8; 7], PlanError>
         ensures read { Gives (λ x. (x, input self.new)) result (read slots (input self.old)) }
@@ -111,7 +111,7 @@ impl<'a> Reader<'a> {
         ])
     }
 
-    /// The frame and what holds for all leaves, in this version.
+    /// Reads the frame, and what holds for all leaves, in this version.
     #[tactic(auto, using(crate::proofs::Formats::read_bind), unfolding(crate::specs::Grammar::frame))]
     pub fn frame(&mut self, version: u8) -> Result<Header, PlanError>
         ensures read { Gives (λ x. (x, input self.new)) result (read (frame version) (input self.old)) }
@@ -142,7 +142,7 @@ impl<'a> Reader<'a> {
         })
     }
 
-    /// What stands before the reference samples. It takes no memory.
+    /// Reads the fields before the reference samples. It does not allocate.
     #[tactic(auto, using(crate::proofs::Formats::read_bind), unfolding(crate::specs::Grammar::header))]
     pub fn header(&mut self) -> Result<Header, PlanError>
         ensures read { Gives (λ x. (x, input self.new)) result (read header (input self.old)) }

@@ -163,7 +163,7 @@ impl<'a> Reader<'a> {
         }
     }
 
-    /// A triple, field by field.
+    /// Reads a triple, field by field.
     #[tactic(auto, unfolding(crate::specs::Grammar::triple))]
     fn triple_by_fields(&mut self) -> Result<Triple, PlanError>
         ensures read { Gives (λ x. (x, input self.new)) result (read triple (input self.old)) }
@@ -180,7 +180,7 @@ impl<'a> Reader<'a> {
         })
     }
 
-    /// A triple: its seven bytes at once where there are so many.
+    /// Reads a triple: its seven bytes at once, if there are enough bytes.
     #[tactic(auto, unfolding(crate::specs::Grammar::triple, crate::specs::Format::read_field))]
     fn triple(&mut self) -> Result<Triple, PlanError>
         ensures read { Gives (λ x. (x, input self.new)) result (read triple (input self.old)) }
@@ -202,7 +202,7 @@ impl<'a> Reader<'a> {
         }
     }
 
-    /// Reads so many triples, and puts them behind the others.
+    /// Reads `count` triples, and puts them after the others.
     #[tactic(auto, using(crate::proofs::Formats::turns))]
     fn more_triples(&mut self, count: u16, into: &mut Vec<Triple>) -> Result<(), PlanError>
         ensures read { Gives (λ _. (into.new.items, input self.new)) result (add (in_turn (λ _. lone triple) 0 count) (into.old.items, input self.old)) }
@@ -217,7 +217,7 @@ impl<'a> Reader<'a> {
         Ok(())
     }
 
-    /// Reads a count and so many triples, puts them behind the others, and gives the count.
+    /// Reads a count and that many triples, puts the triples after the others, and returns the count.
     fn triples(&mut self, into: &mut Vec<Triple>) -> Result<u16, PlanError>
         ensures read { Gives (λ n. (added into.old.items into.new.items n, input self.new)) result (read triples (input self.old)) }
         ensures extends { IfOk result (λ n. Extends into.old.items into.new.items n) }
@@ -229,7 +229,7 @@ impl<'a> Reader<'a> {
         Ok(count)
     }
 
-    /// Reads the triples of both chroma planes, where the leaf carries chroma, and gives their counts.
+    /// Reads the triples of both chroma planes, if the leaf carries chroma, and returns their counts.
     #[tactic(auto, using(crate::proofs::Formats::read_bind), unfolding(crate::specs::Grammar::chroma_triples))]
     fn chroma_triples(
         &mut self,
@@ -250,7 +250,7 @@ impl<'a> Reader<'a> {
         Ok((u, v))
     }
 
-    /// Reads a leaf of this size, at this place in luma samples. Its triples come behind the others.
+    /// Reads a leaf of this size, at column `x` and row `y` of luma. Its triples come after the others.
     #[tactic(auto, using(crate::proofs::Formats::read_bind), unfolding(crate::specs::Grammar::leaf))]
     pub fn leaf(
         &mut self,

@@ -10,8 +10,8 @@ impl Header {
     ghost use Rattle.std.specs.Prelude.{◌≡◌, ◌≤◌, true};
     ghost use Rattle.av1_plan.specs.Grammar.{admits_stripes, is_mark};
 
-    /// Whether a node of side `4 << level` may be cut into four leaves that are a quarter as wide or as high: in the
-    /// second version and the third, with a side from 16 to 64, and where it lies in what is coded whole.
+    /// Whether a node of side `4 << level` may be cut into four leaves that are a quarter as wide or as high: from the
+    /// second version on, with a side from 16 to 64, and if it lies wholly in the coded frame.
     #[tactic(auto, unfolding(crate::specs::Grammar::admits_stripes))]
     fn admits_stripes(&self, level: u8, x: u16, y: u16) -> bool
         requires level { level ≤ 4 }
@@ -26,8 +26,8 @@ impl Header {
             && usize::from(y + side) <= self.coded_height()
     }
 
-    /// Whether a node of side `4 << level` samples, whose upper left luma sample stands in column `x` and row `y`, may
-    /// have this mark: 0 to 3, or 8 or 9 for four leaves.
+    /// Whether a node of side `4 << level` luma samples, whose first sample is at column `x` and row `y`, may have this
+    /// mark: 0 to 3, or 8 or 9 for four leaves.
     #[tactic(auto, unfolding(crate::specs::Grammar::is_mark))]
     pub fn is_mark(&self, level: u8, x: u16, y: u16, mark: u8) -> bool
         requires level { level ≤ 4 }
@@ -46,7 +46,7 @@ impl<'a> Reader<'a> {
     ghost use Rattle.av1_plan.specs.Grammar.{where_, is_mark, mark};
     ghost use Rattle.av1_plan.specs.Reading.{Gives, input, Moves};
 
-    /// The number of a mark that a node of side `4 << level` at this place may have.
+    /// Reads the number of a mark that a node of side `4 << level` at column `x` and row `y` may have.
     #[tactic(auto, using(crate::proofs::Narrow::narrow))]
     fn mark_number(&mut self, header: &Header, level: u8, x: u16, y: u16) -> Result<u8, PlanError>
         requires level { level ≤ 4 }
@@ -66,7 +66,7 @@ impl<'a> Reader<'a> {
         }
     }
 
-    /// How a node of side `4 << level` at this place is cut.
+    /// Reads the cut of a node of side `4 << level` at column `x` and row `y`.
     #[tactic(auto, using(crate::proofs::Formats::read_bind), unfolding(crate::specs::Grammar::mark))]
     pub fn mark(
         &mut self,

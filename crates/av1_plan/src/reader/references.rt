@@ -8,7 +8,7 @@ use crate::planes::SlotPlanes;
 use crate::reader::Reader;
 use std::alloc::{AllocError, Global};
 
-/// How many samples are widened at a time.
+/// The number of samples that are widened at a time.
 const RUN: usize = 64;
 
 /// The bytes, each as a sample.
@@ -48,7 +48,7 @@ impl<'a> Reader<'a> {
     ghost use Rattle.av1_plan.specs.Geometry.{has_slot};
     ghost use Rattle.av1_plan.specs.Reading.{Gives, input, Moves};
 
-    /// A sample.
+    /// Reads a sample.
     #[tactic(auto, using(crate::proofs::Narrow::narrow))]
     fn sample(&mut self, depth: u8) -> Result<u16, PlanError>
         requires depth { depth ≤ 12 }
@@ -68,7 +68,7 @@ impl<'a> Reader<'a> {
         }
     }
 
-    /// The samples of a plane, one by one.
+    /// Reads the samples of a plane, one by one.
     #[tactic(auto, using(crate::proofs::Lists::collects), unfolding(crate::specs::Grammar::plane))]
     fn plane_by_samples(
         &mut self,
@@ -88,7 +88,7 @@ impl<'a> Reader<'a> {
         Ok(samples)
     }
 
-    /// The samples of a plane at depth 8, which are so many bytes.
+    /// Reads the samples of a plane at depth 8: `len` bytes.
     fn plane_of_bytes(&mut self, alloc: Global, len: usize) -> Result<Vec<u16>, PlanError>
         requires long { len ≤ length self.old.rest.now }
         ensures read { Gives (λ x. (x.items, input self.new)) result (read (plane 8 len) (input self.old)) }
@@ -101,7 +101,7 @@ impl<'a> Reader<'a> {
         Ok(samples)
     }
 
-    /// The samples of a plane. Those of one byte are read all at once, where there are so many bytes.
+    /// Reads the samples of a plane. Samples of one byte are read all at once, if there are enough bytes.
     fn plane(&mut self, alloc: Global, depth: u8, len: usize) -> Result<Vec<u16>, PlanError>
         requires depth { depth ≤ 12 }
         ensures read { Gives (λ x. (x.items, input self.new)) result (read (plane depth len) (input self.old)) }
@@ -113,7 +113,7 @@ impl<'a> Reader<'a> {
         self.plane_by_samples(alloc, depth, len)
     }
 
-    /// The three planes of a slot.
+    /// Reads the three planes of a slot.
     #[tactic(auto, using(crate::proofs::Formats::read_bind), unfolding(crate::specs::Grammar::reference))]
     fn reference(&mut self, alloc: Global, header: &Header) -> Result<SlotPlanes, PlanError>
         requires depth { header.now.depth ≤ 12 }
@@ -128,7 +128,7 @@ impl<'a> Reader<'a> {
         Ok(SlotPlanes { y, u, v })
     }
 
-    /// The planes of a slot, where the mask has it.
+    /// Reads the planes of a slot, if the mask has the slot.
     #[tactic(auto, using(crate::proofs::Formats::read_bind), unfolding(crate::specs::Grammar::slot_planes))]
     fn slot_planes(
         &mut self,
@@ -151,7 +151,7 @@ impl<'a> Reader<'a> {
         Ok(None)
     }
 
-    /// The planes of the eight slots.
+    /// Reads the planes of the eight slots.
     #[tactic(auto, using(crate::proofs::Lists::collects), unfolding(crate::specs::Grammar::references))]
     pub fn references(
         &mut self,

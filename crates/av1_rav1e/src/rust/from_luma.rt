@@ -1,4 +1,4 @@
-//! The predictors of chroma from luma, over regions as all of `rust`.
+//! The predictors of chroma from luma, over regions as in `rust`.
 //!
 //! `ac` holds the differences of luma from its mean row by row, `width` a row (see `pred_cfl_ac`), and `alpha` their
 //! weight; both are in eighths.
@@ -15,8 +15,8 @@ ghost use Rattle.av1_intra.specs.Dc.{mean};
 use av1_frame::{Pixel, PlaneRegionMut};
 use av1_intra::{half_sample, mean_of, pred_cfl_to, side_mean};
 
-/// Each sample becomes `dc`, and what its difference in `ac` adds to it at the weight `alpha`, clipped to the depth;
-/// `dc` alone where the weight is 0.
+/// Each sample becomes `dc` plus its difference in `ac` at the weight `alpha`, clipped to the depth. If the weight is
+/// 0, it becomes `dc`.
 fn flat_from_luma<T: Pixel>(
     output: &mut PlaneRegionMut<'_, T>,
     ac: &[i16],
@@ -40,8 +40,8 @@ fn flat_from_luma<T: Pixel>(
     pred_cfl_to(output.rows_mut(), stride, area, ac, alpha, dc, bit_depth);
 }
 
-/// Each sample becomes the first one of `output`, and what its difference in `ac` adds to it, clipped to the depth.
-/// Without a weight nothing changes.
+/// Each sample becomes the first sample of `output` plus its difference in `ac`, clipped to the depth. If the weight is
+/// 0, nothing changes.
 pub fn pred_cfl_inner<T: Pixel>(
     output: &mut PlaneRegionMut<'_, T>,
     ac: &[i16],
@@ -68,7 +68,7 @@ pub fn pred_cfl_inner<T: Pixel>(
     flat_from_luma(output, ac, alpha, dc, width, height, bit_depth);
 }
 
-/// Each sample becomes that of `pred_dc`, and what its difference in `ac` adds to it, clipped to the depth.
+/// Each sample becomes the result of `pred_dc` plus its difference in `ac`, clipped to the depth.
 pub fn pred_cfl<T: Pixel>(
     output: &mut PlaneRegionMut<'_, T>,
     ac: &[i16],
@@ -94,7 +94,7 @@ pub fn pred_cfl<T: Pixel>(
     flat_from_luma(output, ac, alpha, dc, width, height, bit_depth);
 }
 
-/// Each sample becomes that of `pred_dc_128`, and what its difference in `ac` adds to it, clipped to the depth.
+/// Each sample becomes the result of `pred_dc_128` plus its difference in `ac`, clipped to the depth.
 pub fn pred_cfl_128<T: Pixel>(
     output: &mut PlaneRegionMut<'_, T>,
     ac: &[i16],
@@ -119,7 +119,7 @@ pub fn pred_cfl_128<T: Pixel>(
     flat_from_luma(output, ac, alpha, dc, width, height, bit_depth);
 }
 
-/// Each sample becomes that of `pred_dc_left`, and what its difference in `ac` adds to it, clipped to the depth.
+/// Each sample becomes the result of `pred_dc_left` plus its difference in `ac`, clipped to the depth.
 pub fn pred_cfl_left<T: Pixel>(
     output: &mut PlaneRegionMut<'_, T>,
     ac: &[i16],
@@ -145,7 +145,7 @@ pub fn pred_cfl_left<T: Pixel>(
     flat_from_luma(output, ac, alpha, dc, width, height, bit_depth);
 }
 
-/// Each sample becomes that of `pred_dc_top`, and what its difference in `ac` adds to it, clipped to the depth.
+/// Each sample becomes the result of `pred_dc_top` plus its difference in `ac`, clipped to the depth.
 pub fn pred_cfl_top<T: Pixel>(
     output: &mut PlaneRegionMut<'_, T>,
     ac: &[i16],
