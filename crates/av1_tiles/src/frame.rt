@@ -29,8 +29,7 @@ use crate::tile::{read_tile, tile_area};
 use av1_blocks::OutOfMemory;
 use av1_frame::{FrameInvariants, Pixel, Plane, PlaneRegionMut, TileRect, copy_row, visible_area};
 use av1_plan::{Header, Plan};
-use av1_tile::{TileReferences, frame_invariants};
-use av1_tile::{Planes, WalkMemory};
+use av1_tile::{Planes, TileReferences, WalkMemory, frame_invariants};
 use std::alloc::Global;
 
 /// A tile that was reconstructed: its settings as a frame of its own, and its planes.

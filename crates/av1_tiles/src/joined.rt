@@ -16,8 +16,7 @@ use crate::frame::reconstruct_in;
 use av1_blocks::OutOfMemory;
 use av1_frame::{FrameInvariants, Pixel};
 use av1_plan::Header;
-use av1_tile::stored_references;
-use av1_tile::{Planes, WalkMemory};
+use av1_tile::{Planes, WalkMemory, stored_references};
 use std::alloc::Global;
 
 /// The planes of a frame, in samples as narrow as its depth allows.
