@@ -2,7 +2,6 @@
 //! PLANES the encoder's planes before loop filters, in the layout of `reconstruct_plan`.
 
 use av1_c::{Difference, trace_differences};
-use std::convert::TryFrom;
 use std::error::Error;
 use std::{env, fs};
 

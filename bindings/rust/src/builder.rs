@@ -4,7 +4,6 @@ use crate::{
     BitDepth, BlockSize, Filter, Partition, PredictionMode, Reference, Sampling, TxSize, TxType,
 };
 use av1_c_sys as sys;
-use std::convert::TryFrom;
 use std::fmt;
 use std::mem::size_of;
 
@@ -237,7 +236,7 @@ pub enum Field {
 
 /// Writes a plan field by field.
 ///
-/// ```no_run
+/// ```
 /// use av1_c::{Chroma, Header, Leaf, Partition, PlanBuilder, Sampling, TxSize};
 /// let header = Header { width: 8, height: 8, sampling: Sampling::Yuv444, ..Header::default() };
 /// let mut builder = PlanBuilder::new(&header)?;

@@ -179,7 +179,7 @@ edge_calls!(u16, intra_edge_16);
 /// The edge of a transform block, to try several modes from it: its samples, which the caller does
 /// not fill, and what is known about its two sides. Make one once and use it again.
 ///
-/// ```no_run
+/// ```
 /// use av1_c::{BlockSize, EdgeBlock, EdgePlane, IntraEdge, Place, PredictionMode, TxSize};
 /// let mut samples = [7u8; 16 * 16];
 /// let plane = EdgePlane::of_luma(16, 16);

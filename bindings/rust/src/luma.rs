@@ -3,7 +3,6 @@
 use crate::error::told;
 use crate::{BitDepth, BlockSize, Error, Place, Sampling, TxSize};
 use av1_c_sys as sys;
-use std::convert::TryFrom;
 
 /// A block of chroma that is predicted from luma.
 #[derive(Clone, Copy, Debug, Default, PartialEq, Eq)]

@@ -1,6 +1,5 @@
 //! The numbers of plans and calls, as enumerations.
 
-use std::convert::TryFrom;
 use std::error::Error;
 use std::fmt;
 

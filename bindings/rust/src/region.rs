@@ -449,7 +449,7 @@ impl<T: Copy + Default> RegionMut<'_, T> {
     /// [`call`](Self::call) for a call that writes all samples of the rectangle and reads none, as
     /// all do except those that add a residual. The call gets arbitrary samples in their place.
     ///
-    /// ```no_run
+    /// ```
     /// use av1_c::{BlockRoom, MotionBlock, Place, RegionMut, put_8tap_8};
     /// let block = MotionBlock { width: 4, height: 4, ..MotionBlock::default() };
     /// let reference = [7; 256];

@@ -10,7 +10,7 @@ use std::sync::Arc;
 /// `Vec<u16>`, an `Arc<[u16]>`, or a frame or a plane of the caller's own type. A clone shares
 /// them.
 ///
-/// ```no_run
+/// ```
 /// use av1_c::{BitDepth, Error, Tested};
 /// use std::sync::Arc;
 ///

@@ -56,7 +56,20 @@ fn packaged() -> Option<PathBuf> {
     };
     said(["--exists", &version])?;
     let folder = String::from_utf8(said(["--variable=libdir", "av1_c"])?).ok()?;
-    Some(PathBuf::from(folder.trim()))
+    // It writes a backslash before a blank.
+    let mut escapes = false;
+    let is_meant = |letter: &char| {
+        escapes = *letter == '\\' && !escapes;
+        !escapes
+    };
+    Some(
+        folder
+            .trim()
+            .chars()
+            .filter(is_meant)
+            .collect::<String>()
+            .into(),
+    )
 }
 
 // The folder of a release's crate, or of the repository.
