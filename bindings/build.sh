@@ -88,13 +88,23 @@ without_library() {
     AV1_C_FOLDER=$work/none crate check --all-targets && AV1_C_FOLDER=$work/none RUSTDOCFLAGS="-D warnings" crate doc --no-deps
 }
 
-# examples FOLDER: the programs of the crate end well, and those that read the worked plan write what is stored
-examples() {
-    for words in build_plan blocks "blocks intra" threads "trace $plan $planes"; do
-        AV1_C_FOLDER=$here/$1 crate run --example $words || return 1
-    done
-    AV1_C_FOLDER=$here/$1 crate run --example reconstruct_plan "$plan" >"$work/planes" && cmp "$work/planes" "$planes"
+# example NAME ARGUMENT..: a program of the crate
+example() {
+    crate run --quiet --example "$@"
 }
+
+# examples FOLDER: the programs of the crate run, and those that read a plan, a grid or a sequence write the stored planes. The worked plan has
+# 20 bytes of header and 63 of leaves, which are the only part of the grid and of the sequence.
+examples() (
+    AV1_C_FOLDER=$here/$1
+    export AV1_C_FOLDER
+    leaves='\077\0\0\0'
+    { printf RTL1 && head -c 20 "$plan" | tail -c 16 && printf "\1\1$leaves" && tail -c 63 "$plan"; } >"$work/grid"
+    { printf RSQ1 && head -c 10 "$plan" | tail -c 6 && printf "\1\0\0\0\0\0\0\0\0\0\0\0$leaves" && tail -c 63 "$plan"; } >"$work/sequence"
+    example build_plan && example blocks && example blocks intra && example threads &&
+        example trace "$plan" "$planes" | grep '^0 differ$' && example reconstruct_plan "$plan" >"$work/whole" && example tiles "$work/grid" >"$work/tiles" &&
+        example sequence "$work/sequence" >"$work/shown" && cmp "$work/whole" "$planes" && cmp "$work/tiles" "$planes" && cmp "$work/shown" "$planes"
+)
 
 # as_the_program NUMBER: for the plan made from NUMBER, the example and av1_vectors write the same
 as_the_program() {

@@ -81,6 +81,9 @@ HEAD_OF_RUST = """//! The calls of the library `libav1_c.a`, as C has them. `av1
 //! safe, unless you need pointers. `bindings/declared.py` writes this file.
 
 use std::mem::size_of;
+
+#[cfg(not(target_pointer_width = "64"))]
+compile_error!("the library is code for Linux on x86-64, with pointers of 64 bits");
 """
 
 

@@ -1,7 +1,8 @@
 //! Finds the library: in the folder that `AV1_C_FOLDER` names; else by `pkg-config`; else in
 //! `native` (in a release) or `bindings/out` (in the repository).
 //!
-//! Without the library only linking fails: `cargo check`, `cargo doc` and editors don't need it.
+//! Without the library, or for another target, only linking fails: `cargo check`, `cargo doc` and
+//! editors don't need it.
 
 use std::env;
 use std::path::{Path, PathBuf};
@@ -10,6 +11,12 @@ use std::process::Command;
 fn main() {
     for name in ["AV1_C_FOLDER", "PKG_CONFIG", "PKG_CONFIG_PATH"] {
         println!("cargo:rerun-if-env-changed={name}");
+    }
+    let target = env::var("TARGET").unwrap_or_default();
+    if !(target.starts_with("x86_64-") && target.contains("-linux-")) {
+        println!(
+            "cargo:warning=the library is code for Linux on x86-64: no program for {target} links"
+        );
     }
     let found = env::var_os("AV1_C_FOLDER")
         .map(PathBuf::from)

@@ -454,7 +454,8 @@ fn cfl_block() -> CflBlock {
     }
 }
 
-// By hand: 8 luma samples of each of four, twice their sum, less the rounded mean of all 64.
+// Of a chroma sample, twice the sum of its four luma samples, less the rounded mean of these numbers.
+// The first 4 columns and rows have luma of their own, and the others repeat the last one.
 #[test]
 fn differences_of_luma_are_those_from_the_mean() -> Result<(), Error> {
     // 32 columns and rows of luma: 37 times the column, 101 times the row and three times their product, modulo 256.

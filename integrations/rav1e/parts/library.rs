@@ -474,9 +474,9 @@ impl<T: Pixel> TestedFrame<T> {
   pub fn new(frame: &Arc<Frame<T>>, bit_depth: usize) -> Self {
     let test = |p: usize| match T::type_enum() {
       PixelType::U16 if !frame.planes[p].data.is_empty() => {
+        let depth = named(bit_depth);
         // SAFETY: samples are whole numbers of 16 bits.
-        let samples = |frame: &Arc<Frame<T>>| unsafe { same(&frame.planes[p].data) };
-        Some(call!("test_samples_16", Tested::with(frame.clone(), samples, named(bit_depth))))
+        Some(call!("test_samples_16", Tested::with(frame.clone(), |frame| unsafe { same(&frame.planes[p].data) }, depth)))
       }
       _ => None,
     };

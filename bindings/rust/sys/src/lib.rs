@@ -5,6 +5,9 @@
 
 use std::mem::size_of;
 
+#[cfg(not(target_pointer_width = "64"))]
+compile_error!("the library is code for Linux on x86-64, with pointers of 64 bits");
+
 pub const EDGE_SAMPLES: usize = 257;
 pub const ANY_MODE: u8 = 255;
 pub const FROM_LUMA: u8 = 13;
