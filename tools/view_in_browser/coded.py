@@ -54,7 +54,8 @@ class Checked:
         env = {**os.environ, **{"AV1_" + name.upper(): script(folder, name, getattr(options, name)) for name in ("tools", "view")}}
         words = [os.path.join(DAV1D, "check"), "--page", self.page, "--keep", kept, path]
         done = subprocess.run(words, env=env, stdout=subprocess.PIPE, text=True, check=False)
-        self.status, *self.frames, self.line = done.returncode, *done.stdout.splitlines()
+        self.status, lines = done.returncode, done.stdout.splitlines()
+        self.frames, self.line = [line for line in lines if line.startswith("frame ")], lines[-1]
         with open(max(glob.glob(os.path.join(kept, "????.trace"))), "rb") as file:
             self.trace = file.read()
         end = 8 + struct.unpack_from("<I", self.trace, 4)[0]
