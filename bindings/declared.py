@@ -1,13 +1,13 @@
 #!/usr/bin/env python3
-"""Asserts that the header and the Rust crate declare what the archive contains.
+"""Declares the calls of the archive to Rust, and asserts that the header declares them as they are.
 
     bindings/declared.py [--check]
 
 It reads the crates `av1_c` and `av1_calls`: the size of each struct that crosses to C, the type and the offset of each
-field, the number of each constant, and the parameters and the result of each call. It writes assertions about
-`c/av1_c.h` into `c/declared.c`, and about the Rust crate into `rust/src/declared.rs`, which compile only if they hold.
-`c/av1_c.map` lists the calls for the linker. With --check it writes nothing, and the status is 1 if a file differs from
-what it would write.
+field, the number of each constant, and the parameters and the result of each call. It writes three files. The crate
+`rust/sys/src/lib.rs` declares all of this. `c/declared.c` has assertions about `c/av1_c.h`, which compile only if they
+hold. `c/av1_c.map` lists the calls for the linker. With --check it writes nothing, and the status is 1 if a file differs
+from what it would write.
 """
 import pathlib
 import re
@@ -17,42 +17,41 @@ import textwrap
 HERE = pathlib.Path(__file__).resolve().parent
 SOURCES = [path for crate in ("av1_calls", "av1_c") for path in sorted((HERE.parent / "crates" / crate / "src").glob("*.rt"))]
 
-# The structs that cross to C: in Rattle, in C, in the Rust crate.
+# The structs that cross to C: in Rattle and in C. In Rust they have C's names without the prefix, in camel case.
 NAMES = {
-    "Refusal": ("av1_refusal", "sys::Refusal"),
-    "PartRefusal": ("av1_part_refusal", "sys::PartRefusal"),
-    "TraceDifference": ("av1_difference", "crate::Difference"),
-    "TxRoom": ("av1_transform_scratch", "sys::TransformScratch"),
-    "MotionBlock": ("av1_motion_block", "crate::MotionBlock"),
-    "MotionPlane": ("av1_motion_plane", "crate::MotionPlane"),
-    "MovedBlock": ("av1_moved_block", "crate::MovedBlock"),
-    "MovedPlace": ("av1_moved_place", "crate::MovedPlace"),
-    "IntraBlock": ("av1_intra_block", "crate::IntraBlock"),
-    "EdgePlane": ("av1_edge_plane", "crate::EdgePlane"),
-    "EdgeBlock": ("av1_edge_block", "crate::EdgeBlock"),
-    "CflBlock": ("av1_cfl_block", "crate::CflBlock"),
-    "LumaLeafBlock": ("av1_luma_block", "crate::LumaBlock"),
-    "Neighbours": ("av1_neighbours", "crate::Neighbours"),
-    "PlanHeader": ("av1_plan_header", "crate::Header"),
-    "BuilderPart": ("av1_builder_part", "sys::BuilderPart"),
-    "Builder": ("av1_builder", "sys::Builder"),
-    "Coefficient": ("av1_coefficient", "crate::Coefficient"),
-    "LeafMotion": ("av1_motion", "crate::Motion"),
-    "LeafNumbers": ("av1_leaf", "crate::Leaf"),
+    "Refusal": "av1_refusal",
+    "PartRefusal": "av1_part_refusal",
+    "TraceDifference": "av1_difference",
+    "TxRoom": "av1_transform_scratch",
+    "MotionBlock": "av1_motion_block",
+    "MotionPlane": "av1_motion_plane",
+    "MovedBlock": "av1_moved_block",
+    "MovedPlace": "av1_moved_place",
+    "IntraBlock": "av1_intra_block",
+    "EdgePlane": "av1_edge_plane",
+    "EdgeBlock": "av1_edge_block",
+    "CflBlock": "av1_cfl_block",
+    "LumaLeafBlock": "av1_luma_block",
+    "Neighbours": "av1_neighbours",
+    "PlanHeader": "av1_plan_header",
+    "BuilderPart": "av1_builder_part",
+    "Builder": "av1_builder",
+    "Coefficient": "av1_coefficient",
+    "LeafMotion": "av1_motion",
+    "LeafNumbers": "av1_leaf",
 }
-# The slices that stand in memory, as elements of others: in C a struct of a pointer and a length, in this order. The Rust
-# crate, whose regions hand out their rows as slices, doesn't declare the calls on them.
+# The slices that stand in memory, as elements of others: in C a struct of a pointer and a length, in this order. The
+# crate for Rust doesn't declare the calls on them, because its regions copy their rows.
 ROWS = {"&mut [u8]": "av1_row_8", "&mut [u16]": "av1_row_16", "&[u8]": "av1_read_row_8", "&[u16]": "av1_read_row_16"}
 # The numbers: in C, in C's types, and their bytes.
 NUMBERS = {"u8": ("uint8_t", 1), "i8": ("int8_t", 1), "u16": ("uint16_t", 2), "i16": ("int16_t", 2), "u32": ("uint32_t", 4),
            "i32": ("int32_t", 4), "usize": ("size_t", 8), "isize": ("ptrdiff_t", 8)}
-# Constants whose name in C isn't AV1_ and their own, and those that aren't in `sys`.
+# Constants whose name in C isn't AV1_ and their own.
 CONSTANTS_OF_C = {"VERSION": "AV1_C_VERSION"}
-CONSTANTS_OF_CRATE = {"VERSION", "EDGE_SAMPLES", "ANY_MODE", "SHARP", "RAV1E_SHARP", "FROM_LUMA"}
 
 STRUCT = re.compile(r"#\[repr\(C\)\]\n(?:#\[derive[^\n]*\n)?pub struct (\w+) \{\n(.*?)\n\}", re.S)
 FIELD = re.compile(r"^    pub (\w+): ([^\n]+),$", re.M)
-CONSTANT = re.compile(r"^(pub )?const (\w+): (?:u8|u32|usize) = (\d+);$", re.M)
+CONSTANT = re.compile(r"^(pub )?const (\w+): (u8|u32|usize) = (\d+);$", re.M)
 SIZE = re.compile(r"size_of::<(\w+)>\(\) == ([\d_]+)\)")
 CALL = re.compile(r'#\[unsafe\(no_mangle\)\]\npub extern "C" fn (\w+)\((.*?)\) -> (\w+)', re.S)
 
@@ -76,22 +75,15 @@ FOOT_OF_C = """
 #endif"""
 
 
-HEAD_OF_RUST = """
-use crate::sys;
-use std::mem::{offset_of, size_of};
+HEAD_OF_RUST = """//! The calls of the library `libav1_c.a`, as C has them. `av1_c.h` documents each one.
+//!
+//! Functions and structs have C's names without the prefix. Use the crate `av1_c`, whose calls are
+//! safe, unless you need pointers. `bindings/declared.py` writes this file.
 
-macro_rules! holds {
-    ($e:expr) => {
-        const _: () = assert!($e);
-    };
-}
+use std::mem::size_of;
 
-macro_rules! field {
-    ($s:ty, $f:ident, $t:ty, $at:expr) => {
-        holds!(offset_of!($s, $f) == $at);
-        const _: fn(&$s) -> &$t = |of| &of.$f;
-    };
-}
+#[cfg(not(target_pointer_width = "64"))]
+compile_error!("the library is code for Linux on x86-64, with pointers of 64 bits");
 """
 
 
@@ -100,17 +92,17 @@ class Declared:
 
     def __init__(self, texts):
         every = [match for text in texts for match in CONSTANT.findall(text)]
-        self.numbers = {name: int(number) for _, name, number in every}
-        self.constants = {name: int(number) for public, name, number in every if public}
+        self.numbers = {name: int(number) for _, name, _, number in every}
+        self.constants = {name: (of, int(number)) for public, name, of, number in every if public}
         self.structs = {name: FIELD.findall(body) for text in texts for name, body in STRUCT.findall(text)}
         self.sizes = {name: int(size.replace("_", "")) for text in texts for name, size in SIZE.findall(text)}
         calls = [match for text in texts for match in CALL.findall(text)]
         self.calls = {name: (self.parameters(listed), answer) for name, listed, answer in calls}
 
     def parameters(self, listed):
-        """The types of the parameters that cross: an allocator doesn't."""
-        types = [part.split(":", 1)[1].strip() for part in listed.split(",") if part.strip()]
-        return [of for of in types if of != "Global"]
+        """The names and the types of the parameters that cross: an allocator doesn't."""
+        parts = [part.split(":", 1) for part in listed.split(",") if part.strip()]
+        return [(name.strip(), of.strip()) for name, of in parts if of.strip() != "Global"]
 
     def array(self, of):
         """The type and the number of the elements of an array, or nothing."""
@@ -142,11 +134,11 @@ class Declared:
 
 def in_c(of):
     """A type that is no array, in C."""
-    return NUMBERS[of][0] if of in NUMBERS else NAMES[of][0]
+    return NUMBERS[of][0] if of in NUMBERS else NAMES[of]
 
 
 def in_rust(of):
-    return of if of in NUMBERS else NAMES[of][1]
+    return of if of in NUMBERS else "".join(word.capitalize() for word in NAMES[of].split("_")[1:])
 
 
 def pointer_in_c(declared, of):
@@ -160,19 +152,29 @@ def field_in_rust(declared, of):
     return "[%s; %d]" % (in_rust(array[0]), array[1]) if array else in_rust(of)
 
 
+def pointed(of):
+    """Of a reference: whether it is written, whether it is a slice, and to what it leads. Of a number nothing."""
+    rows = re.fullmatch(r"&(mut )?(\[)(&.+)\]", of)
+    match = rows or re.fullmatch(r"&(mut )?(\[)?(\w+)\]?", of)
+    return match and match.groups()
+
+
 def crossing(of):
-    """What a parameter becomes, in C and in Rust: a slice is a pointer and a length."""
-    rows = re.fullmatch(r"&(mut )?\[(&.+)\]", of)
-    if rows:
-        return [("%s *" if rows[1] else "const %s *") % ROWS[rows[2]], "size_t"], None
-    match = re.fullmatch(r"&(mut )?(\[)?(\w+)\]?", of)
-    if not match:
-        return [in_c(of)], [in_rust(of)]
-    is_written, is_slice, element = match.groups()
-    pointer = ("%s *" if is_written else "const %s *") % in_c(element)
-    if is_slice:
-        return [pointer, "size_t"], [("*mut " if is_written else "*const ") + in_rust(element), "usize"]
-    return [pointer], [("&mut " if is_written else "&") + in_rust(element)]
+    """What a parameter becomes in C: a slice is a pointer and a length."""
+    if not pointed(of):
+        return [in_c(of)]
+    is_written, is_slice, element = pointed(of)
+    pointer = ("%s *" if is_written else "const %s *") % (ROWS.get(element) or in_c(element))
+    return [pointer, "size_t"] if is_slice else [pointer]
+
+
+def crossing_to_rust(name, of):
+    """The same in Rust, with names."""
+    if not pointed(of):
+        return ["%s: %s" % (name, in_rust(of))]
+    is_written, is_slice, element = pointed(of)
+    pointer = "%s: *%s %s" % (name, "mut" if is_written else "const", in_rust(element))
+    return [pointer, name + "_len: usize"] if is_slice else [pointer]
 
 
 def wrapped(line):
@@ -181,40 +183,54 @@ def wrapped(line):
 
 def of_c(declared):
     lines = ["/* %s */" % HEAD, HEAD_OF_C]
-    for name, number in declared.constants.items():
+    for name, (_, number) in declared.constants.items():
         lines.append("HOLDS(%s == %d);" % (CONSTANTS_OF_C.get(name, "AV1_" + name), number))
     for name, size in declared.sizes.items():
-        lines += ["", "HOLDS(sizeof(%s) == %d);" % (NAMES[name][0], size)]
+        lines += ["", "HOLDS(sizeof(%s) == %d);" % (NAMES[name], size)]
     for name in declared.structs:
-        lines += ["", "HOLDS(sizeof(%s) == %d);" % (NAMES[name][0], declared.layout(name)[0])]
+        lines += ["", "HOLDS(sizeof(%s) == %d);" % (NAMES[name], declared.layout(name)[0])]
         for field, of, at in declared.places(name)[0]:
-            lines.append("FIELD(%s, %s, %s, %d);" % (NAMES[name][0], field, pointer_in_c(declared, of), at))
+            lines.append("FIELD(%s, %s, %s, %d);" % (NAMES[name], field, pointer_in_c(declared, of), at))
     for of, name in ROWS.items():
-        lines += ["", "HOLDS(sizeof(%s) == 16);" % name, "FIELD(%s, at, %s*, 0);" % (name, crossing(of)[0][0]), "FIELD(%s, len, size_t *, 8);" % name]
+        lines += ["", "HOLDS(sizeof(%s) == 16);" % name, "FIELD(%s, at, %s*, 0);" % (name, crossing(of)[0]), "FIELD(%s, len, size_t *, 8);" % name]
     lines.append("")
     for name, (types, answer) in declared.calls.items():
-        words = [word for of in types for word in crossing(of)[0]]
+        words = [word for _, of in types for word in crossing(of)]
         lines.append(wrapped("%s %s(%s);" % (in_c(answer), name, ", ".join(words) or "void")))
     return "\n".join(lines + [FOOT_OF_C, ""])
 
 
+def struct_in_rust(declared, name):
+    derived = "Clone, Copy, Debug, Default, PartialEq, Eq"
+    lines = ["", "/// `%s`." % NAMES[name], "#[repr(C)]", "#[derive(%s)]" % derived, "pub struct %s {" % in_rust(name)]
+    lines += ["    pub %s: %s," % (field, field_in_rust(declared, of)) for field, of in declared.structs[name]]
+    size = "const _: () = assert!(size_of::<%s>() == %d);" % (in_rust(name), declared.layout(name)[0])
+    return lines + ["}", size]
+
+
+def room_in_rust(name, size):
+    """A struct of which only the size crosses: numbers of 32 bits."""
+    lines = ["", "/// `%s`." % NAMES[name], "#[repr(C, align(64))]", "#[derive(Clone, Debug)]", "pub struct %s {" % in_rust(name)]
+    return lines + ["    pub words: [i32; %d]," % (size // 4), "}"]
+
+
+def call_in_rust(name, types, answer):
+    """The declaration of a call, as rustfmt lays it out."""
+    words = [word for parameter in types for word in crossing_to_rust(*parameter)]
+    head, tail = "    pub fn %s(" % name.split("_", 1)[1], ") -> %s;" % in_rust(answer)
+    line = head + ", ".join(words) + tail
+    lines = [line] if len(line) <= 100 else [head, *("        %s," % word for word in words), "    " + tail]
+    return ["", '    #[link_name = "%s"]' % name, *lines]
+
+
 def of_rust(declared):
-    lines = ["//! %s" % HEAD, HEAD_OF_RUST]
-    for name, number in declared.constants.items():
-        lines.append("holds!(%s%s == %d);" % ("crate::" if name in CONSTANTS_OF_CRATE else "sys::", name, number))
-    for name, size in declared.sizes.items():
-        lines += ["", "holds!(size_of::<%s>() == %d);" % (NAMES[name][1], size)]
-    for name in declared.structs:
-        lines += ["", "holds!(size_of::<%s>() == %d);" % (NAMES[name][1], declared.layout(name)[0])]
-        for field, of, at in declared.places(name)[0]:
-            lines.append("field!(%s, %s, %s, %d);" % (NAMES[name][1], field, field_in_rust(declared, of), at))
-    lines.append("")
-    for name, (types, answer) in declared.calls.items():
-        if any(crossing(of)[1] is None for of in types):
-            continue
-        words = ", ".join(word for of in types for word in crossing(of)[1])
-        lines.append(wrapped('const _: unsafe extern "C" fn(%s) -> %s = sys::%s;' % (words, in_rust(answer), name)))
-    return "\n".join(lines + [""])
+    lines = [HEAD_OF_RUST]
+    lines += ["pub const %s: %s = %d;" % (name, *number) for name, number in declared.constants.items()]
+    lines += [line for name, size in declared.sizes.items() for line in room_in_rust(name, size)]
+    lines += [line for name in declared.structs for line in struct_in_rust(declared, name)]
+    calls = [line for name, (types, answer) in declared.calls.items() if not any("[&" in of for _, of in types)
+             for line in call_in_rust(name, types, answer)]
+    return "\n".join(lines + ["", 'extern "C" {', *calls[1:], "}", ""])
 
 
 def exported(declared):
@@ -225,7 +241,7 @@ def exported(declared):
 def main():
     declared = Declared([path.read_text("utf8") for path in SOURCES])
     faults = 0
-    files = {"c/declared.c": of_c(declared), "c/av1_c.map": exported(declared), "rust/src/declared.rs": of_rust(declared)}
+    files = {"c/declared.c": of_c(declared), "c/av1_c.map": exported(declared), "rust/sys/src/lib.rs": of_rust(declared)}
     for path, text in ((HERE / name, text) for name, text in files.items()):
         if "--check" not in sys.argv[1:]:
             path.write_text(text, "utf8")

@@ -18,7 +18,7 @@ def main():
     if len(sys.argv) < 4:
         sys.exit(__doc__)
     work, file = map(pathlib.Path, sys.argv[1:3])
-    record_rows.calls.build(record_rows.RAV1E, work, record_rows.HERE / "recorder.rs", record_rows.HERE.glob("*_rows.rs"))
+    record_rows.build_recorder.build(record_rows.RAV1E, work)
     drawn = [subprocess.run([str(work / "recorder"), seed], capture_output=True, check=True).stdout for seed in sys.argv[3:]]
     file.write_bytes(record_rows.MAGIC + b"".join(drawn))
 

@@ -24,10 +24,10 @@ HERE = pathlib.Path(__file__).resolve().parent
 INTEGRATION = HERE.parent.parent / "integrations" / "rav1e"
 RAV1E = INTEGRATION / "out/source/crates/rav1e-0.8.1"
 sys.dont_write_bytecode = True
-sys.path += [str(HERE), str(HERE.parent / "record_calls"), str(HERE.parent / "rav1e")]
+sys.path += [str(HERE), str(HERE.parent / "rav1e")]
+import build_recorder
 import departure_rows
 import program_rows
-import record as calls
 import runs
 import tool_rows
 
@@ -37,7 +37,7 @@ KINDS = ("program", "tools", "network", "transform", "put", "prepare", "average"
 
 def on_blocks(work):
     """The rows of calls on blocks."""
-    calls.build(RAV1E, work, HERE / "recorder.rs", HERE.glob("*_rows.rs"))
+    build_recorder.build(RAV1E, work)
     return subprocess.run([str(work / "recorder")], capture_output=True, check=True).stdout
 
 

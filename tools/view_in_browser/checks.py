@@ -8,7 +8,14 @@ PICTURE = "document.getElementById('picture').toDataURL()"
 
 class Checks:
     def __init__(self):
-        self.passed, self.failed = 0, 0
+        self.passed, self.failed, self.skipped = 0, 0, 0
+
+    def __str__(self):
+        return f"{self.passed} passed, {self.failed} failed" + f", {self.skipped} skipped" * (self.skipped > 0)
+
+    def skip(self, name, why):
+        self.skipped += 1
+        print(f"SKIPPED {name}: {why}", flush=True)
 
     def same(self, name, found, wanted):
         if found == wanted:

@@ -54,7 +54,9 @@ def look_at_panel(browser, checks, name, plan):
     checks.same(f"{name}: limited range is the default", browser.value("document.getElementById('matrix').value"), "BT.709, limited range")
     named = browser.json("view.frame.slots.map((slot) => [...document.querySelectorAll('#sources label')].some((l) => l.textContent.includes(`slot ${slot}`) "
                          "&& /all references|all but|LAST|GOLDEN|BWDREF|ALTREF/.test(l.textContent)))")
-    checks.same(f"{name}: slots have the names of references", named, 7 * [True] if plan.slots else 7 * [False])
+    held = browser.json("view.frame.slots.map((slot) => Boolean(view.plan.slots[slot]))")
+    checks.same(f"{name}: slots have the names of references", named, held)
+    checks.same(f"{name}: as many as the plan has", any(held), bool(plan.slots))
     for width, height in ((1280, 800), (360, 640)):
         browser.window(width, height)
         browser.value(FRAMES)

@@ -2,7 +2,6 @@
 """Opens pages of `av1_view` in a headless Chromium, and checks their content.
 
     tools/view_in_browser/view_in_browser.py [--view PROGRAM] [--recon PROGRAM] [--tools PROGRAM] [--screenshots FOLDER] [--only WORD] [--small]
-        [--frame PLAN]
 
 The default programs are what `rt run` builds in the folders `out` of `av1_view`, `av1_vectors` and `av1_tools`. Each page is opened. Before
 that, it is compared byte by byte with the page that `view_template` puts together from the planes of `av1_vectors` and the page's own
@@ -11,11 +10,11 @@ compared with a second reader of plans, `plans.py`. What it shows is checked by 
 dark scheme, and at two device pixels for each CSS pixel.
 
 `--view none` puts the pages together here, with the frame without coefficients as predictions, and does not run av1_view. `--only` runs the groups
-of steps whose name has the word. `--small` leaves out the large frames: 2048x2048, and the frame of `--frame`. `--frame` is the plan of an intra
-frame from `integrations/rav1e/record`: its page must be small and open fast.
+of steps whose name has the word. `--small` leaves out the large frames: 2048x2048, and a coded one of 1920x1080.
 
-It needs `chromium` (a Debian package) and no network. It ends with 'N passed, M failed'; the status is 1 if M is not 0. `--screenshots` leaves
-pictures of the pages in that folder.
+It needs `chromium` (a Debian package). It ends with 'N passed, M failed', and the status is 1 if M is not 0. The steps `av1_file` and `recorded` make
+pages of AV1 files. They need `ffmpeg`, dav1d as `integrations/dav1d/source` builds it, and at their first run the network. If one of these is
+missing, they say what to do, and the last line counts them as skipped. `--screenshots` leaves pictures of the pages in that folder.
 """
 import argparse
 import base64
@@ -32,6 +31,7 @@ import time
 
 HERE = os.path.dirname(os.path.abspath(__file__))
 sys.path.insert(0, HERE)
+import coded  # noqa: E402
 import edges  # noqa: E402
 import files  # noqa: E402
 import hands  # noqa: E402
@@ -394,23 +394,56 @@ def greatest_trace(browser, pages, checks, options):
     checks.same("greatest trace: faults of the page", browser.faults(), [])
 
 
-def recorded(browser, pages, checks, options):
-    """A frame that an encoder coded. Its page is not much larger than its plan and its planes, and opens at once."""
-    if not options.frame:
+def checked(pages, checks, options, name, words, first=False):
+    """A stream, and what `check` says and writes of it, or None if that is skipped; with `first` only its first frame."""
+    path, why = (None, "`--view none` does not run av1_view") if options.view == "none" else coded.stream(words)
+    if why:
+        checks.skip(name, why)
+        return None, None
+    path = coded.first_of(path, pages.folder) if first else path
+    return path, coded.Checked(path, pages.folder, options)
+
+
+def av1_file(browser, pages, checks, options):
+    """A page that `integrations/dav1d/check --page` writes of an AV1 file."""
+    stream, found = checked(pages, checks, options, "av1_file", coded.SMALL)
+    if not found:
         return
-    with open(options.frame, "rb") as file:
-        data = file.read()
-    path, planes, predictions = pages.write("recorded", data)
-    plan, size = Plan(data), os.path.getsize(path) / len(base64.b64encode(data + planes))
+    path, planes, predictions = pages.write("av1_file", found.plan, found.trace)
+    with open(path, "rb") as wanted, open(found.page, "rb") as page:
+        checks.true("AV1 file: check writes the page of the trace that it keeps", page.read() == wanted.read())
+    checks.true("AV1 file: the decoder's planes are those of the plan", found.given == planes)
+    held.look_at(browser, checks, "AV1 file", found.page, Plan(found.plan), planes, predictions)
+    coded.look_at_front(browser, checks, stream, found)
+    coded.look_at_click(browser, checks, found, planes, predictions)
+    hunt.look_at_panel(browser, checks, "AV1 file", Plan(found.plan))
+    hunt.look_at_numbers(browser, checks, "AV1 file", Plan(found.plan), planes, predictions)
+    checks.same("AV1 file: faults of the page", browser.faults(), [])
+    for width, height in ((1280, 800), (360, 640)):
+        browser.window(width, height)
+        screenshot(browser, options, f"view_file_{width}", "view.moveTo(90, 70), view.fitFrame()")
+    browser.window(1100, 700)
+
+
+def recorded(browser, pages, checks, options):
+    """A frame of 1920x1080 that an encoder coded. Its page is not much larger than its plan and its planes, and opens at once."""
+    _, found = checked(pages, checks, options, "recorded", coded.LARGE, first=True)
+    if not found:
+        return
+    path, planes, predictions = pages.write("recorded", found.plan)
+    plan, size = Plan(found.plan), os.path.getsize(path) / len(base64.b64encode(found.plan + planes))
+    checks.same("recorded: the size of the frame", (plan.width, plan.height), (1920, 1080))
     held.look_at(browser, checks, "recorded", path, plan, planes, predictions)
-    opening = least_time(lambda: browser.open(path))
-    print(f"recorded, {plan.width}x{plan.height}: a page of {size:.2f} times plan and planes, which opens in {opening:.2f} s", flush=True)
+    opening, traced = (least_time(lambda: browser.open(page)) for page in (path, found.page))
+    print(f"recorded, {plan.width}x{plan.height}, {len(plan.leaves)} leaves: a page of {size:.2f} times plan and planes, which opens in {opening:.2f} s; "
+          f"the page of its trace opens in {traced:.2f} s", flush=True)
     checks.true("recorded: the size of its page", size <= MOST_SIZE)
     checks.true("recorded: its page opens", opening < MOST_RECORDED)
+    checks.same("recorded: no sample differs from the decoder's", browser.text("differing"), "The given samples equal those of the plan.")
     checks.same("recorded: faults of the page", browser.faults(), [])
 
 
-SMALL = [worked, stripes, odd, departures, five, photo, trace, everywhere, sequence, hidden, grid]
+SMALL = [worked, stripes, odd, departures, five, photo, trace, everywhere, sequence, hidden, grid, av1_file]
 LARGE = [great, greatest_trace, recorded]
 
 
@@ -419,7 +452,6 @@ def main():
     for name, crate in (("view", "av1_view"), ("recon", "av1_vectors"), ("tools", "av1_tools")):
         parser.add_argument("--" + name, default=os.path.join(CRATES, crate, "out", crate))
     parser.add_argument("--screenshots")
-    parser.add_argument("--frame")
     parser.add_argument("--only", default="")
     parser.add_argument("--small", action="store_true")
     options, checks = parser.parse_args(), Checks()
@@ -429,8 +461,8 @@ def main():
         for group in SMALL if options.small else SMALL + LARGE:
             if options.only in group.__name__:
                 group(browser, pages, checks, options)
-                print(f"{group.__name__}: {checks.passed} passed, {checks.failed} failed so far", flush=True)
-    print(f"{checks.passed} passed, {checks.failed} failed")
+                print(f"{group.__name__}: {checks} so far", flush=True)
+    print(checks)
     sys.exit(1 if checks.failed else 0)
 
 

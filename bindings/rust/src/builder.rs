@@ -1,31 +1,52 @@
-//! Plans built field by field, in a buffer of the caller.
+//! Plans built field by field.
 
-use crate::sys;
+use crate::{
+    BitDepth, BlockSize, Filter, Partition, PredictionMode, Reference, Sampling, TxSize, TxType,
+};
+use av1_c_sys as sys;
 use std::fmt;
+use std::mem::size_of;
 
-/// The frame of a plan, and what holds for all its leaves.
-#[repr(C)]
-#[derive(Clone, Copy, Debug, Default, PartialEq, Eq)]
+/// The frame of a plan, and what holds for all its leaves. `..Header::default()` gives the rest: a
+/// plan of version 3 at depth 8 in 4:2:0, without references, edge filter and visible samples.
+#[derive(Clone, Copy, Debug, PartialEq, Eq)]
 pub struct Header {
     /// Visible columns of luma: 1 to 2048; up to version 2 a multiple of 8.
     pub width: u16,
     /// Visible rows of luma: 1 to 2048; up to version 2 a multiple of 8.
     pub height: u16,
-    /// 1, 2 or 3. Version 2 adds nodes cut into four strips (marks 8 and 9), version 3 any width and
-    /// height (`docs/PLAN_FORMAT.md`).
+    /// 1, 2 or 3. Version 2 adds nodes cut into four strips ([`Partition::Horizontal4`],
+    /// [`Partition::Vertical4`]), version 3 any width and height and AV1's rules
+    /// (`docs/PLAN_FORMAT.md`).
     pub version: u8,
-    /// Bits of a sample: 8, 10 or 12.
-    pub depth: u8,
-    /// 0 for 4:2:0, 1 for 4:2:2 and 2 for 4:4:4.
-    pub sampling: u8,
-    /// The interpolation filter of motion compensation: 0 to 3.
-    pub filter: u8,
-    /// 0: intra edges are not filtered.
-    pub edge_filter: u8,
+    /// Bits of a sample.
+    pub depth: BitDepth,
+    /// How many samples chroma has.
+    pub sampling: Sampling,
+    /// The interpolation filter of motion compensation: any except [`Filter::Rav1eSharp`].
+    pub filter: Filter,
+    /// Whether intra edges are filtered.
+    pub edge_filter: bool,
     /// The slots that carry planes: bit s stands for slot s.
     pub mask: u8,
     /// The slot, 0 to 7, of each reference from LAST to ALTREF.
     pub slots: [u8; 7],
+}
+
+impl Default for Header {
+    fn default() -> Header {
+        Header {
+            width: 0,
+            height: 0,
+            version: 3,
+            depth: BitDepth::default(),
+            sampling: Sampling::default(),
+            filter: Filter::default(),
+            edge_filter: false,
+            mask: 0,
+            slots: [0; 7],
+        }
+    }
 }
 
 /// A coefficient of a leaf in one plane.
@@ -40,90 +61,194 @@ pub struct Coefficient {
     pub block: u8,
 }
 
+// Both have the same fields in the same order.
+const _: () = assert!(size_of::<Coefficient>() == size_of::<sys::Coefficient>());
+
 /// A reference and its vector, in eighths of a luma sample.
-#[repr(C)]
 #[derive(Clone, Copy, Debug, Default, PartialEq, Eq)]
 pub struct Motion {
     /// How far down.
     pub row: i16,
     /// How far to the right.
     pub col: i16,
-    /// LAST to ALTREF: 1 to 7.
-    pub reference: u8,
+    /// The reference.
+    pub reference: Reference,
 }
 
-/// The fields of a leaf except its coefficients, by their numbers in a plan. Leave what a leaf does
-/// not have at 0.
-#[repr(C)]
+/// The fields of a leaf except its coefficients. `..Leaf::default()` gives the rest: a leaf that is
+/// predicted by DC, with transforms `DCT_DCT` of 4x4, without chroma.
 #[derive(Clone, Copy, Debug, Default, PartialEq, Eq)]
 pub struct Leaf {
+    /// The mode of luma, or of the whole leaf if it has references.
+    pub mode: PredictionMode,
+    /// Without references: steps of 3 degrees on the mode's angle, from -3 to 3.
+    pub angle_step: i8,
     /// The reference, or the first of two.
-    pub first: Motion,
+    pub first: Option<Motion>,
     /// The second of two references.
-    pub second: Motion,
-    /// 0 to 13 without references, 14 to 19 with one, 20 to 33 with two.
-    pub mode: u8,
-    /// Without references: steps of 3 degrees on the mode's angle.
-    pub step: i8,
-    /// 0: the leaf carries no chroma.
-    pub chroma: u8,
-    /// Without references, if chroma is carried: 0 to 12, or 13 for chroma from luma.
-    pub chroma_mode: u8,
-    /// Steps of 3 degrees on that mode's angle.
-    pub chroma_step: i8,
-    /// The weight of chroma from luma for U, in eighths.
-    pub alpha_u: i8,
-    /// The same for V.
-    pub alpha_v: i8,
+    pub second: Option<Motion>,
     /// The size of the luma transforms.
-    pub tx_size: u8,
+    pub tx_size: TxSize,
     /// The type of the luma transforms.
-    pub tx_type: u8,
-    /// The type of the chroma transforms, if chroma is carried.
-    pub uv_type: u8,
+    pub tx_type: TxType,
+    /// `None` if the leaf carries no chroma.
+    pub chroma: Option<Chroma>,
 }
 
-/// Why a call of a builder failed. The builder and its buffer are then unchanged.
+/// The chroma of a leaf. The default is predicted by DC, with transforms `DCT_DCT`.
+#[derive(Clone, Copy, Debug, Default, PartialEq, Eq)]
+pub struct Chroma {
+    /// Without references: its mode, up to [`PredictionMode::Cfl`].
+    pub mode: PredictionMode,
+    /// Steps of 3 degrees on that mode's angle, from -3 to 3.
+    pub angle_step: i8,
+    /// The weight of chroma from luma for U, in eighths.
+    pub alpha_u: i8,
+    /// The weight of chroma from luma for V, in eighths.
+    pub alpha_v: i8,
+    /// The type of the chroma transforms.
+    pub tx_type: TxType,
+}
+
+impl From<&Header> for sys::PlanHeader {
+    fn from(of: &Header) -> sys::PlanHeader {
+        sys::PlanHeader {
+            width: of.width,
+            height: of.height,
+            version: of.version,
+            depth: of.depth.into(),
+            sampling: of.sampling.into(),
+            filter: of.filter.into(),
+            edge_filter: of.edge_filter.into(),
+            mask: of.mask,
+            slots: of.slots,
+        }
+    }
+}
+
+impl From<Motion> for sys::Motion {
+    fn from(of: Motion) -> sys::Motion {
+        sys::Motion {
+            row: of.row,
+            col: of.col,
+            reference: of.reference.into(),
+        }
+    }
+}
+
+impl From<&Leaf> for sys::Leaf {
+    fn from(of: &Leaf) -> sys::Leaf {
+        let chroma = of.chroma.unwrap_or_default();
+        sys::Leaf {
+            first: of.first.map(Into::into).unwrap_or_default(),
+            second: of.second.map(Into::into).unwrap_or_default(),
+            mode: of.mode.into(),
+            step: of.angle_step,
+            chroma: of.chroma.is_some().into(),
+            chroma_mode: chroma.mode.into(),
+            chroma_step: chroma.angle_step,
+            alpha_u: chroma.alpha_u,
+            alpha_v: chroma.alpha_v,
+            tx_size: of.tx_size.into(),
+            tx_type: of.tx_type.into(),
+            uv_type: chroma.tx_type.into(),
+        }
+    }
+}
+
+/// Why a call of a builder failed. The builder is then unchanged.
 #[derive(Clone, Copy, Debug, PartialEq, Eq)]
 #[non_exhaustive]
 pub enum BuildError {
-    /// The plan expects another kind of field next.
+    /// The plan expects another kind of field next: [`PlanBuilder::next_field`] says which.
     NotNow,
     /// An argument has a value that is not valid here.
     NotAdmitted,
     /// The plan would have more than 2^26 bytes.
     TooLong,
-    /// The plan would not fit in the buffer.
-    RoomTooSmall,
+    /// An allocation failed.
+    OutOfMemory,
+    /// The linked library returned a status that this crate does not know: it is of another
+    /// version.
+    Unknown {
+        /// The status.
+        status: u32,
+    },
 }
 
 impl fmt::Display for BuildError {
     fn fmt(&self, f: &mut fmt::Formatter<'_>) -> fmt::Result {
-        f.write_str(match self {
-            BuildError::NotNow => "the plan expects another kind of field next",
-            BuildError::NotAdmitted => "an argument has a value that is not valid here",
-            BuildError::TooLong => "too long",
-            BuildError::RoomTooSmall => "buffer too small",
-        })
+        match self {
+            BuildError::NotNow => f.write_str("the plan expects another kind of field next"),
+            BuildError::NotAdmitted => {
+                f.write_str("an argument has a value that is not valid here")
+            }
+            BuildError::TooLong => f.write_str("too long"),
+            BuildError::OutOfMemory => f.write_str("out of memory"),
+            BuildError::Unknown { status } => write!(f, "the library returned status {status}"),
+        }
     }
 }
 
 impl std::error::Error for BuildError {}
 
-// What a status means. The library returns no other statuses.
-fn answer(status: u32) -> Result<(), BuildError> {
-    match status {
-        sys::DONE => Ok(()),
-        sys::NOT_NOW => Err(BuildError::NotNow),
-        sys::NOT_ADMITTED => Err(BuildError::NotAdmitted),
-        sys::TOO_LONG => Err(BuildError::TooLong),
-        sys::ROOM_TOO_SMALL => Err(BuildError::RoomTooSmall),
-        sys::BAD_STATE => unreachable!("only calls have written to the builder"),
-        _ => unreachable!("status {status}"),
-    }
+// What a status means.
+fn told(status: u32) -> Result<(), BuildError> {
+    Err(match status {
+        sys::DONE => return Ok(()),
+        sys::NOT_NOW => BuildError::NotNow,
+        sys::NOT_ADMITTED => BuildError::NotAdmitted,
+        sys::TOO_LONG => BuildError::TooLong,
+        _ => BuildError::Unknown { status },
+    })
 }
 
-/// Writes a plan field by field to the front of a buffer.
+/// The field that a plan expects next. Positions are those of the first sample, in luma samples.
+#[derive(Clone, Copy, Debug, PartialEq, Eq)]
+#[non_exhaustive]
+pub enum Field {
+    /// The planes of a slot: [`PlanBuilder::reference`].
+    Reference {
+        /// The slot, 0 to 7.
+        slot: usize,
+    },
+    /// The mark of a square node: [`PlanBuilder::mark`].
+    Mark {
+        /// The column.
+        x: u16,
+        /// The row.
+        y: u16,
+        /// How many columns and rows it has: 64, 32, 16 or 8.
+        side: u16,
+    },
+    /// A leaf: [`PlanBuilder::leaf`].
+    Leaf {
+        /// The column.
+        x: u16,
+        /// The row.
+        y: u16,
+        /// Its size.
+        size: BlockSize,
+    },
+    /// Nothing: [`PlanBuilder::finish`] returns the plan.
+    End,
+}
+
+/// Writes a plan field by field.
+///
+/// ```
+/// use av1_c::{Chroma, Header, Leaf, Partition, PlanBuilder, Sampling, TxSize};
+/// let header = Header { width: 8, height: 8, sampling: Sampling::Yuv444, ..Header::default() };
+/// let mut builder = PlanBuilder::new(&header)?;
+/// builder.mark(Partition::Split)?; // of the superblock: 64x64, then its first node of 32x32, ..
+/// # builder.mark(Partition::Split)?;
+/// # builder.mark(Partition::Split)?;
+/// builder.mark(Partition::None)?; // the node of 8x8 is one leaf
+/// let leaf = Leaf { tx_size: TxSize::T8x8, chroma: Some(Chroma::default()), ..Leaf::default() };
+/// builder.leaf(&leaf, &[], &[], &[])?;
+/// let plan = builder.finish()?;
+/// # Ok::<(), av1_c::BuildError>(())
+/// ```
 ///
 /// 1. [`PlanBuilder::new`] gives the header.
 /// 2. [`PlanBuilder::reference`] gives the planes of each slot that the mask names, in rising order.
@@ -131,25 +256,82 @@ fn answer(status: u32) -> Result<(), BuildError> {
 ///    [`PlanBuilder::leaf`] each leaf. Parts that begin outside the frame are left out.
 /// 4. [`PlanBuilder::finish`] returns the bytes.
 ///
-/// No call allocates.
-pub struct PlanBuilder<'a> {
+/// To be able to go back, keep a clone.
+#[derive(Clone, Debug)]
+pub struct PlanBuilder {
     builder: sys::Builder,
-    room: &'a mut [u8],
+    // The bytes of the plan, `builder.written` of them, and room for more.
+    room: Vec<u8>,
 }
 
-impl<'a> PlanBuilder<'a> {
+impl PlanBuilder {
     /// Begins a plan with this header: its first 20 bytes.
     ///
     /// # Errors
     ///
-    /// `NotAdmitted`, then `RoomTooSmall`.
-    pub fn new(header: &Header, room: &'a mut [u8]) -> Result<Self, BuildError> {
-        let mut builder = sys::Builder::default();
-        // SAFETY: pointer and length come from one mutably borrowed slice; the builder is a local.
-        let status =
-            unsafe { sys::av1_builder_begin(header, &mut builder, room.as_mut_ptr(), room.len()) };
-        answer(status)?;
-        Ok(PlanBuilder { builder, room })
+    /// `NotAdmitted`.
+    pub fn new(header: &Header) -> Result<PlanBuilder, BuildError> {
+        let mut empty = PlanBuilder {
+            builder: sys::Builder::default(),
+            room: Vec::new(),
+        };
+        // SAFETY: pointer and length come from one mutably borrowed slice; header and builder are
+        // two values.
+        empty.append(|builder, room, len| unsafe {
+            sys::builder_begin(&header.into(), builder, room, len)
+        })?;
+        Ok(empty)
+    }
+
+    // Makes a call that appends to the plan, again in a longer buffer as long as it says that the
+    // buffer is too short. The bytes past those written are zeros or of no use.
+    fn append(
+        &mut self,
+        call: impl Fn(&mut sys::Builder, *mut u8, usize) -> u32,
+    ) -> Result<(), BuildError> {
+        loop {
+            let status = call(&mut self.builder, self.room.as_mut_ptr(), self.room.len());
+            if status != sys::ROOM_TOO_SMALL {
+                return told(status);
+            }
+            let more = self.room.len().max(1024);
+            let made = self.room.try_reserve(more);
+            made.map_err(|_| BuildError::OutOfMemory)?;
+            self.room.resize(self.room.len() + more, 0);
+        }
+    }
+
+    /// The field that the plan expects next.
+    #[must_use]
+    pub fn next_field(&self) -> Field {
+        let builder = &self.builder;
+        if builder.slot < 8 {
+            return Field::Reference { slot: builder.slot };
+        }
+        let count = builder.count.min(builder.parts.len());
+        if let Some(part) = builder.parts[..count].last() {
+            let (x, y) = (part.x, part.y);
+            return match BlockSize::try_from(part.number) {
+                Ok(size) if part.kind == 0 => Field::Leaf { x, y, size },
+                _ => Field::Mark {
+                    x,
+                    y,
+                    side: 4 << part.number.min(4),
+                },
+            };
+        }
+        let (x, y) = (64 * builder.col, 64 * builder.row);
+        if x < builder.header.width {
+            Field::Mark { x, y, side: 64 }
+        } else {
+            Field::End
+        }
+    }
+
+    /// The bytes of the plan so far.
+    #[must_use]
+    pub fn written(&self) -> &[u8] {
+        &self.room[..self.builder.written]
     }
 
     /// Gives the planes of the next slot in the mask, each row by row.
@@ -157,14 +339,14 @@ impl<'a> PlanBuilder<'a> {
     /// # Errors
     ///
     /// `NotNow` if the plan does not expect planes. `NotAdmitted` if a plane has the wrong number of
-    /// samples, or a sample is not below `1 << depth`. Then `TooLong`, then `RoomTooSmall`.
+    /// samples, or a sample is not below `1 << depth`. Then `TooLong`, then `OutOfMemory`.
     pub fn reference(&mut self, y: &[u16], u: &[u16], v: &[u16]) -> Result<(), BuildError> {
         // SAFETY: pointers and lengths come from borrowed slices, the buffer borrowed mutably.
-        answer(unsafe {
-            sys::av1_builder_reference(
-                &mut self.builder,
-                self.room.as_mut_ptr(),
-                self.room.len(),
+        self.append(|builder, room, len| unsafe {
+            sys::builder_reference(
+                builder,
+                room,
+                len,
                 y.as_ptr(),
                 y.len(),
                 u.as_ptr(),
@@ -180,32 +362,27 @@ impl<'a> PlanBuilder<'a> {
     /// # Errors
     ///
     /// `NotNow` if the plan does not expect a mark. `NotAdmitted` if the node cannot have this mark.
-    /// Then `TooLong`, then `RoomTooSmall`.
-    pub fn mark(&mut self, mark: u8) -> Result<(), BuildError> {
+    /// Then `TooLong`, then `OutOfMemory`.
+    pub fn mark(&mut self, mark: Partition) -> Result<(), BuildError> {
         // SAFETY: pointer and length come from one mutably borrowed slice.
-        answer(unsafe {
-            sys::av1_builder_mark(
-                &mut self.builder,
-                self.room.as_mut_ptr(),
-                self.room.len(),
-                mark,
-            )
+        self.append(|builder, room, len| unsafe {
+            sys::builder_mark(builder, room, len, mark.into())
         })
     }
 
-    /// Gives the next leaf, with its coefficients in Y, U and V. Its size and its position follow from
-    /// the marks.
+    /// Gives the next leaf, with its coefficients in Y, U and V. Its size and its position follow
+    /// from the marks.
     ///
     /// # Errors
     ///
     /// `NotNow` if the plan does not expect a leaf. `NotAdmitted` for one of these reasons:
     ///
-    /// - a number is not valid here;
-    /// - `chroma` is set though the leaf carries none, or is 0 though it carries chroma;
+    /// - a mode, an angle step, a weight or a size is not valid here;
+    /// - `chroma` is there though the leaf carries none, or is missing though it carries chroma;
     /// - there are coefficients of chroma that the leaf does not carry;
     /// - a plane has more than 65,535 coefficients.
     ///
-    /// Then `TooLong`, then `RoomTooSmall`.
+    /// Then `TooLong`, then `OutOfMemory`.
     pub fn leaf(
         &mut self,
         leaf: &Leaf,
@@ -213,35 +390,37 @@ impl<'a> PlanBuilder<'a> {
         u: &[Coefficient],
         v: &[Coefficient],
     ) -> Result<(), BuildError> {
+        let leaf = sys::Leaf::from(leaf);
         // SAFETY: pointers and lengths come from borrowed slices, the buffer borrowed mutably.
-        answer(unsafe {
-            sys::av1_builder_leaf(
-                &mut self.builder,
-                self.room.as_mut_ptr(),
-                self.room.len(),
-                leaf,
-                y.as_ptr(),
+        // Coefficients are laid out as the call's.
+        self.append(|builder, room, len| unsafe {
+            sys::builder_leaf(
+                builder,
+                room,
+                len,
+                &leaf,
+                y.as_ptr().cast(),
                 y.len(),
-                u.as_ptr(),
+                u.as_ptr().cast(),
                 u.len(),
-                v.as_ptr(),
+                v.as_ptr().cast(),
                 v.len(),
             )
         })
     }
 
-    /// The bytes of the plan.
+    /// Returns the bytes of the plan.
     ///
     /// # Errors
     ///
     /// `NotNow` if a field is still missing.
-    pub fn finish(&self) -> Result<&[u8], BuildError> {
+    pub fn finish(mut self) -> Result<Vec<u8>, BuildError> {
         let mut len = 0;
         // SAFETY: pointer and length come from one slice; the call writes only a local.
-        let status = unsafe {
-            sys::av1_builder_finish(&self.builder, self.room.as_ptr(), self.room.len(), &mut len)
-        };
-        answer(status)?;
-        Ok(&self.room[..len])
+        told(unsafe {
+            sys::builder_finish(&self.builder, self.room.as_ptr(), self.room.len(), &mut len)
+        })?;
+        self.room.truncate(len);
+        Ok(self.room)
     }
 }

@@ -1,28 +1,86 @@
-//! Intra prediction of a block in the caller's memory.
+//! Intra prediction of a block in the caller's memory, and numbers that it needs.
 
-use crate::{Error, Place, sys, told};
+use crate::error::told;
+use crate::{BitDepth, EdgeBlock, EdgePlane, Error, Place, PredictionMode, TxSize};
+use av1_c_sys as sys;
+
+/// The blocks above and to the left of a block that an intra mode predicts.
+#[derive(Clone, Copy, Debug, Default, PartialEq, Eq)]
+pub struct Neighbours {
+    /// Whether the plane is one of chroma.
+    pub chroma: bool,
+    /// The block above, or `None` if the tile has no block there.
+    pub above: Option<Neighbour>,
+    /// The block to the left, or `None` if the tile has no block there.
+    pub left: Option<Neighbour>,
+}
+
+/// A neighbour of a block.
+#[derive(Clone, Copy, Debug, Default, PartialEq, Eq)]
+pub struct Neighbour {
+    /// Its mode in this plane.
+    pub mode: PredictionMode,
+    /// Whether it is predicted from another frame. It is read only for chroma.
+    pub inter: bool,
+}
+
+/// Finds out if a neighbour of a block has a smooth mode, which the edge filter needs. In a plane
+/// of chroma, only a neighbour that is predicted from its own frame counts.
+///
+/// # Errors
+///
+/// None, with a library of this version.
+pub fn smooth_neighbour(neighbours: &Neighbours) -> Result<bool, Error> {
+    let mode = |of: Option<Neighbour>| of.map_or(sys::ANY_MODE, |it| it.mode.into());
+    let inter = |of: Option<Neighbour>| of.map_or(0, |it| it.inter.into());
+    let given = sys::Neighbours {
+        chroma: neighbours.chroma.into(),
+        above_mode: mode(neighbours.above),
+        above_inter: inter(neighbours.above),
+        left_mode: mode(neighbours.left),
+        left_inter: inter(neighbours.left),
+    };
+    let mut smooth = 0;
+    // SAFETY: each pointer leads to one value, `smooth` borrowed mutably.
+    told(unsafe { sys::smooth_neighbour(&mut smooth, &given) })?;
+    Ok(smooth != 0)
+}
+
+/// Converts an angle in degrees to steps of 3 degrees from a mode's own angle: `angle_step` of a
+/// block. 90 is from above, 180 from the left. A mode without a direction has only the angle 0, and
+/// turns no steps.
+///
+/// # Errors
+///
+/// `BadMode`: it is not an intra mode, or is chroma from luma. Then `BadAngle`: the mode does not
+/// turn to this angle.
+pub fn angle_step(mode: PredictionMode, angle: usize) -> Result<i8, Error> {
+    let mut step = 0;
+    // SAFETY: the pointer leads to one value, borrowed mutably.
+    told(unsafe { sys::angle_step(&mut step, mode.into(), angle) })?;
+    Ok(step)
+}
 
 /// A block that an intra mode predicts.
-#[repr(C)]
-#[derive(Clone, Copy, Debug, PartialEq, Eq)]
+#[derive(Clone, Copy, Debug, Default, PartialEq, Eq)]
 pub struct IntraBlock {
-    /// The number of its mode, from 0 (`DC_PRED`) to 12 (`PAETH_PRED`). Prediction from luma does
-    /// not read it.
-    pub mode: u8,
-    /// The number of its size among those of transforms, from 0 (`TX_4X4`) to 18 (`TX_64X16`).
-    pub tx_size: u8,
+    /// Its mode, up to [`PredictionMode::Paeth`]. Prediction from luma does not read it.
+    pub mode: PredictionMode,
+    /// Its size.
+    pub tx_size: TxSize,
     /// How many steps of 3 degrees a directional mode turns, from -3 to 3; 0 in other modes.
     pub angle_step: i8,
-    /// The depth of its samples, in bits: 8, 10 or 12.
-    pub bit_depth: u8,
-    /// 0: the left edge lies outside the block's tile.
-    pub has_left: u8,
-    /// 0: the edge above lies outside the block's tile.
-    pub has_above: u8,
-    /// 0: the edge filter is off.
-    pub edge_filter: u8,
-    /// 0: no neighbour has a smooth mode. It is not read if the filter is off.
-    pub smooth_neighbour: u8,
+    /// The depth of its samples.
+    pub bit_depth: BitDepth,
+    /// Whether the left edge lies in the block's tile.
+    pub has_left: bool,
+    /// Whether the edge above lies in the block's tile.
+    pub has_above: bool,
+    /// Whether the edge filter is on.
+    pub edge_filter: bool,
+    /// Whether a neighbour has a smooth mode ([`smooth_neighbour`]). It is not read if the filter
+    /// is off.
+    pub smooth_neighbour: bool,
     /// How many visible columns the plane has from the block's first one on. The filter smooths
     /// none past them.
     pub visible_columns: usize,
@@ -30,8 +88,25 @@ pub struct IntraBlock {
     pub visible_rows: usize,
 }
 
+impl From<&IntraBlock> for sys::IntraBlock {
+    fn from(of: &IntraBlock) -> sys::IntraBlock {
+        sys::IntraBlock {
+            mode: of.mode.into(),
+            tx_size: of.tx_size.into(),
+            angle_step: of.angle_step,
+            bit_depth: of.bit_depth.into(),
+            has_left: of.has_left.into(),
+            has_above: of.has_above.into(),
+            edge_filter: of.edge_filter.into(),
+            smooth_neighbour: of.smooth_neighbour.into(),
+            visible_columns: of.visible_columns,
+            visible_rows: of.visible_rows,
+        }
+    }
+}
+
 macro_rules! intra_calls {
-    ($sample:ident, $intra:ident, $predict_intra:ident, $cfl:ident, $predict_cfl:ident) => {
+    ($sample:ident, $predict_intra:ident, $predict_cfl:ident, $predict_in_plane:ident) => {
         /// Predicts a block by its intra mode from the edges around it. All other samples are
         /// unchanged.
         ///
@@ -41,7 +116,7 @@ macro_rules! intra_calls {
         ///
         /// # Errors
         ///
-        /// `BadMode`, then `BadSize`, then `BadAngle`, then `BadDepth`, then `BadArea`, then `TooShort`.
+        /// `BadMode`, then `BadAngle`, then `BadDepth`, then `BadArea`, then `TooShort`.
         pub fn $predict_intra(
             samples: &mut [$sample],
             place: Place,
@@ -51,22 +126,21 @@ macro_rules! intra_calls {
             above: &[$sample],
         ) -> Result<(), Error> {
             // SAFETY: pointers and lengths come from borrowed slices, `samples` borrowed mutably.
-            let status = unsafe {
-                sys::$intra(
+            told(unsafe {
+                sys::$predict_intra(
                     samples.as_mut_ptr(),
                     samples.len(),
                     place.stride,
                     place.x,
                     place.y,
-                    block,
+                    &block.into(),
                     left.as_ptr(),
                     left.len(),
                     corner,
                     above.as_ptr(),
                     above.len(),
                 )
-            };
-            told(status)
+            })
         }
 
         /// Predicts a block of chroma from luma. To the DC prediction from the edges inside the
@@ -86,15 +160,15 @@ macro_rules! intra_calls {
             ac: &[i16],
             alpha: i16,
         ) -> Result<(), Error> {
-            // SAFETY: pointers and lengths come from borrowed slices, `samples` borrowed mutably.
-            let status = unsafe {
-                sys::$cfl(
+            // SAFETY: as above.
+            told(unsafe {
+                sys::$predict_cfl(
                     samples.as_mut_ptr(),
                     samples.len(),
                     place.stride,
                     place.x,
                     place.y,
-                    block,
+                    &block.into(),
                     left.as_ptr(),
                     left.len(),
                     above.as_ptr(),
@@ -103,23 +177,45 @@ macro_rules! intra_calls {
                     ac.len(),
                     alpha,
                 )
-            };
-            told(status)
+            })
+        }
+
+        /// Predicts a transform block in the samples of its plane: prepares its edge, then predicts
+        /// from it. All other samples are unchanged. The position and `plane` say whether an edge
+        /// lies in the tile, and how many samples are visible.
+        ///
+        /// [`PredictionMode::Cfl`] reads the differences `ac` of luma from its mean, row by row,
+        /// and their weight `alpha`, both in eighths; other modes read neither. Samples past the
+        /// depth are used as they are.
+        ///
+        /// # Errors
+        ///
+        /// `BadMode`, `BadAngle`, `BadDepth`, `BadArea` or `TooShort` (`ac`). The samples are then
+        /// unchanged.
+        pub fn $predict_in_plane(
+            samples: &mut [$sample],
+            plane: &EdgePlane,
+            block: &EdgeBlock,
+            smooth_neighbour: bool,
+            ac: &[i16],
+            alpha: i16,
+        ) -> Result<(), Error> {
+            // SAFETY: as above.
+            told(unsafe {
+                sys::$predict_in_plane(
+                    samples.as_mut_ptr(),
+                    samples.len(),
+                    &plane.into(),
+                    &block.into(),
+                    smooth_neighbour.into(),
+                    ac.as_ptr(),
+                    ac.len(),
+                    alpha,
+                )
+            })
         }
     };
 }
 
-intra_calls!(
-    u8,
-    av1_predict_intra_8,
-    predict_intra_8,
-    av1_predict_cfl_8,
-    predict_cfl_8
-);
-intra_calls!(
-    u16,
-    av1_predict_intra_16,
-    predict_intra_16,
-    av1_predict_cfl_16,
-    predict_cfl_16
-);
+intra_calls!(u8, predict_intra_8, predict_cfl_8, predict_in_plane_8);
+intra_calls!(u16, predict_intra_16, predict_cfl_16, predict_in_plane_16);

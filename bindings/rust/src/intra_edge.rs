@@ -1,21 +1,20 @@
 //! The edge of a transform block, from which an intra mode predicts it, prepared in the caller's
 //! memory.
 
+use crate::error::told;
 use crate::tile::Window;
 use crate::{
-    BlockRoom, Error, FROM_LUMA, IntraBlock, Place, Region, predict_cfl_8, predict_cfl_16,
-    predict_intra_8, predict_intra_16, sys, told,
+    BitDepth, BlockRoom, BlockSize, Error, IntraBlock, Place, PredictionMode, Region, TxSize,
+    predict_cfl_8, predict_cfl_16, predict_intra_8, predict_intra_16,
 };
+use av1_c_sys as sys;
+use std::fmt;
 
 /// How many samples a prepared edge has: 128 to the left, the corner, and 128 above.
-pub const EDGE_SAMPLES: usize = 257;
-
-/// The number that stands for every mode: the whole edge is prepared.
-pub const ANY_MODE: u8 = 255;
+pub const EDGE_SAMPLES: usize = sys::EDGE_SAMPLES;
 
 /// A plane in the caller's memory, and a tile of it.
-#[repr(C)]
-#[derive(Clone, Copy, Debug, PartialEq, Eq)]
+#[derive(Clone, Copy, Debug, Default, PartialEq, Eq)]
 pub struct EdgePlane {
     /// How many samples apart its rows are.
     pub stride: usize,
@@ -35,15 +34,47 @@ pub struct EdgePlane {
     pub tile_width: usize,
     /// How many rows of the plane the tile has.
     pub tile_height: usize,
-    /// 0: it has as many columns as luma; else half of them.
-    pub halved_columns: u8,
-    /// 0: it has as many rows as luma; else half of them.
-    pub halved_rows: u8,
+    /// Whether it has half of luma's columns.
+    pub halved_columns: bool,
+    /// Whether it has half of luma's rows.
+    pub halved_rows: bool,
+}
+
+impl EdgePlane {
+    /// A plane of luma without padding that is one tile. Its rows are `width` samples apart.
+    #[must_use]
+    pub fn of_luma(width: usize, height: usize) -> EdgePlane {
+        EdgePlane {
+            stride: width,
+            width,
+            height,
+            tile_width: width,
+            tile_height: height,
+            ..EdgePlane::default()
+        }
+    }
+}
+
+impl From<&EdgePlane> for sys::EdgePlane {
+    fn from(of: &EdgePlane) -> sys::EdgePlane {
+        sys::EdgePlane {
+            stride: of.stride,
+            x: of.x,
+            y: of.y,
+            width: of.width,
+            height: of.height,
+            tile_x: of.tile_x,
+            tile_y: of.tile_y,
+            tile_width: of.tile_width,
+            tile_height: of.tile_height,
+            halved_columns: of.halved_columns.into(),
+            halved_rows: of.halved_rows.into(),
+        }
+    }
 }
 
 /// A transform block whose edge is to be prepared.
-#[repr(C)]
-#[derive(Clone, Copy, Debug, PartialEq, Eq)]
+#[derive(Clone, Copy, Debug, Default, PartialEq, Eq)]
 pub struct EdgeBlock {
     /// The column of its first sample in the tile.
     pub x: usize,
@@ -57,23 +88,60 @@ pub struct EdgeBlock {
     pub unit_x: usize,
     /// Its row in its block, counted in transforms.
     pub unit_y: usize,
-    /// The number of the block's size in luma, from 0 (`BLOCK_4X4`) to 21 (`BLOCK_64X16`).
-    pub block_size: u8,
-    /// The number of its own size among those of transforms, from 0 (`TX_4X4`) to 18 (`TX_64X16`).
-    pub tx_size: u8,
-    /// The number of the mode that will predict it, from 0 (`DC_PRED`) to 13 (`UV_CFL_PRED`), or
-    /// [`ANY_MODE`].
-    pub mode: u8,
-    /// How many steps of 3 degrees a directional mode turns, from -3 to 3; 0 in other modes. It is not read with [`ANY_MODE`].
+    /// The block's size in luma.
+    pub block_size: BlockSize,
+    /// The transform's size.
+    pub tx_size: TxSize,
+    /// The mode that will predict it, up to [`PredictionMode::Cfl`]. `None` stands for every mode:
+    /// the whole edge is prepared.
+    pub mode: Option<PredictionMode>,
+    /// How many steps of 3 degrees a directional mode turns, from -3 to 3; 0 in other modes. It is
+    /// not read without a mode.
     pub angle_step: i8,
-    /// The depth of its samples, in bits: 8, 10 or 12.
-    pub bit_depth: u8,
-    /// 0: the edge filter is off.
-    pub edge_filter: u8,
+    /// The depth of its samples.
+    pub bit_depth: BitDepth,
+    /// Whether the edge filter is on.
+    pub edge_filter: bool,
+}
+
+impl EdgeBlock {
+    /// The only transform of a block of luma, at column `x` of row `y` of its tile, at depth 8,
+    /// without the edge filter and for every mode. Change the fields that differ.
+    #[must_use]
+    pub fn of_luma(x: usize, y: usize, block_size: BlockSize, tx_size: TxSize) -> EdgeBlock {
+        EdgeBlock {
+            x,
+            y,
+            cell_x: x / 4,
+            cell_y: y / 4,
+            block_size,
+            tx_size,
+            ..EdgeBlock::default()
+        }
+    }
+}
+
+impl From<&EdgeBlock> for sys::EdgeBlock {
+    fn from(of: &EdgeBlock) -> sys::EdgeBlock {
+        sys::EdgeBlock {
+            x: of.x,
+            y: of.y,
+            cell_x: of.cell_x,
+            cell_y: of.cell_y,
+            unit_x: of.unit_x,
+            unit_y: of.unit_y,
+            block_size: of.block_size.into(),
+            tx_size: of.tx_size.into(),
+            mode: of.mode.map_or(sys::ANY_MODE, Into::into),
+            angle_step: of.angle_step,
+            bit_depth: of.bit_depth.into(),
+            edge_filter: of.edge_filter.into(),
+        }
+    }
 }
 
 macro_rules! edge_calls {
-    ($sample:ident, $call:ident, $intra_edge:ident) => {
+    ($sample:ident, $intra_edge:ident) => {
         /// Prepares the edge of a transform block for the mode that will predict it. `samples` are
         /// those of the plane.
         ///
@@ -82,8 +150,8 @@ macro_rules! edge_calls {
         ///
         /// # Errors
         ///
-        /// `RoomTooSmall`, then `BadMode`, then `BadSize`, then `BadAngle`, then `BadDepth`, then
-        /// `BadArea`. The edge is then unchanged.
+        /// `RoomTooSmall`, then `BadMode`, then `BadAngle`, then `BadDepth`, then `BadArea`. The
+        /// edge is then unchanged.
         pub fn $intra_edge(
             edge: &mut [$sample],
             samples: &[$sample],
@@ -91,50 +159,57 @@ macro_rules! edge_calls {
             block: &EdgeBlock,
         ) -> Result<(), Error> {
             // SAFETY: pointers and lengths come from borrowed slices, `edge` borrowed mutably.
-            let status = unsafe {
-                sys::$call(
+            told(unsafe {
+                sys::$intra_edge(
                     edge.as_mut_ptr(),
                     edge.len(),
                     samples.as_ptr(),
                     samples.len(),
-                    plane,
-                    block,
+                    &plane.into(),
+                    &block.into(),
                 )
-            };
-            told(status)
+            })
         }
     };
 }
 
-edge_calls!(u8, av1_intra_edge_8, intra_edge_8);
-edge_calls!(u16, av1_intra_edge_16, intra_edge_16);
+edge_calls!(u8, intra_edge_8);
+edge_calls!(u16, intra_edge_16);
 
 /// The edge of a transform block, to try several modes from it: its samples, which the caller does
 /// not fill, and what is known about its two sides. Make one once and use it again.
 ///
 /// ```
-/// use av1_c::{ANY_MODE, EdgeBlock, EdgePlane, IntraEdge, Place};
-/// # let plane = EdgePlane { stride: 16, x: 0, y: 0, width: 16, height: 16, tile_x: 0, tile_y: 0, tile_width: 16, tile_height: 16,
-/// #     halved_columns: 0, halved_rows: 0 };
-/// # let block = EdgeBlock { x: 8, y: 8, cell_x: 2, cell_y: 2, unit_x: 0, unit_y: 0, block_size: 3, tx_size: 1, mode: ANY_MODE, angle_step: 0,
-/// #     bit_depth: 8, edge_filter: 1 };
+/// use av1_c::{BlockSize, EdgeBlock, EdgePlane, IntraEdge, Place, PredictionMode, TxSize};
 /// let mut samples = [7u8; 16 * 16];
+/// let plane = EdgePlane::of_luma(16, 16);
+/// let block = EdgeBlock::of_luma(8, 8, BlockSize::B8x8, TxSize::T8x8);
 /// let mut edge = IntraEdge::<u8>::new();
 /// edge.prepare(&samples, &plane, &block)?;
-/// for mode in 0..=12 {
+/// for mode in [PredictionMode::Dc, PredictionMode::V, PredictionMode::Paeth] {
 ///     edge.predict(&mut samples, Place { stride: 16, x: 8, y: 8 }, mode, 0, false)?;
 /// }
 /// # Ok::<(), av1_c::Error>(())
 /// ```
-#[derive(Clone, Debug)]
+#[derive(Clone)]
 pub struct IntraEdge<T> {
     samples: [T; EDGE_SAMPLES],
-    // The transform block as one that the edge's mode predicts.
-    prepared: Option<IntraBlock>,
+    // The transform block as one that the edge's mode predicts, and that mode, if there is one.
+    prepared: Option<(IntraBlock, Option<PredictionMode>)>,
+}
+
+impl<T> fmt::Debug for IntraEdge<T> {
+    fn fmt(&self, f: &mut fmt::Formatter<'_>) -> fmt::Result {
+        let prepared = &self.prepared;
+        f.debug_struct("IntraEdge")
+            .field("prepared", prepared)
+            .finish()
+    }
 }
 
 impl<T: Copy + Default> IntraEdge<T> {
     /// An edge that is not prepared yet.
+    #[must_use]
     pub fn new() -> IntraEdge<T> {
         IntraEdge {
             samples: [T::default(); EDGE_SAMPLES],
@@ -153,48 +228,49 @@ impl<T: Copy> IntraEdge<T> {
     // What is known of a transform whose edge was prepared: its tile lies in the plane, and it
     // begins in the tile.
     fn know(&mut self, plane: &EdgePlane, block: &EdgeBlock) {
-        self.prepared = Some(IntraBlock {
-            mode: block.mode,
+        let known = IntraBlock {
+            mode: block.mode.unwrap_or_default(),
             tx_size: block.tx_size,
             angle_step: block.angle_step,
             bit_depth: block.bit_depth,
-            has_left: u8::from(block.x > 0),
-            has_above: u8::from(block.y > 0),
+            has_left: block.x > 0,
+            has_above: block.y > 0,
             edge_filter: block.edge_filter,
-            smooth_neighbour: 0,
+            smooth_neighbour: false,
             visible_columns: plane.width - plane.tile_x - block.x,
             visible_rows: plane.height - plane.tile_y - block.y,
-        });
+        };
+        self.prepared = Some((known, block.mode));
     }
 
     // The block to predict by a mode, which must be one that the edge is prepared for.
-    fn block_of(&self, mode: u8, angle_step: i8) -> Result<IntraBlock, Error> {
-        let known = self.prepared.ok_or(Error::TooShort)?;
-        if known.mode == ANY_MODE {
-            return Ok(IntraBlock {
+    fn block_of(&self, mode: PredictionMode, angle_step: i8) -> Result<IntraBlock, Error> {
+        match self.prepared {
+            None => Err(Error::TooShort),
+            Some((_, Some(other))) if other != mode => Err(Error::BadMode),
+            Some((known, Some(_))) if known.angle_step != angle_step => Err(Error::BadAngle),
+            Some((known, _)) => Ok(IntraBlock {
                 mode,
                 angle_step,
                 ..known
-            });
-        }
-        match (known.mode == mode, known.angle_step == angle_step) {
-            (true, true) => Ok(known),
-            (true, false) => Err(Error::BadAngle),
-            _ => Err(Error::BadMode),
+            }),
         }
     }
 
     /// The left edge, from the bottom up: 128 samples, of which the last ones are prepared.
+    #[must_use]
     pub fn left(&self) -> &[T] {
         &self.samples[..EDGE_SAMPLES / 2]
     }
 
     /// The sample between the two edges.
+    #[must_use]
     pub fn corner(&self) -> T {
         self.samples[EDGE_SAMPLES / 2]
     }
 
     /// The edge above: 128 samples, of which the first ones are prepared.
+    #[must_use]
     pub fn above(&self) -> &[T] {
         &self.samples[EDGE_SAMPLES / 2 + 1..]
     }
@@ -203,14 +279,14 @@ impl<T: Copy> IntraEdge<T> {
 macro_rules! edges_of {
     ($sample:ident, $intra_edge:ident, $predict_intra:ident, $predict_cfl:ident) => {
         impl IntraEdge<$sample> {
-            /// Prepares the edge of a transform block for the mode of `block`. [`ANY_MODE`]
+            /// Prepares the edge of a transform block for the mode of `block`. Without a mode it
             /// prepares it for all modes; the corner is then not filtered. `samples` are those of
             /// the plane.
             ///
             /// # Errors
             ///
-            /// `BadMode`, then `BadSize`, then `BadAngle`, then `BadDepth`, then `BadArea`. The
-            /// edge is then unchanged.
+            /// `BadMode`, then `BadAngle`, then `BadDepth`, then `BadArea`. The edge is then
+            /// unchanged.
             pub fn prepare(
                 &mut self,
                 samples: &[$sample],
@@ -254,12 +330,12 @@ macro_rules! edges_of {
                 &self,
                 samples: &mut [$sample],
                 place: Place,
-                mode: u8,
+                mode: PredictionMode,
                 angle_step: i8,
                 smooth_neighbour: bool,
             ) -> Result<(), Error> {
                 let block = IntraBlock {
-                    smooth_neighbour: u8::from(smooth_neighbour),
+                    smooth_neighbour,
                     ..self.block_of(mode, angle_step)?
                 };
                 $predict_intra(
@@ -279,7 +355,7 @@ macro_rules! edges_of {
             /// # Errors
             ///
             /// `TooShort`: the edge is not prepared. `BadMode`: it is prepared for a mode other
-            /// than [`FROM_LUMA`]. Then the errors of the call that predicts a block of chroma.
+            /// than [`PredictionMode::Cfl`]. Then the errors of the call that predicts a block of chroma.
             pub fn predict_cfl(
                 &self,
                 samples: &mut [$sample],
@@ -287,7 +363,7 @@ macro_rules! edges_of {
                 ac: &[i16],
                 alpha: i16,
             ) -> Result<(), Error> {
-                let block = self.block_of(FROM_LUMA, 0)?;
+                let block = self.block_of(PredictionMode::Cfl, 0)?;
                 $predict_cfl(samples, place, &block, self.left(), self.above(), ac, alpha)
             }
         }

@@ -1,18 +1,16 @@
 //! The differences of luma from its mean that predict chroma.
 
-use crate::{Error, Place, sys, told};
+use crate::error::told;
+use crate::{BitDepth, BlockSize, Error, Place, Sampling, TxSize};
+use av1_c_sys as sys;
 
 /// A block of chroma that is predicted from luma.
-#[repr(C)]
-#[derive(Clone, Copy, Debug, PartialEq, Eq)]
+#[derive(Clone, Copy, Debug, Default, PartialEq, Eq)]
 pub struct CflBlock {
-    /// The number of its size in chroma samples, from 0 (`BLOCK_4X4`) on, among those of blocks.
-    /// Neither width nor height exceeds 32.
-    pub block_size: u8,
-    /// 1 if chroma has half of luma's columns, else 0.
-    pub xdec: u8,
-    /// 1 if chroma also has half of luma's rows, else 0.
-    pub ydec: u8,
+    /// Its size in chroma samples. Neither width nor height exceeds 32.
+    pub block_size: BlockSize,
+    /// How many samples chroma has.
+    pub sampling: Sampling,
     /// How many units of 4 columns of chroma, at the right end of the block, have no luma of their
     /// own.
     pub w_pad: usize,
@@ -21,18 +19,27 @@ pub struct CflBlock {
     pub h_pad: usize,
 }
 
+impl From<&CflBlock> for sys::CflBlock {
+    fn from(of: &CflBlock) -> sys::CflBlock {
+        sys::CflBlock {
+            block_size: of.block_size.into(),
+            xdec: of.sampling.halves_columns().into(),
+            ydec: of.sampling.halves_rows().into(),
+            w_pad: of.w_pad,
+            h_pad: of.h_pad,
+        }
+    }
+}
+
 /// A block whose chroma is predicted from its luma.
-#[repr(C)]
-#[derive(Clone, Copy, Debug, PartialEq, Eq)]
+#[derive(Clone, Copy, Debug, Default, PartialEq, Eq)]
 pub struct LumaBlock {
-    /// The number of its size in luma, from `BLOCK_4X4`, 0, to `BLOCK_64X16`, 21.
-    pub block_size: u8,
-    /// The number of the size of its luma transforms, from `TX_4X4`, 0, to `TX_64X16`, 18.
-    pub tx_size: u8,
-    /// 1 if chroma has half of luma's columns, else 0.
-    pub xdec: u8,
-    /// 1 if chroma also has half of luma's rows, else 0.
-    pub ydec: u8,
+    /// Its size in luma samples.
+    pub block_size: BlockSize,
+    /// The size of its luma transforms.
+    pub tx_size: TxSize,
+    /// How many samples chroma has.
+    pub sampling: Sampling,
     /// How many visible columns of luma there are from its first on.
     pub visible_columns: usize,
     /// How many visible rows of luma there are from its first on.
@@ -48,76 +55,79 @@ pub struct LumaBlock {
 ///
 /// # Errors
 ///
-/// `BadSampling`, then `BadSize`: a number does not exist, or the chroma has no size of at most 32.
-/// Then `BadPad`: none of its luma is visible.
+/// `BadSize`: the chroma has no size of at most 32. Then `BadPad`: none of its luma is visible.
 pub fn cfl_block_of(luma: &LumaBlock) -> Result<CflBlock, Error> {
-    let mut block = CflBlock {
-        block_size: 0,
-        xdec: 0,
-        ydec: 0,
-        w_pad: 0,
-        h_pad: 0,
+    let given = sys::LumaBlock {
+        block_size: luma.block_size.into(),
+        tx_size: luma.tx_size.into(),
+        xdec: luma.sampling.halves_columns().into(),
+        ydec: luma.sampling.halves_rows().into(),
+        visible_columns: luma.visible_columns,
+        visible_rows: luma.visible_rows,
     };
-    // SAFETY: each reference leads to one value, `block` borrowed mutably.
-    told(unsafe { sys::av1_cfl_block_of(&mut block, luma) })?;
-    Ok(block)
+    let mut block = sys::CflBlock::default();
+    // SAFETY: each pointer leads to one value, `block` borrowed mutably.
+    told(unsafe { sys::cfl_block_of(&mut block, &given) })?;
+    Ok(CflBlock {
+        block_size: BlockSize::try_from(block.block_size).map_err(|_| Error::BadSize)?,
+        sampling: luma.sampling,
+        w_pad: block.w_pad,
+        h_pad: block.h_pad,
+    })
 }
 
-/// Computes how far the luma over each sample of a chroma block is from the mean, in eighths, at a
-/// depth of 8. It writes the differences to `ac`, row by row; the rest of `ac` is unchanged.
-///
-/// The block's luma begins at `place`. The call reads the luma columns over the chroma columns that
-/// have luma of their own. It reads at least 8 luma columns, but none past the block. The other
-/// chroma columns repeat the last luma that is read. The same holds for rows.
-///
-/// # Errors
-///
-/// `BadSize`, then `BadSampling`, then `BadPad`, then `BadArea`, then `TooShort`. The differences
-/// are then unchanged.
-pub fn cfl_ac_8(ac: &mut [i16], luma: &[u8], place: Place, block: &CflBlock) -> Result<(), Error> {
-    // SAFETY: pointers and lengths come from borrowed slices, `ac` borrowed mutably.
-    let status = unsafe {
-        sys::av1_cfl_ac_8(
-            ac.as_mut_ptr(),
-            ac.len(),
-            luma.as_ptr(),
-            luma.len(),
-            place.stride,
-            place.x,
-            place.y,
-            block,
-        )
+macro_rules! luma_calls {
+    ($call:ident, $sample:ident, $($depth:ident,)? $(#[$doc:meta])+) => {
+        $(#[$doc])+
+        pub fn $call(
+            ac: &mut [i16],
+            luma: &[$sample],
+            place: Place,
+            block: &CflBlock,
+            $($depth: BitDepth,)?
+        ) -> Result<(), Error> {
+            // SAFETY: pointers and lengths come from borrowed slices, `ac` borrowed mutably.
+            told(unsafe {
+                sys::$call(
+                    ac.as_mut_ptr(),
+                    ac.len(),
+                    luma.as_ptr(),
+                    luma.len(),
+                    place.stride,
+                    place.x,
+                    place.y,
+                    &block.into(),
+                    $($depth as usize,)?
+                )
+            })
+        }
     };
-    told(status)
 }
 
-/// [`cfl_ac_8`] for samples of 16 bits at a depth of 8, 10 or 12.
-///
-/// # Errors
-///
-/// `BadSize`, then `BadSampling`, then `BadPad`, then `BadArea`, then `TooShort`, then `BadDepth`,
-/// then `BadSample`: a sample that the call reads is past the depth. The differences are then
-/// unchanged.
-pub fn cfl_ac_16(
-    ac: &mut [i16],
-    luma: &[u16],
-    place: Place,
-    block: &CflBlock,
-    bit_depth: usize,
-) -> Result<(), Error> {
-    // SAFETY: as above.
-    let status = unsafe {
-        sys::av1_cfl_ac_16(
-            ac.as_mut_ptr(),
-            ac.len(),
-            luma.as_ptr(),
-            luma.len(),
-            place.stride,
-            place.x,
-            place.y,
-            block,
-            bit_depth,
-        )
-    };
-    told(status)
-}
+luma_calls!(
+    cfl_ac_8,
+    u8,
+    /// Computes how far the luma over each sample of a chroma block is from the mean, in eighths,
+    /// at a depth of 8. It writes the differences to `ac`, row by row; the rest of `ac` is
+    /// unchanged.
+    ///
+    /// The block's luma begins at `place`. The call reads the luma columns over the chroma columns
+    /// that have luma of their own. It reads at least 8 luma columns, but none past the block. The
+    /// other chroma columns repeat the last luma that is read. The same holds for rows.
+    ///
+    /// # Errors
+    ///
+    /// `BadSize`, then `BadPad`, then `BadArea`, then `TooShort`. The differences are then
+    /// unchanged.
+);
+luma_calls!(
+    cfl_ac_16,
+    u16,
+    bit_depth,
+    /// [`cfl_ac_8`] for samples of 16 bits.
+    ///
+    /// # Errors
+    ///
+    /// `BadSize`, then `BadPad`, then `BadArea`, then `TooShort`, then `BadSample`: a sample that
+    /// the call reads is past the depth. The differences are then unchanged.
+);

@@ -1,18 +1,12 @@
 //! Blocks of references: predicted from one, or prepared and averaged from two.
 
-use crate::{Error, Place, sys, told};
-
-/// The number of the sharp filter. Along a dimension of at most 4 it is the regular filter for such
-/// dimensions, as in AV1.
-pub const SHARP: u8 = 2;
-
-/// The number of the sharp filter of rav1e, and of plans up to version 2. Along a dimension of at
-/// most 4 it is the smooth filter for such dimensions.
-pub const RAV1E_SHARP: u8 = 5;
+use crate::error::told;
+use crate::{BitDepth, Error, Filter, Place, Tested};
+use av1_c_sys as sys;
+use std::fmt;
 
 /// A block, and how far it is moved between the samples of its reference.
-#[repr(C)]
-#[derive(Clone, Copy, Debug, PartialEq, Eq)]
+#[derive(Clone, Copy, Debug, Default, PartialEq, Eq)]
 pub struct MotionBlock {
     /// How many columns it has: from 1 to 128.
     pub width: usize,
@@ -22,30 +16,335 @@ pub struct MotionBlock {
     pub col_frac: u8,
     /// How far it is moved down, in sixteenths of a sample: below 16.
     pub row_frac: u8,
-    /// The number of the filter along rows: 0 regular, 1 smooth, [`SHARP`], 3 bilinear or
-    /// [`RAV1E_SHARP`].
-    pub filter_x: u8,
-    /// The number of the filter down columns.
-    pub filter_y: u8,
+    /// The filter along rows.
+    pub filter_x: Filter,
+    /// The filter down columns.
+    pub filter_y: Filter,
 }
 
-/// Predicts a block of samples of 8 bits from one reference. `to` is the place of its first sample
-/// in `dst`, and `from` that in the reference `src`, before the fractions. At every fraction, the
-/// call reads 3 columns and rows before the block and 4 after it.
+impl From<&MotionBlock> for sys::MotionBlock {
+    fn from(of: &MotionBlock) -> sys::MotionBlock {
+        sys::MotionBlock {
+            width: of.width,
+            height: of.height,
+            col_frac: of.col_frac,
+            row_frac: of.row_frac,
+            filter_x: of.filter_x.into(),
+            filter_y: of.filter_y.into(),
+        }
+    }
+}
+
+macro_rules! put_calls {
+    ($call:ident, $sample:ident, $($depth:ident,)? $(#[$doc:meta])+) => {
+        $(#[$doc])+
+        pub fn $call(
+            dst: &mut [$sample],
+            to: Place,
+            src: &[$sample],
+            from: Place,
+            block: &MotionBlock,
+            $($depth: BitDepth,)?
+        ) -> Result<(), Error> {
+            // SAFETY: pointers and lengths come from borrowed slices, `dst` borrowed mutably.
+            told(unsafe {
+                sys::$call(
+                    dst.as_mut_ptr(),
+                    dst.len(),
+                    to.stride,
+                    to.x,
+                    to.y,
+                    src.as_ptr(),
+                    src.len(),
+                    from.stride,
+                    from.x,
+                    from.y,
+                    &block.into(),
+                    $($depth as usize,)?
+                )
+            })
+        }
+    };
+}
+
+put_calls!(
+    put_8tap_8,
+    u8,
+    /// Predicts a block of samples of 8 bits from one reference. `to` is the place of its first
+    /// sample in `dst`, and `from` that in the reference `src`, before the fractions. At every
+    /// fraction, the call reads 3 columns and rows before the block and 4 after it.
+    ///
+    /// # Errors
+    ///
+    /// `BadSize`, then `BadFraction`, then `BadArea`. The samples are then unchanged.
+);
+put_calls!(
+    put_8tap_16,
+    u16,
+    bit_depth,
+    /// [`put_8tap_8`] for samples of 16 bits.
+    ///
+    /// # Errors
+    ///
+    /// `BadSize`, then `BadFraction`, then `BadArea`, then `BadSample`: a sample that the call
+    /// reads is past the depth. The samples are then unchanged.
+);
+
+macro_rules! prep_calls {
+    ($call:ident, $sample:ident, $($depth:ident,)? $(#[$doc:meta])+) => {
+        $(#[$doc])+
+        pub fn $call(
+            values: &mut [i16],
+            src: &[$sample],
+            from: Place,
+            block: &MotionBlock,
+            $($depth: BitDepth,)?
+        ) -> Result<(), Error> {
+            // SAFETY: pointers and lengths come from borrowed slices, `values` borrowed mutably.
+            told(unsafe {
+                sys::$call(
+                    values.as_mut_ptr(),
+                    values.len(),
+                    src.as_ptr(),
+                    src.len(),
+                    from.stride,
+                    from.x,
+                    from.y,
+                    &block.into(),
+                    $($depth as usize,)?
+                )
+            })
+        }
+    };
+}
+
+prep_calls!(
+    prep_8tap_8,
+    u8,
+    /// Prepares a block of a reference of 8 bits for the average with another block. The call
+    /// writes the first `height * width` of `values`, row by row. A value is 16 times a sample.
+    /// Everything else is as in [`put_8tap_8`].
+    ///
+    /// # Errors
+    ///
+    /// `BadSize`, then `BadFraction`, then `BadArea`, then `TooShort`. The values are then
+    /// unchanged.
+);
+prep_calls!(
+    prep_8tap_16,
+    u16,
+    bit_depth,
+    /// [`prep_8tap_8`] for samples of 16 bits. A value is 16 times a sample, 4 times at depth 12,
+    /// and from depth 10 on less by 8192.
+    ///
+    /// # Errors
+    ///
+    /// `BadSize`, then `BadFraction`, then `BadArea`, then `TooShort`, then `BadSample`. The values
+    /// are then unchanged.
+);
+
+macro_rules! average_calls {
+    ($call:ident, $sample:ident, $($depth:ident,)? $(#[$doc:meta])+) => {
+        $(#[$doc])+
+        pub fn $call(
+            samples: &mut [$sample],
+            to: Place,
+            width: usize,
+            height: usize,
+            first: &[i16],
+            second: &[i16],
+            $($depth: BitDepth,)?
+        ) -> Result<(), Error> {
+            // SAFETY: pointers and lengths come from borrowed slices, `samples` borrowed mutably.
+            told(unsafe {
+                sys::$call(
+                    samples.as_mut_ptr(),
+                    samples.len(),
+                    to.stride,
+                    to.x,
+                    to.y,
+                    width,
+                    height,
+                    first.as_ptr(),
+                    first.len(),
+                    second.as_ptr(),
+                    second.len(),
+                    $($depth as usize,)?
+                )
+            })
+        }
+    };
+}
+
+average_calls!(
+    mc_avg_8,
+    u8,
+    /// Averages two prepared blocks at a depth of 8, and writes the samples of the rectangle whose
+    /// first is at `to`. The values are row by row at the front of `first` and of `second`, as
+    /// [`prep_8tap_8`] leaves them.
+    ///
+    /// # Errors
+    ///
+    /// `BadSize`, then `BadArea`, then `TooShort`. The samples are then unchanged.
+);
+average_calls!(
+    mc_avg_16,
+    u16,
+    bit_depth,
+    /// [`mc_avg_8`] for samples of 16 bits.
+    ///
+    /// # Errors
+    ///
+    /// Those of [`mc_avg_8`].
+);
+
+/// A plane of a reference.
+#[derive(Clone, Copy, Debug, Default, PartialEq, Eq)]
+pub struct MotionPlane {
+    /// How many samples apart its rows are.
+    pub stride: usize,
+    /// The column of its first visible sample.
+    pub x: usize,
+    /// The row of its first visible sample.
+    pub y: usize,
+    /// How many visible columns it has: from 1 to 65,536.
+    pub width: usize,
+    /// How many visible rows it has: from 1 to 65,536.
+    pub height: usize,
+    /// Whether it has half of luma's columns.
+    pub halved_columns: bool,
+    /// Whether it has half of luma's rows.
+    pub halved_rows: bool,
+}
+
+impl From<&MotionPlane> for sys::MotionPlane {
+    fn from(of: &MotionPlane) -> sys::MotionPlane {
+        sys::MotionPlane {
+            stride: of.stride,
+            x: of.x,
+            y: of.y,
+            width: of.width,
+            height: of.height,
+            halved_columns: of.halved_columns.into(),
+            halved_rows: of.halved_rows.into(),
+        }
+    }
+}
+
+/// A block of a plane, and the vector that moves it.
+#[derive(Clone, Copy, Debug, Default, PartialEq, Eq)]
+pub struct MovedBlock {
+    /// The column of its first sample, up to 65,536.
+    pub x: usize,
+    /// The row of its first sample, up to 65,536.
+    pub y: usize,
+    /// How many columns it has: from 1 to 128.
+    pub width: usize,
+    /// How many rows it has: from 1 to 128.
+    pub height: usize,
+    /// How far the vector points down, in eighths of a luma sample.
+    pub row: i16,
+    /// How far it points to the right, in eighths of a luma sample.
+    pub col: i16,
+    /// The filter along rows.
+    pub filter_x: Filter,
+    /// The filter down columns.
+    pub filter_y: Filter,
+}
+
+impl From<&MovedBlock> for sys::MovedBlock {
+    fn from(of: &MovedBlock) -> sys::MovedBlock {
+        sys::MovedBlock {
+            x: of.x,
+            y: of.y,
+            width: of.width,
+            height: of.height,
+            row: of.row,
+            col: of.col,
+            filter_x: of.filter_x.into(),
+            filter_y: of.filter_y.into(),
+        }
+    }
+}
+
+/// The place in its reference at which such a block is read.
+#[derive(Clone, Copy, Debug, Default, PartialEq, Eq)]
+pub struct MovedPlace {
+    /// The column of its first sample in the reference, counted from the first visible one.
+    pub x: isize,
+    /// The row of its first sample, counted from the first visible one.
+    pub y: isize,
+    /// How far it is moved right beyond that, in sixteenths of a sample.
+    pub col_frac: u8,
+    /// How far it is moved down beyond that, in sixteenths of a sample.
+    pub row_frac: u8,
+}
+
+/// Computes where a block that a vector moves is read in its reference. Outside the plane, every
+/// sample equals the nearest edge sample. So for a vector that points far outside, the call returns
+/// an equivalent place closer to the plane: padding of `width + 7` columns and `height + 7` rows on
+/// each side is always enough. The plane's `stride`, `x` and `y`, and the block's filters, are not
+/// read.
 ///
 /// # Errors
 ///
-/// `BadSize`, then `BadMode`, then `BadFraction`, then `BadArea`. The samples are then unchanged.
-pub fn put_8tap_8(
+/// `BadSize`, then `BadArea`: the plane has no samples, or is wider or higher than 65,536, or the
+/// block's `x` or `y` is past 65,536.
+pub fn motion_place(plane: &MotionPlane, block: &MovedBlock) -> Result<MovedPlace, Error> {
+    let mut place = sys::MovedPlace::default();
+    // SAFETY: each pointer leads to one value, `place` borrowed mutably.
+    told(unsafe { sys::motion_place(&mut place, &plane.into(), &block.into()) })?;
+    Ok(MovedPlace {
+        x: place.x,
+        y: place.y,
+        col_frac: place.col_frac,
+        row_frac: place.row_frac,
+    })
+}
+
+/// Scratch memory for what is read for a block. Its contents before a call don't matter. Threads
+/// need one each.
+#[derive(Clone)]
+pub struct MotionWindow<T>(Box<[T]>);
+
+impl<T: Copy + Default> MotionWindow<T> {
+    /// Scratch memory for blocks of up to 128 by 128 samples.
+    #[must_use]
+    pub fn new() -> MotionWindow<T> {
+        MotionWindow(vec![T::default(); 135 * 135].into_boxed_slice())
+    }
+}
+
+impl<T: Copy + Default> Default for MotionWindow<T> {
+    fn default() -> MotionWindow<T> {
+        MotionWindow::new()
+    }
+}
+
+impl<T> fmt::Debug for MotionWindow<T> {
+    fn fmt(&self, f: &mut fmt::Formatter<'_>) -> fmt::Result {
+        f.write_str("MotionWindow")
+    }
+}
+
+/// Predicts a block from a reference of 8 bits without padding. `to` is the place of its first
+/// sample in `dst`. The call follows the vector and reads only visible samples of the plane.
+/// Outside the plane, every sample equals the nearest edge sample.
+///
+/// # Errors
+///
+/// `BadSize`, then `BadArea`. The samples are then unchanged.
+pub fn put_moved_8(
     dst: &mut [u8],
     to: Place,
     src: &[u8],
-    from: Place,
-    block: &MotionBlock,
+    plane: &MotionPlane,
+    block: &MovedBlock,
+    window: &mut MotionWindow<u8>,
 ) -> Result<(), Error> {
-    // SAFETY: pointers and lengths come from borrowed slices, `dst` borrowed mutably.
+    // SAFETY: pointers and lengths come from borrowed slices, `dst` and `window` borrowed mutably.
     told(unsafe {
-        sys::av1_put_8tap_8(
+        sys::put_moved_8(
             dst.as_mut_ptr(),
             dst.len(),
             to.stride,
@@ -53,168 +352,103 @@ pub fn put_8tap_8(
             to.y,
             src.as_ptr(),
             src.len(),
-            from.stride,
-            from.x,
-            from.y,
-            block,
+            &plane.into(),
+            &block.into(),
+            window.0.as_mut_ptr(),
+            window.0.len(),
         )
     })
 }
 
-/// [`put_8tap_8`] for samples of 16 bits at a depth of 8, 10 or 12.
+/// [`put_moved_8`] for samples of 16 bits at the depth of the reference.
 ///
 /// # Errors
 ///
-/// `BadSize`, then `BadMode`, then `BadFraction`, then `BadArea`, then `BadDepth`, then
-/// `BadSample`: a sample that the call reads is past the depth. The samples are then unchanged.
-pub fn put_8tap_16(
+/// `BadSize`, then `BadArea`. The samples are then unchanged.
+pub fn put_moved_16<S>(
     dst: &mut [u16],
     to: Place,
-    src: &[u16],
-    from: Place,
-    block: &MotionBlock,
-    bit_depth: usize,
+    src: &Tested<S>,
+    plane: &MotionPlane,
+    block: &MovedBlock,
+    window: &mut MotionWindow<u16>,
 ) -> Result<(), Error> {
-    // SAFETY: as above.
+    // SAFETY: as above. No sample of the reference is past the depth: all were checked when it was
+    // made.
     told(unsafe {
-        sys::av1_put_8tap_16(
+        sys::put_moved_16(
             dst.as_mut_ptr(),
             dst.len(),
             to.stride,
             to.x,
             to.y,
-            src.as_ptr(),
-            src.len(),
-            from.stride,
-            from.x,
-            from.y,
-            block,
-            bit_depth,
+            src.samples().as_ptr(),
+            src.samples().len(),
+            &plane.into(),
+            &block.into(),
+            window.0.as_mut_ptr(),
+            window.0.len(),
+            src.bit_depth() as usize,
         )
     })
 }
 
-/// Prepares a block of a reference of 8 bits for the average with another block. The call writes
-/// the first `height * width` of `values`, row by row. A value is 16 times a sample. Everything
-/// else is as in [`put_8tap_8`].
+/// Prepares such a block for the average with another block, from a reference of 8 bits without
+/// padding. The call writes the first `height * width` of `values`, row by row, as [`prep_8tap_8`]
+/// does.
 ///
 /// # Errors
 ///
-/// `BadSize`, then `BadMode`, then `BadFraction`, then `BadArea`, then `TooShort`. The values are
-/// then unchanged.
-pub fn prep_8tap_8(
+/// `BadSize`, then `BadArea`, then `TooShort`. The values are then unchanged.
+pub fn prep_moved_8(
     values: &mut [i16],
     src: &[u8],
-    from: Place,
-    block: &MotionBlock,
+    plane: &MotionPlane,
+    block: &MovedBlock,
+    window: &mut MotionWindow<u8>,
 ) -> Result<(), Error> {
-    // SAFETY: pointers and lengths come from borrowed slices, `values` borrowed mutably.
+    // SAFETY: pointers and lengths come from borrowed slices, `values` and `window` borrowed
+    // mutably.
     told(unsafe {
-        sys::av1_prep_8tap_8(
+        sys::prep_moved_8(
             values.as_mut_ptr(),
             values.len(),
             src.as_ptr(),
             src.len(),
-            from.stride,
-            from.x,
-            from.y,
-            block,
+            &plane.into(),
+            &block.into(),
+            window.0.as_mut_ptr(),
+            window.0.len(),
         )
     })
 }
 
-/// [`prep_8tap_8`] for samples of 16 bits at a depth of 8, 10 or 12. A value is 16 times a sample,
-/// 4 times at depth 12, and from depth 10 on less by 8192.
+/// [`prep_moved_8`] for samples of 16 bits at the depth of the reference, with the values of
+/// [`prep_8tap_16`].
 ///
 /// # Errors
 ///
-/// `BadSize`, then `BadMode`, then `BadFraction`, then `BadArea`, then `TooShort`, then `BadDepth`,
-/// then `BadSample`. The values are then unchanged.
-pub fn prep_8tap_16(
+/// `BadSize`, then `BadArea`, then `TooShort`. The values are then unchanged.
+pub fn prep_moved_16<S>(
     values: &mut [i16],
-    src: &[u16],
-    from: Place,
-    block: &MotionBlock,
-    bit_depth: usize,
+    src: &Tested<S>,
+    plane: &MotionPlane,
+    block: &MovedBlock,
+    window: &mut MotionWindow<u16>,
 ) -> Result<(), Error> {
-    // SAFETY: as above.
+    // SAFETY: as above. No sample of the reference is past the depth: all were checked when it was
+    // made.
     told(unsafe {
-        sys::av1_prep_8tap_16(
+        sys::prep_moved_16(
             values.as_mut_ptr(),
             values.len(),
-            src.as_ptr(),
-            src.len(),
-            from.stride,
-            from.x,
-            from.y,
-            block,
-            bit_depth,
-        )
-    })
-}
-
-/// Averages two prepared blocks at a depth of 8, and writes the samples of the rectangle whose
-/// first is at `to`. The values are row by row at the front of `first` and of `second`, as
-/// [`prep_8tap_8`] leaves them.
-///
-/// # Errors
-///
-/// `BadSize`, then `BadArea`, then `TooShort`. The samples are then unchanged.
-pub fn mc_avg_8(
-    samples: &mut [u8],
-    to: Place,
-    width: usize,
-    height: usize,
-    first: &[i16],
-    second: &[i16],
-) -> Result<(), Error> {
-    // SAFETY: pointers and lengths come from borrowed slices, `samples` borrowed mutably.
-    told(unsafe {
-        sys::av1_mc_avg_8(
-            samples.as_mut_ptr(),
-            samples.len(),
-            to.stride,
-            to.x,
-            to.y,
-            width,
-            height,
-            first.as_ptr(),
-            first.len(),
-            second.as_ptr(),
-            second.len(),
-        )
-    })
-}
-
-/// [`mc_avg_8`] for samples of 16 bits at a depth of 8, 10 or 12.
-///
-/// # Errors
-///
-/// `BadSize`, then `BadArea`, then `TooShort`, then `BadDepth`. The samples are then unchanged.
-pub fn mc_avg_16(
-    samples: &mut [u16],
-    to: Place,
-    width: usize,
-    height: usize,
-    first: &[i16],
-    second: &[i16],
-    bit_depth: usize,
-) -> Result<(), Error> {
-    // SAFETY: as above.
-    told(unsafe {
-        sys::av1_mc_avg_16(
-            samples.as_mut_ptr(),
-            samples.len(),
-            to.stride,
-            to.x,
-            to.y,
-            width,
-            height,
-            first.as_ptr(),
-            first.len(),
-            second.as_ptr(),
-            second.len(),
-            bit_depth,
+            src.samples().as_ptr(),
+            src.samples().len(),
+            &plane.into(),
+            &block.into(),
+            window.0.as_mut_ptr(),
+            window.0.len(),
+            src.bit_depth() as usize,
         )
     })
 }

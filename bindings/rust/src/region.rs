@@ -1,17 +1,33 @@
 //! Rectangles of a plane, split into disjoint ones, so that threads can work on tiles of one plane.
 
-use crate::{Error, Place};
+use crate::Error;
+use std::fmt;
 use std::marker::PhantomData;
 use std::ptr;
 use std::slice;
 
+/// Column `x` of row `y` of samples whose rows are `stride` samples apart. A rectangle there lies
+/// in the samples if `x + width <= stride` and `(y + height) * stride` is at most their number: its
+/// last row also has `stride` samples.
+#[derive(Clone, Copy, Debug, Default, PartialEq, Eq)]
+pub struct Place {
+    /// How many samples apart rows are.
+    pub stride: usize,
+    /// The column.
+    pub x: usize,
+    /// The row.
+    pub y: usize,
+}
+
 /// A buffer in which a call works on the samples of a rectangle, without gaps between its rows.
 /// Each thread makes its own once and uses it again; its contents before a call don't matter. It
 /// allocates if a rectangle has more samples than any before it.
+#[derive(Clone, Debug)]
 pub struct BlockRoom<T>(Vec<T>);
 
 impl<T> BlockRoom<T> {
     /// A buffer that has not allocated yet.
+    #[must_use]
     pub const fn new() -> BlockRoom<T> {
         BlockRoom(Vec::new())
     }
@@ -50,6 +66,12 @@ impl<T> Clone for Rows<T> {
 }
 
 impl<T> Copy for Rows<T> {}
+
+impl<T> fmt::Debug for Rows<T> {
+    fn fmt(&self, f: &mut fmt::Formatter<'_>) -> fmt::Result {
+        write!(f, "{} by {} samples", self.width, self.height)
+    }
+}
 
 impl<T> Rows<T> {
     // The address of column `x` of row `y`.
@@ -95,16 +117,18 @@ impl<T> Rows<T> {
         self.width.checked_mul(self.height).ok_or(Error::BadArea)
     }
 
-    // The samples of row `y`.
+    // The samples of row `y`, if there is such a row.
     //
     // Safety: they exist, and nobody writes them during 'a.
-    unsafe fn row<'a>(&self, y: usize) -> &'a [T] {
-        assert!(y < self.height);
-        if self.width == 0 {
-            return &[];
+    unsafe fn row<'a>(&self, y: usize) -> Option<&'a [T]> {
+        if y >= self.height {
+            None
+        } else if self.width == 0 {
+            Some(&[])
+        } else {
+            // SAFETY: the caller guarantees it.
+            Some(unsafe { slice::from_raw_parts(self.at(0, y), self.width) })
         }
-        // SAFETY: the caller guarantees it.
-        unsafe { slice::from_raw_parts(self.at(0, y), self.width) }
     }
 }
 
@@ -146,7 +170,7 @@ impl<T: Copy> Rows<T> {
 
 /// A rectangle of samples to read, in rows that are `stride` samples apart. Others may write what
 /// lies between its rows.
-#[derive(Clone, Copy)]
+#[derive(Clone, Copy, Debug)]
 pub struct Region<'a, T> {
     rows: Rows<T>,
     lent: PhantomData<&'a [T]>,
@@ -203,21 +227,20 @@ impl<'a, T> Region<'a, T> {
     }
 
     /// How many columns it has.
+    #[must_use]
     pub fn width(&self) -> usize {
         self.rows.width
     }
 
     /// How many rows it has.
+    #[must_use]
     pub fn height(&self) -> usize {
         self.rows.height
     }
 
-    /// The samples of row `y`.
-    ///
-    /// # Panics
-    ///
-    /// If there is no such row.
-    pub fn row(&self, y: usize) -> &'a [T] {
+    /// The samples of row `y`, or `None` if there is no such row.
+    #[must_use]
+    pub fn row(&self, y: usize) -> Option<&'a [T]> {
         // SAFETY: the samples of a region's row exist, next to one another, and are borrowed.
         unsafe { self.rows.row(y) }
     }
@@ -249,6 +272,7 @@ impl<T: Copy + Default> Region<'_, T> {
 
 /// A rectangle of samples to read and write, in rows that are `stride` samples apart. Others may
 /// hold what lies between its rows.
+#[derive(Debug)]
 pub struct RegionMut<'a, T> {
     rows: Rows<T>,
     lent: PhantomData<&'a mut [T]>,
@@ -317,21 +341,25 @@ impl<'a, T> RegionMut<'a, T> {
     }
 
     /// How many columns it has.
+    #[must_use]
     pub fn width(&self) -> usize {
         self.rows.width
     }
 
     /// How many rows it has.
+    #[must_use]
     pub fn height(&self) -> usize {
         self.rows.height
     }
 
     /// The same region, borrowed for a shorter time.
+    #[must_use]
     pub fn reborrow(&mut self) -> RegionMut<'_, T> {
         self.part(0, 0, self.width(), self.height())
     }
 
     /// The same region, only to read.
+    #[must_use]
     pub fn as_region(&self) -> Region<'_, T> {
         Region {
             rows: self.rows,
@@ -341,52 +369,55 @@ impl<'a, T> RegionMut<'a, T> {
 
     /// The first `columns` columns, and the rest.
     ///
-    /// # Panics
+    /// # Errors
     ///
-    /// If there are fewer.
-    pub fn split_columns(self, columns: usize) -> (RegionMut<'a, T>, RegionMut<'a, T>) {
-        assert!(columns <= self.width());
-        (
+    /// `BadArea`: there are fewer.
+    pub fn split_columns(
+        self,
+        columns: usize,
+    ) -> Result<(RegionMut<'a, T>, RegionMut<'a, T>), Error> {
+        if columns > self.width() {
+            return Err(Error::BadArea);
+        }
+        Ok((
             self.part(0, 0, columns, self.height()),
             self.part(columns, 0, self.width() - columns, self.height()),
-        )
+        ))
     }
 
     /// The first `rows` rows, and the rest.
     ///
-    /// # Panics
+    /// # Errors
     ///
-    /// If there are fewer.
-    pub fn split_rows(self, rows: usize) -> (RegionMut<'a, T>, RegionMut<'a, T>) {
-        assert!(rows <= self.height());
-        (
+    /// `BadArea`: there are fewer.
+    pub fn split_rows(self, rows: usize) -> Result<(RegionMut<'a, T>, RegionMut<'a, T>), Error> {
+        if rows > self.height() {
+            return Err(Error::BadArea);
+        }
+        Ok((
             self.part(0, 0, self.width(), rows),
             self.part(0, rows, self.width(), self.height() - rows),
-        )
+        ))
     }
 
-    /// The samples of row `y`.
-    ///
-    /// # Panics
-    ///
-    /// If there is no such row.
-    pub fn row(&self, y: usize) -> &[T] {
+    /// The samples of row `y`, or `None` if there is no such row.
+    #[must_use]
+    pub fn row(&self, y: usize) -> Option<&[T]> {
         self.as_region().row(y)
     }
 
-    /// The samples of row `y`, to write.
-    ///
-    /// # Panics
-    ///
-    /// If there is no such row.
-    pub fn row_mut(&mut self, y: usize) -> &mut [T] {
-        assert!(y < self.height());
-        if self.width() == 0 {
-            return &mut [];
+    /// The samples of row `y`, to write, or `None` if there is no such row.
+    #[must_use]
+    pub fn row_mut(&mut self, y: usize) -> Option<&mut [T]> {
+        if y >= self.height() {
+            None
+        } else if self.width() == 0 {
+            Some(&mut [])
+        } else {
+            // SAFETY: the samples of a region's row exist, next to one another, and are borrowed
+            // mutably for as long.
+            Some(unsafe { slice::from_raw_parts_mut(self.rows.at(0, y), self.width()) })
         }
-        // SAFETY: the samples of a region's row exist, next to one another, and are borrowed
-        // mutably for as long.
-        unsafe { slice::from_raw_parts_mut(self.rows.at(0, y), self.width()) }
     }
 }
 
@@ -420,10 +451,10 @@ impl<T: Copy + Default> RegionMut<'_, T> {
     ///
     /// ```
     /// use av1_c::{BlockRoom, MotionBlock, Place, RegionMut, put_8tap_8};
-    /// # let block = MotionBlock { width: 4, height: 4, col_frac: 0, row_frac: 0, filter_x: 0, filter_y: 0 };
+    /// let block = MotionBlock { width: 4, height: 4, ..MotionBlock::default() };
     /// let reference = [7; 256];
     /// let mut plane = [0; 16 * 16];
-    /// let (mut left, mut right) = RegionMut::new(&mut plane, 0, 16, 16, 16)?.split_columns(8);
+    /// let (mut left, mut right) = RegionMut::new(&mut plane, 0, 16, 16, 16)?.split_columns(8)?;
     /// let from = Place { stride: 16, x: 3, y: 3 };
     /// let put = |samples: &mut [u8], to| put_8tap_8(samples, to, &reference, from, &block);
     /// std::thread::scope(|threads| {

@@ -1,6 +1,8 @@
 //! Samples that are checked against a depth once, so that calls need not check them again.
 
-use crate::{Error, MotionBlock, Place, sys, told};
+use crate::error::told;
+use crate::{BitDepth, Error, MotionBlock, Place};
+use av1_c_sys as sys;
 use std::fmt;
 use std::sync::Arc;
 
@@ -9,7 +11,7 @@ use std::sync::Arc;
 /// them.
 ///
 /// ```
-/// use av1_c::{Error, Tested};
+/// use av1_c::{BitDepth, Error, Tested};
 /// use std::sync::Arc;
 ///
 /// struct Frame {
@@ -17,9 +19,9 @@ use std::sync::Arc;
 /// }
 ///
 /// let frame = Arc::new(Frame { planes: [vec![1023; 64], vec![512; 16], vec![512; 16]] });
-/// let tested = Tested::with(frame.clone(), |frame| &frame.planes[1], 10)?;
+/// let tested = Tested::with(frame.clone(), |frame| &frame.planes[1], BitDepth::Ten)?;
 /// assert_eq!(tested.samples(), [512; 16]);
-/// assert!(matches!(Tested::new(vec![1023, 1024], 10), Err(Error::BadSample)));
+/// assert!(matches!(Tested::new(vec![1023, 1024], BitDepth::Ten), Err(Error::BadSample)));
 /// # Ok::<(), Error>(())
 /// ```
 ///
@@ -27,7 +29,7 @@ use std::sync::Arc;
 ///
 /// ```compile_fail,E0506
 /// let mut samples = [0; 64];
-/// let tested = av1_c::Tested::new(&samples, 10)?;
+/// let tested = av1_c::Tested::new(&samples, av1_c::BitDepth::Ten)?;
 /// samples[0] = 1024;
 /// assert_eq!(tested.samples().len(), 64);
 /// # Ok::<(), av1_c::Error>(())
@@ -41,7 +43,7 @@ use std::sync::Arc;
 pub struct Tested<S> {
     owner: Arc<S>,
     samples: *const [u16],
-    bit_depth: usize,
+    bit_depth: BitDepth,
 }
 
 // SAFETY: it gives out the owner by `&`, the samples by `&`, and, by the last clone, the owner
@@ -55,9 +57,8 @@ impl<S: AsRef<[u16]>> Tested<S> {
     ///
     /// # Errors
     ///
-    /// `BadArea`: there are no samples. `BadDepth`: the depth is not 8, 10 or 12. `BadSample`: a
-    /// sample is past it.
-    pub fn new(owner: S, bit_depth: usize) -> Result<Tested<S>, Error> {
+    /// `BadArea`: there are no samples. `BadSample`: a sample is past the depth.
+    pub fn new(owner: S, bit_depth: BitDepth) -> Result<Tested<S>, Error> {
         Tested::with(owner, S::as_ref, bit_depth)
     }
 }
@@ -72,14 +73,23 @@ impl<S> Tested<S> {
     pub fn with(
         owner: S,
         samples: impl FnOnce(&S) -> &[u16],
-        bit_depth: usize,
+        bit_depth: BitDepth,
     ) -> Result<Tested<S>, Error> {
         let owner = Arc::new(owner);
         let samples = samples(&owner);
         let count = samples.len();
         // SAFETY: pointer and length come from one borrowed slice.
         told(unsafe {
-            sys::av1_test_samples_16(samples.as_ptr(), count, count, 0, 0, count, 1, bit_depth)
+            sys::test_samples_16(
+                samples.as_ptr(),
+                count,
+                count,
+                0,
+                0,
+                count,
+                1,
+                bit_depth as usize,
+            )
         })?;
         let samples = samples as *const [u16];
         Ok(Tested {
@@ -90,6 +100,7 @@ impl<S> Tested<S> {
     }
 
     /// The samples.
+    #[must_use]
     pub fn samples(&self) -> &[u16] {
         // SAFETY: the owner has lent them for as long as it is neither moved, dropped nor borrowed
         // mutably, and it is held here.
@@ -97,11 +108,13 @@ impl<S> Tested<S> {
     }
 
     /// Their depth.
-    pub fn bit_depth(&self) -> usize {
+    #[must_use]
+    pub fn bit_depth(&self) -> BitDepth {
         self.bit_depth
     }
 
     /// Their owner.
+    #[must_use]
     pub fn owner(&self) -> &S {
         &self.owner
     }
@@ -143,7 +156,7 @@ impl<S> fmt::Debug for Tested<S> {
 ///
 /// # Errors
 ///
-/// `BadSize`, then `BadMode`, then `BadFraction`, then `BadArea`. The samples are then unchanged.
+/// `BadSize`, then `BadFraction`, then `BadArea`. The samples are then unchanged.
 pub fn put_tested_16<S>(
     dst: &mut [u16],
     to: Place,
@@ -155,7 +168,7 @@ pub fn put_tested_16<S>(
     // SAFETY: pointers and lengths come from borrowed slices, `dst` borrowed mutably. No sample of
     // the reference is past the depth: all were checked when it was made.
     told(unsafe {
-        sys::av1_put_tested_16(
+        sys::put_tested_16(
             dst.as_mut_ptr(),
             dst.len(),
             to.stride,
@@ -166,8 +179,8 @@ pub fn put_tested_16<S>(
             from.stride,
             from.x,
             from.y,
-            block,
-            src.bit_depth,
+            &block.into(),
+            src.bit_depth as usize,
         )
     })
 }
@@ -176,7 +189,7 @@ pub fn put_tested_16<S>(
 ///
 /// # Errors
 ///
-/// `BadSize`, then `BadMode`, then `BadFraction`, then `BadArea`, then `TooShort`. The values are
+/// `BadSize`, then `BadFraction`, then `BadArea`, then `TooShort`. The values are
 /// then unchanged.
 pub fn prep_tested_16<S>(
     values: &mut [i16],
@@ -187,7 +200,7 @@ pub fn prep_tested_16<S>(
     let samples = src.samples();
     // SAFETY: as above.
     told(unsafe {
-        sys::av1_prep_tested_16(
+        sys::prep_tested_16(
             values.as_mut_ptr(),
             values.len(),
             samples.as_ptr(),
@@ -195,8 +208,8 @@ pub fn prep_tested_16<S>(
             from.stride,
             from.x,
             from.y,
-            block,
-            src.bit_depth,
+            &block.into(),
+            src.bit_depth as usize,
         )
     })
 }

@@ -6,29 +6,6 @@ use crate::{
     predict_in_plane_16,
 };
 
-// The columns and rows of each transform size.
-const SIDES: [(usize, usize); 19] = [
-    (4, 4),
-    (8, 8),
-    (16, 16),
-    (32, 32),
-    (64, 64),
-    (4, 8),
-    (8, 4),
-    (8, 16),
-    (16, 8),
-    (16, 32),
-    (32, 16),
-    (32, 64),
-    (64, 32),
-    (4, 16),
-    (16, 4),
-    (8, 32),
-    (32, 8),
-    (16, 64),
-    (64, 16),
-];
-
 /// A transform block and what its tile has around it, as a plane of its own: the row above, the
 /// column to the left, and to the right and below as many more samples as an edge may have.
 pub(crate) struct Window {
@@ -57,7 +34,7 @@ impl Window {
         plane: &EdgePlane,
         block: &EdgeBlock,
     ) -> Result<Window, Error> {
-        let sides = *SIDES.get(block.tx_size as usize).unwrap_or(&(0, 0));
+        let sides = (block.tx_size.width(), block.tx_size.height());
         let lies = holds(plane.width, plane.tile_x, plane.tile_width)
             && holds(plane.height, plane.tile_y, plane.tile_height)
             && block.x < plane.tile_width
@@ -105,14 +82,14 @@ impl Window {
     ) -> &'a mut [T] {
         let samples = room.of(self.columns * self.rows);
         let (x, y) = self.at;
-        if self.block.y > 0 {
-            let count = self.columns.min(tile.width() - x);
-            samples[..count].copy_from_slice(&tile.row(y)[x..x + count]);
+        if let (true, Some(row)) = (self.block.y > 0, tile.row(y)) {
+            let count = self.columns.min(row.len() - x);
+            samples[..count].copy_from_slice(&row[x..x + count]);
         }
         if self.block.x > 0 {
-            let rows = (y..tile.height()).zip(samples.chunks_exact_mut(self.columns));
-            for (row, samples) in rows {
-                samples[0] = tile.row(row)[x];
+            let rows = (y..tile.height()).filter_map(|y| tile.row(y));
+            for (row, samples) in rows.zip(samples.chunks_exact_mut(self.columns)) {
+                samples[0] = row[x];
             }
         }
         samples

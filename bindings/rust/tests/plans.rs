@@ -1,8 +1,14 @@
-//! The worked plan of the repository, whole and spoilt.
+//! The worked plan of the repository: whole and spoilt, as a grid of one tile, as a sequence, and as a trace.
 
-use av1_c::{Error, InvalidKind, planes_len, reconstruct_plan};
+use av1_c::{
+    Difference, Error, InvalidKind, planes_len, reconstruct_plan, reconstruct_sequence,
+    reconstruct_tiles, trace_differences,
+};
 use std::fs;
 use std::path::Path;
+
+// The bytes of a plan's header.
+const HEADER: usize = 20;
 
 // The worked plan, and its planes.
 fn worked_plan() -> (Vec<u8>, Vec<u8>) {
@@ -67,5 +73,172 @@ fn bytes_past_the_longest_plan_are_told() {
     assert_eq!(
         reconstruct_plan(&bytes[1..], &mut []),
         Err(Error::Malformed { at: 0 })
+    );
+}
+
+// A part: its length, and the plan's leaves.
+fn part(plan: &[u8]) -> Vec<u8> {
+    let leaves = &plan[HEADER..];
+    [&(leaves.len() as u32).to_le_bytes(), leaves].concat()
+}
+
+fn grid_of(letters: &[u8], plan: &[u8]) -> Vec<u8> {
+    [letters, &plan[4..HEADER], &[1, 1], &part(plan)].concat()
+}
+
+fn grid(plan: &[u8]) -> Vec<u8> {
+    grid_of(b"RTL1", plan)
+}
+
+fn sequence(first: &[u8], second: &[u8]) -> Vec<u8> {
+    let head = [0; 10];
+    let frames = [&head[..], &part(first), &head, &part(second)].concat();
+    [b"RSQ1", &first[4..10], &[2, 0], &frames].concat()
+}
+
+#[test]
+fn planes_are_written_to_the_front() {
+    let (plan, planes) = worked_plan();
+    let mut room = vec![9; 2 * planes.len() + 5];
+    let written = reconstruct_tiles(&grid(&plan), &mut room);
+    assert_eq!(written, Ok(planes.len()));
+    assert_eq!(room[..planes.len()], planes);
+    assert!(room[planes.len()..].iter().all(|byte| *byte == 9));
+    let written = reconstruct_sequence(&sequence(&plan, &plan), &mut room);
+    assert_eq!(written, Ok(2 * planes.len()));
+    assert_eq!(room, [&planes[..], &planes, &[9; 5]].concat());
+}
+
+#[test]
+fn rejected_bytes_leave_the_room_alone() {
+    let (plan, planes) = worked_plan();
+    let mut spoilt = plan.clone();
+    // The place of the first leaf's coefficient, in a block of 16.
+    spoilt[34] = 16;
+    let mut room = vec![9; 2 * planes.len()];
+    let (leaf, kind) = (0, InvalidKind::Coefficient);
+    for (bytes, part) in [(sequence(&plan, &spoilt), 1), (sequence(&spoilt, &plan), 0)] {
+        let fault = Error::InvalidPart { part, leaf, kind };
+        assert_eq!(reconstruct_sequence(&bytes, &mut room), Err(fault));
+    }
+    let fault = Error::InvalidPart {
+        part: 0,
+        leaf,
+        kind,
+    };
+    assert_eq!(reconstruct_tiles(&grid(&spoilt), &mut room), Err(fault));
+    assert_eq!(fault.to_string(), "part 0: invalid leaf 0: coefficient");
+    spoilt[HEADER] = 7;
+    let fault = Error::MalformedPart { part: 0, at: 0 };
+    assert_eq!(reconstruct_tiles(&grid(&spoilt), &mut room), Err(fault));
+    let fault = Err(Error::Malformed { at: 0 });
+    assert_eq!(reconstruct_tiles(&plan, &mut room), fault);
+    assert_eq!(reconstruct_sequence(&plan, &mut room), fault);
+    let short = &mut room[..planes.len() - 1];
+    let fault = Err(Error::RoomTooSmall);
+    assert_eq!(reconstruct_tiles(&grid(&plan), short), fault);
+    assert!(room.iter().all(|byte| *byte == 9));
+}
+
+// The plan as a frame that isn't shown, which slot 0 holds then, and a slot that is shown again.
+fn hidden(plan: &[u8], slot: u8) -> Vec<u8> {
+    let head = [0, 0, 0, 0, 0, 0, 0, 0, 0, 0, 1];
+    let entries = [&head[..], &part(plan), &[2, slot, 0]].concat();
+    [b"RSQ2", &plan[4..10], &[2, 0], &entries].concat()
+}
+
+#[test]
+fn a_frame_is_shown_again() {
+    let (plan, planes) = worked_plan();
+    let mut room = vec![9; 2 * planes.len()];
+    let written = reconstruct_sequence(&hidden(&plan, 0), &mut room);
+    assert_eq!(written, Ok(planes.len()));
+    assert_eq!(room[..planes.len()], planes);
+    let fault = Error::EmptySlot { part: 1 };
+    assert_eq!(
+        reconstruct_sequence(&hidden(&plan, 1), &mut room),
+        Err(fault)
+    );
+    assert_eq!(fault.to_string(), "part 1: empty slot");
+}
+
+// A frame of 9 columns and 1 row in 4:4:4, whose slot 0 rises along rows, in one tile with a leaf from that slot.
+#[test]
+fn a_grid_has_any_sides_in_the_third_version() {
+    let front = [0, 9, 0, 1, 0, 8, 2, 0, 0, 0, 0, 0, 0, 0, 0, 0, 1];
+    let leaf = [0, 19, 1, 0, 0, 8, 0, 4, 0, 0, 0, 0, 0, 0, 0, 0];
+    let slot: Vec<u8> = (0..27).collect();
+    let plan = [b"RPL", &front[..], &leaf].concat();
+    let bytes = [b"RTL2", &front[1..], &slot, &[1, 1], &part(&plan)].concat();
+    let mut room = [7; 27];
+    assert_eq!(reconstruct_tiles(&bytes, &mut room), Ok(27));
+    let wanted: Vec<u8> = slot
+        .iter()
+        .map(|value| (value + 1).min(value / 9 * 9 + 8))
+        .collect();
+    assert_eq!(room[..], wanted);
+    let early = [b"RTL1", &bytes[4..]].concat();
+    assert_eq!(
+        reconstruct_tiles(&early, &mut room),
+        Err(Error::Malformed { at: 4 })
+    );
+}
+
+#[test]
+fn a_trace_tells_where_its_planes_differ() {
+    let (plan, mut planes) = worked_plan();
+    let trace = |plan: &[u8], planes: &[u8]| {
+        [
+            b"RTR1",
+            &(plan.len() as u32).to_le_bytes()[..],
+            plan,
+            planes,
+        ]
+        .concat()
+    };
+    let mut room = [Difference::default(); 3];
+    assert_eq!(trace_differences(&trace(&plan, &planes), &mut room), Ok(0));
+    assert_eq!(room, [Difference::default(); 3]);
+    // Column 1 of row 2 of Y, in the first leaf, and column 7 of row 7 of V, in the last one.
+    planes[17] = 9;
+    planes[191] = 8;
+    assert_eq!(trace_differences(&trace(&plan, &planes), &mut room), Ok(2));
+    let first = Difference {
+        leaf: 0,
+        row: 2,
+        column: 1,
+        given: 9,
+        defined: 131,
+        plane: 0,
+    };
+    let last = Difference {
+        leaf: 3,
+        row: 7,
+        column: 7,
+        given: 8,
+        defined: 128,
+        plane: 2,
+    };
+    assert_eq!(room, [first, last, Difference::default()]);
+    room[1] = Difference::default();
+    let found = trace_differences(&trace(&plan, &planes), &mut room[..1]);
+    assert_eq!((found, room[0]), (Ok(2), first));
+    assert_eq!(room[1..], [Difference::default(); 2]);
+    let cut = trace(&plan, &planes[1..]);
+    let fault = Err(Error::Malformed { at: 91 });
+    assert_eq!(trace_differences(&cut, &mut room), fault);
+    let mut spoilt = plan.clone();
+    spoilt[HEADER] = 7;
+    let fault = Err(Error::MalformedPart { part: 0, at: 20 });
+    assert_eq!(trace_differences(&trace(&spoilt, &planes), &mut []), fault);
+}
+
+#[test]
+fn the_library_has_the_version_of_the_crate() {
+    assert_eq!(av1_c::version(), av1_c::VERSION);
+    let [major, minor, patch] = [16, 8, 0].map(|shift| av1_c::VERSION >> shift & 255);
+    assert_eq!(
+        format!("{major}.{minor}.{patch}"),
+        env!("CARGO_PKG_VERSION")
     );
 }

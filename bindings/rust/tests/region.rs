@@ -1,8 +1,8 @@
 //! Regions: split, read, called on, and worked on by threads.
 
 use av1_c::{
-    BlockRoom, Error, MotionBlock, Place, Region, RegionMut, TransformBlock, TransformScratch,
-    inverse_transform_add_8, put_8tap_8,
+    BlockRoom, Error, Filter, MotionBlock, Place, Region, RegionMut, TransformBlock,
+    TransformScratch, TxSize, inverse_transform_add_8, put_8tap_8,
 };
 
 const STRIDE: usize = 40;
@@ -21,31 +21,41 @@ fn whole(samples: &mut [u8]) -> RegionMut<'_, u8> {
 }
 
 #[test]
-fn rows_and_columns_are_those_of_the_plane() {
+fn rows_and_columns_are_those_of_the_plane() -> Result<(), Error> {
     let mut samples = plane();
-    let (left, right) = whole(&mut samples).split_columns(10);
-    let (above, mut below) = right.split_rows(20);
+    let (left, right) = whole(&mut samples).split_columns(10)?;
+    let (above, mut below) = right.split_rows(20)?;
     assert_eq!((left.width(), left.height()), (10, ROWS));
     assert_eq!((above.width(), above.height()), (COLUMNS - 10, 20));
     assert_eq!((below.width(), below.height()), (COLUMNS - 10, ROWS - 20));
-    assert_eq!(left.row(3), &plane()[3 * STRIDE..][..10]);
-    assert_eq!(above.row(19), &plane()[19 * STRIDE + 10..][..COLUMNS - 10]);
-    below.row_mut(3)[26] = 99;
-    below.reborrow().row_mut(0)[0] = 98;
+    assert_eq!(left.row(3), Some(&plane()[3 * STRIDE..][..10]));
+    assert_eq!(
+        above.row(19),
+        Some(&plane()[19 * STRIDE + 10..][..COLUMNS - 10])
+    );
+    assert_eq!((above.row(20), below.row_mut(4)), (None, None));
+    below.row_mut(3).expect("a row")[26] = 99;
+    below.reborrow().row_mut(0).expect("a row")[0] = 98;
+    assert_eq!(below.split_rows(5).err(), Some(Error::BadArea));
     let mut expected = plane();
     expected[20 * STRIDE + 10] = 98;
     *expected.last_mut().expect("there are samples") = 99;
     assert_eq!(samples, expected);
+    Ok(())
 }
 
 #[test]
-fn parts_may_be_empty() {
+fn parts_may_be_empty() -> Result<(), Error> {
     let mut samples = plane();
-    let (left, right) = whole(&mut samples).split_columns(0);
-    assert_eq!((left.row(ROWS - 1), right.width()), (&[][..], COLUMNS));
-    let (above, below) = right.split_rows(ROWS);
+    let (left, right) = whole(&mut samples).split_columns(0)?;
+    assert_eq!(
+        (left.row(ROWS - 1), right.width()),
+        (Some(&[][..]), COLUMNS)
+    );
+    let (above, below) = right.split_rows(ROWS)?;
     assert_eq!((above.height(), below.height()), (ROWS, 0));
     assert_eq!(RegionMut::<u8>::new(&mut [], 0, 0, 0, 0).err(), None);
+    Ok(())
 }
 
 #[test]
@@ -54,8 +64,8 @@ fn a_plane_may_stand_upside_down() {
     let last = STRIDE * (ROWS - 1);
     let region = RegionMut::new(&mut samples, last, -(STRIDE as isize), COLUMNS, ROWS);
     let mut region = region.expect("it lies in the samples");
-    assert_eq!(region.row(0), &plane()[last..]);
-    assert_eq!(region.row(ROWS - 1), &plane()[..COLUMNS]);
+    assert_eq!(region.row(0), Some(&plane()[last..]));
+    assert_eq!(region.row(ROWS - 1), Some(&plane()[..COLUMNS]));
     let room = &mut BlockRoom::new();
     let called = region.call(room, 1, ROWS - 1, 2, 1, |block, to| {
         assert_eq!((block.len(), to.stride, to.x, to.y), (2, 2, 0, 0));
@@ -138,7 +148,7 @@ fn regions_are_read() {
     let flipped = read(last, -(STRIDE as isize)).expect("it lies in the samples");
     assert_eq!((upright.width(), upright.height()), (COLUMNS, ROWS));
     assert!((0..ROWS).all(|y| upright.row(y) == flipped.row(ROWS - 1 - y)));
-    assert_eq!(flipped.row(0), &samples[last..]);
+    assert_eq!(flipped.row(0), Some(&samples[last..]));
     assert_eq!(read(1, STRIDE as isize).err(), Some(Error::BadArea));
 }
 
@@ -199,7 +209,7 @@ fn refused_calls_leave_the_samples_alone() {
     assert_eq!(samples, plane());
 }
 
-/// Moves each block of 8x8 of a region, and adds a residue to it.
+/// Moves each block of 8x8 of a region, and adds a residual to it.
 fn work(region: &mut RegionMut<'_, u8>, seed: u8) -> Result<(), Error> {
     let reference: Vec<u8> = (0..=255).map(|i: u8| i.wrapping_mul(seed)).collect();
     let (mut scratch, mut room) = (TransformScratch::new(), BlockRoom::new());
@@ -208,8 +218,8 @@ fn work(region: &mut RegionMut<'_, u8>, seed: u8) -> Result<(), Error> {
         height: 8,
         col_frac: 3,
         row_frac: 11,
-        filter_x: 0,
-        filter_y: 1,
+        filter_x: Filter::Regular,
+        filter_y: Filter::Smooth,
     };
     let from = Place {
         stride: 16,
@@ -223,10 +233,10 @@ fn work(region: &mut RegionMut<'_, u8>, seed: u8) -> Result<(), Error> {
             })?;
             region.call(&mut room, x, y, 8, 8, |samples, to| {
                 let transform = TransformBlock {
-                    tx_size: 1,
-                    tx_type: 0,
+                    tx_size: TxSize::T8x8,
                     x: to.x,
                     y: to.y,
+                    ..TransformBlock::default()
                 };
                 let coefficients = [300, -70, 9];
                 inverse_transform_add_8(&mut scratch, &coefficients, samples, to.stride, transform)
@@ -241,7 +251,7 @@ fn tiles(samples: &mut [u8], stride: usize) -> Vec<RegionMut<'_, u8>> {
     let mut rest = RegionMut::new(samples, 0, stride as isize, 256, 64).expect("it lies in them");
     let mut tiles = Vec::new();
     for _ in 0..8 {
-        let (tile, others) = rest.split_columns(32);
+        let (tile, others) = rest.split_columns(32).expect("so many");
         tiles.push(tile);
         rest = others;
     }

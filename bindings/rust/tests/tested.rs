@@ -1,8 +1,8 @@
 //! References that are tested once, with whatever owns them.
 
 use av1_c::{
-    Error, MotionBlock, MotionPlane, MotionWindow, MovedBlock, Place, Tested, put_8tap_16,
-    put_moved_16, put_tested_16,
+    BitDepth, Error, Filter, MotionBlock, MotionPlane, MotionWindow, MovedBlock, Place, Tested,
+    put_8tap_16, put_moved_16, put_tested_16,
 };
 use std::cell::Cell;
 use std::sync::Arc;
@@ -13,8 +13,8 @@ const BLOCK: MotionBlock = MotionBlock {
     height: 2,
     col_frac: 5,
     row_frac: 9,
-    filter_x: 0,
-    filter_y: 1,
+    filter_x: Filter::Regular,
+    filter_y: Filter::Smooth,
 };
 const TO: Place = Place {
     stride: 4,
@@ -33,7 +33,8 @@ fn reference() -> Vec<u16> {
 
 fn expected() -> [u16; 8] {
     let mut samples = [0; 8];
-    put_8tap_16(&mut samples, TO, &reference(), FROM, &BLOCK, 10).expect("good arguments");
+    put_8tap_16(&mut samples, TO, &reference(), FROM, &BLOCK, BitDepth::Ten)
+        .expect("good arguments");
     samples
 }
 
@@ -47,16 +48,22 @@ fn put<S>(src: &Tested<S>) -> [u16; 8] {
 fn any_owner_is_as_good() -> Result<(), Error> {
     let samples = reference();
     let array: [u16; 144] = samples.clone().try_into().expect("so many");
-    assert_eq!(put(&Tested::new(&samples[..], 10)?), expected());
-    assert_eq!(put(&Tested::new(&samples, 10)?), expected());
-    assert_eq!(put(&Tested::new(samples.clone(), 10)?), expected());
-    assert_eq!(put(&Tested::new(array, 10)?), expected());
+    assert_eq!(put(&Tested::new(&samples[..], BitDepth::Ten)?), expected());
+    assert_eq!(put(&Tested::new(&samples, BitDepth::Ten)?), expected());
     assert_eq!(
-        put(&Tested::new(samples.clone().into_boxed_slice(), 10)?),
+        put(&Tested::new(samples.clone(), BitDepth::Ten)?),
+        expected()
+    );
+    assert_eq!(put(&Tested::new(array, BitDepth::Ten)?), expected());
+    assert_eq!(
+        put(&Tested::new(
+            samples.clone().into_boxed_slice(),
+            BitDepth::Ten
+        )?),
         expected()
     );
     assert_eq!(
-        put(&Tested::new(Arc::<[u16]>::from(samples), 10)?),
+        put(&Tested::new(Arc::<[u16]>::from(samples), BitDepth::Ten)?),
         expected()
     );
     Ok(())
@@ -71,33 +78,36 @@ struct Frame {
 fn a_plane_of_a_shared_frame_is_tested() -> Result<(), Error> {
     let planes = [vec![1024], reference(), vec![]];
     let frame = Arc::new(Frame { planes });
-    let plane = |number: usize| Tested::with(frame.clone(), move |frame| &frame.planes[number], 10);
+    let plane = |number: usize| {
+        Tested::with(
+            frame.clone(),
+            move |frame| &frame.planes[number],
+            BitDepth::Ten,
+        )
+    };
     assert!(matches!(plane(0), Err(Error::BadSample)));
     assert!(matches!(plane(2), Err(Error::BadArea)));
     let tested = plane(1)?;
     assert_eq!(tested.samples().as_ptr(), frame.planes[1].as_ptr());
-    assert_eq!((tested.samples().len(), tested.bit_depth()), (144, 10));
+    assert_eq!(
+        (tested.samples().len(), tested.bit_depth()),
+        (144, BitDepth::Ten)
+    );
     assert!(Arc::ptr_eq(tested.owner(), &frame));
     drop(frame);
     assert_eq!(put(&tested), expected());
     let whole = MotionPlane {
         stride: 12,
-        x: 0,
-        y: 0,
         width: 12,
         height: 12,
-        halved_columns: 0,
-        halved_rows: 0,
+        ..MotionPlane::default()
     };
     let moved = MovedBlock {
         x: 3,
         y: 3,
         width: 4,
         height: 2,
-        row: 0,
-        col: 0,
-        filter_x: 0,
-        filter_y: 0,
+        ..MovedBlock::default()
     };
     let mut samples = [0; 8];
     put_moved_16(
@@ -132,7 +142,7 @@ fn an_owner_is_asked_once() -> Result<(), Error> {
         samples,
         asked: Cell::new(0),
     };
-    let tested = Tested::new(fickle, 10)?;
+    let tested = Tested::new(fickle, BitDepth::Ten)?;
     assert_eq!(tested.owner().as_ref(), [u16::MAX; 2]);
     assert_eq!(tested.samples(), reference());
     let moved = Box::new(tested);
@@ -159,7 +169,7 @@ impl Drop for Counted<'_> {
 #[test]
 fn clones_share_the_owner_and_the_last_gives_it_back() -> Result<(), Error> {
     let dropped = AtomicUsize::new(0);
-    let one = Tested::new(Counted(reference(), &dropped), 10)?;
+    let one = Tested::new(Counted(reference(), &dropped), BitDepth::Ten)?;
     let other = one.clone();
     std::thread::scope(|threads| {
         threads.spawn(|| assert_eq!(put(&one), expected()));
@@ -180,7 +190,7 @@ fn clones_share_the_owner_and_the_last_gives_it_back() -> Result<(), Error> {
     );
     drop(owner);
     assert_eq!(dropped.load(Ordering::Relaxed), 1);
-    assert!(Tested::new(Counted(vec![1024], &dropped), 10).is_err());
+    assert!(Tested::new(Counted(vec![1024], &dropped), BitDepth::Ten).is_err());
     assert_eq!(dropped.load(Ordering::Relaxed), 2);
     Ok(())
 }
@@ -188,10 +198,18 @@ fn clones_share_the_owner_and_the_last_gives_it_back() -> Result<(), Error> {
 #[test]
 fn samples_past_the_depth_are_found() {
     let mut samples = vec![1023; 144];
-    assert!(Tested::new(&samples, 10).is_ok());
-    assert!(matches!(Tested::new(&samples, 8), Err(Error::BadSample)));
-    assert!(matches!(Tested::new(&samples, 9), Err(Error::BadDepth)));
-    assert!(matches!(Tested::new([], 10), Err(Error::BadArea)));
+    assert!(Tested::new(&samples, BitDepth::Ten).is_ok());
+    assert!(matches!(
+        Tested::new(&samples, BitDepth::Eight),
+        Err(Error::BadSample)
+    ));
+    assert!(matches!(
+        Tested::new([], BitDepth::Ten),
+        Err(Error::BadArea)
+    ));
     samples[143] = 1024;
-    assert!(matches!(Tested::new(&samples, 10), Err(Error::BadSample)));
+    assert!(matches!(
+        Tested::new(&samples, BitDepth::Ten),
+        Err(Error::BadSample)
+    ));
 }

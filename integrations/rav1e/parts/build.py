@@ -79,8 +79,9 @@ def encoder(source, assembly=False, as_it_is=False):
 
 def encoder_on_library(archive, crate, source, assembly=False):
     """The path of the recorder whose block operations are those of the archive `libav1_c.a`, called by the crate."""
-    names = sorted(os.listdir(os.path.join(crate, "src")))
-    made = [*recorder_parts(), *parts_of(("library.py", library.MODULE)), *(os.path.join(crate, "src", name) for name in names), archive]
+    folders = os.path.join(crate, "src"), os.path.join(crate, "sys/src")
+    files = [os.path.join(folder, name) for folder in folders for name in sorted(os.listdir(folder))]
+    made = [*recorder_parts(), *parts_of(("library.py", library.MODULE)), *files, archive]
 
     def apply(copy):
         edits.apply(copy, edits.EDITS)

@@ -17,8 +17,8 @@ use crate::transform::{TxSize, TxType};
 use crate::util::{Pixel, PixelType};
 
 use av1_c::{
-  BlockRoom, EdgeBlock, EdgePlane, Error, IntraEdge, LumaBlock, MotionPlane, MotionWindow, MovedBlock, Place, Region,
-  RegionMut, Tested, TransformBlock, TransformScratch,
+  BlockRoom, EdgeBlock, EdgePlane, Error, Filter, IntraEdge, LumaBlock, MotionPlane, MotionWindow, MovedBlock, Place, Region,
+  RegionMut, Sampling, Tested, TransformBlock, TransformScratch,
 };
 
 use std::cell::RefCell;
@@ -82,6 +82,11 @@ thread_local! {
   static WINDOW_16: RefCell<MotionWindow<u16>> = RefCell::new(MotionWindow::new());
   static ROOM_8: RefCell<BlockRoom<u8>> = RefCell::new(BlockRoom::new());
   static ROOM_16: RefCell<BlockRoom<u16>> = RefCell::new(BlockRoom::new());
+}
+
+/// The library's name of a number of rav1e's: both have the numbers of AV1.
+fn named<T: TryFrom<u8>>(number: usize) -> T {
+  u8::try_from(number).ok().and_then(|number| T::try_from(number).ok()).expect("a number of AV1")
 }
 
 /// The same numbers, as those of the type that a pixel or a coefficient is.
@@ -222,7 +227,7 @@ pub fn inverse_transform_add<T: Pixel>(
 ) {
   // FITTED: the encoder's count follows its scan, and the call takes the first in raster order: so all are handed over.
   let sides = (tx_size.width(), tx_size.height());
-  let block = |at: Place| TransformBlock { tx_size: tx_size as u8, tx_type: tx_type as u8, x: at.x, y: at.y };
+  let block = |at: Place| TransformBlock { tx_size: named(tx_size as usize), tx_type: named(tx_type as usize), x: at.x, y: at.y };
   SCRATCH.with(|scratch| {
     let scratch = &mut scratch.borrow_mut();
     // SAFETY: coefficients are whole numbers of 16 bits beside samples of 8, and of 32 beside those of 16.
@@ -236,13 +241,13 @@ pub fn inverse_transform_add<T: Pixel>(
       PixelType::U16 if identities_wrap() => call!(
         "inverse_transform_add_rav1e_16",
         change(output, sides, |samples: &mut [u16], at| {
-          av1_c::inverse_transform_add_rav1e_16(scratch, unsafe { same(input) }, samples, at.stride, block(at), bd)
+          av1_c::inverse_transform_add_rav1e_16(scratch, unsafe { same(input) }, samples, at.stride, block(at), named(bd))
         })
       ),
       PixelType::U16 => call!(
         "inverse_transform_add_16",
         change(output, sides, |samples: &mut [u16], at| {
-          av1_c::inverse_transform_add_16(scratch, unsafe { same(input) }, samples, at.stride, block(at), bd)
+          av1_c::inverse_transform_add_16(scratch, unsafe { same(input) }, samples, at.stride, block(at), named(bd))
         })
       ),
     }
@@ -261,7 +266,7 @@ pub struct Transform {
 }
 
 impl Transform {
-  fn in_plane(&self, mode: u8, angle_step: i8) -> EdgeBlock {
+  fn in_plane(&self, mode: Option<PredictionMode>, angle_step: i8) -> EdgeBlock {
     EdgeBlock {
       x: self.at.x as usize,
       y: self.at.y as usize,
@@ -269,12 +274,12 @@ impl Transform {
       cell_y: self.cell.0.y,
       unit_x: self.unit.0,
       unit_y: self.unit.1,
-      block_size: self.block as u8,
-      tx_size: self.size as u8,
-      mode,
+      block_size: named(self.block as usize),
+      tx_size: named(self.size as usize),
+      mode: mode.map(|mode| named(mode as usize)),
       angle_step,
-      bit_depth: self.depth as u8,
-      edge_filter: u8::from(self.edge_filter),
+      bit_depth: named(self.depth),
+      edge_filter: self.edge_filter,
     }
   }
 }
@@ -292,8 +297,8 @@ fn tile_of(cfg: &PlaneConfig, tile: &Rect) -> EdgePlane {
     tile_y: y,
     tile_width: tile.width.min(cfg.width - x),
     tile_height: tile.height.min(cfg.height - y),
-    halved_columns: cfg.xdec as u8,
-    halved_rows: cfg.ydec as u8,
+    halved_columns: cfg.xdec > 0,
+    halved_rows: cfg.ydec > 0,
   }
 }
 
@@ -324,7 +329,7 @@ pub fn predict<T: Pixel>(
   filter: Option<IntraEdgeFilterParameters>, ac: &[i16],
 ) {
   let plane = tile_of(tile.plane_cfg, tile.rect());
-  let block = transform.in_plane(mode as u8, step_of(mode, param));
+  let block = transform.in_plane(Some(mode), step_of(mode, param));
   let (smooth, weight) = (smooth(filter), weight_of(param));
   match (T::type_enum(), tiled()) {
     (PixelType::U8, true) => u8::with_room(|room| {
@@ -395,8 +400,8 @@ pub fn get_intra_edges<T: Pixel>(
   edge.prepare(
     dst,
     &match opt_mode {
-      Some(mode) => transform.in_plane(mode as u8, step_of(mode, intra_param)),
-      None => transform.in_plane(av1_c::ANY_MODE, 0),
+      Some(mode) => transform.in_plane(Some(mode), step_of(mode, intra_param)),
+      None => transform.in_plane(None, 0),
     },
   );
   edge
@@ -408,7 +413,7 @@ pub fn predict_from_edge<T: Pixel>(
   filter: Option<IntraEdgeFilterParameters>, edge: &Edge,
 ) {
   let sides = (tx_size.width(), tx_size.height());
-  let (number, step, smooth, weight) = (mode as u8, step_of(mode, param), smooth(filter), weight_of(param));
+  let (number, step, smooth, weight) = (named(mode as usize), step_of(mode, param), smooth(filter), weight_of(param));
   match (edge, mode.is_cfl()) {
     (Edge::Of8(edge), true) => {
       call!("predict_cfl_8", write(dst, sides, |samples: &mut [u8], at| edge.predict_cfl(samples, at, ac, weight)))
@@ -438,10 +443,13 @@ pub struct Luma {
 /// The differences of luma from its mean, in place of rav1e's loops in `luma_ac`.  Luma begins at the region's first sample.
 pub fn luma_differences<T: Pixel>(ac: &mut [i16], luma: &PlaneRegion<'_, T>, leaf: Luma, bit_depth: usize) {
   let block = call!(cfl_block_of(&LumaBlock {
-    block_size: leaf.block as u8,
-    tx_size: leaf.transform as u8,
-    xdec: leaf.xdec as u8,
-    ydec: leaf.ydec as u8,
+    block_size: named(leaf.block as usize),
+    tx_size: named(leaf.transform as usize),
+    sampling: match (leaf.xdec, leaf.ydec) {
+      (0, _) => Sampling::Yuv444,
+      (_, 0) => Sampling::Yuv422,
+      _ => Sampling::Yuv420,
+    },
     visible_columns: 4 * leaf.cells.0,
     visible_rows: 4 * leaf.cells.1,
   }));
@@ -451,7 +459,7 @@ pub fn luma_differences<T: Pixel>(ac: &mut [i16], luma: &PlaneRegion<'_, T>, lea
       call!("cfl_ac_8", read(luma, sides, |samples: &[u8], at| av1_c::cfl_ac_8(ac, samples, at, &block)))
     }
     PixelType::U16 => {
-      call!("cfl_ac_16", read(luma, sides, |samples: &[u16], at| av1_c::cfl_ac_16(ac, samples, at, &block, bit_depth)))
+      call!("cfl_ac_16", read(luma, sides, |samples: &[u16], at| av1_c::cfl_ac_16(ac, samples, at, &block, named(bit_depth))))
     }
   }
 }
@@ -466,8 +474,9 @@ impl<T: Pixel> TestedFrame<T> {
   pub fn new(frame: &Arc<Frame<T>>, bit_depth: usize) -> Self {
     let test = |p: usize| match T::type_enum() {
       PixelType::U16 if !frame.planes[p].data.is_empty() => {
+        let depth = named(bit_depth);
         // SAFETY: samples are whole numbers of 16 bits.
-        Some(call!("test_samples_16", Tested::with(frame.clone(), |frame| unsafe { same(&frame.planes[p].data) }, bit_depth)))
+        Some(call!("test_samples_16", Tested::with(frame.clone(), |frame| unsafe { same(&frame.planes[p].data) }, depth)))
       }
       _ => None,
     };
@@ -485,14 +494,14 @@ pub struct Moved {
 }
 
 impl Moved {
-  /// The number of the filter.  rav1e's sharp one is its own along short sides in Rust, and AV1's in its assembler, or where
+  /// The filter.  rav1e's sharp one is its own along short sides in Rust, and AV1's in its assembler, or where
   /// the recorder was asked for that.
-  fn filter(&self) -> u8 {
+  fn filter(&self) -> Filter {
     let as_av1 = cfg!(nasm_x86_64) || short_filter(FilterMode::SHARP as usize) == 0;
     match self.filter {
-      FilterMode::SHARP if as_av1 => av1_c::SHARP,
-      FilterMode::SHARP => av1_c::RAV1E_SHARP,
-      other => other as u8,
+      FilterMode::SHARP if as_av1 => Filter::Sharp,
+      FilterMode::SHARP => Filter::Rav1eSharp,
+      other => named(other as usize),
     }
   }
 
@@ -518,8 +527,8 @@ fn visible(cfg: &PlaneConfig) -> MotionPlane {
     y: cfg.yorigin,
     width: cfg.width,
     height: cfg.height,
-    halved_columns: cfg.xdec as u8,
-    halved_rows: cfg.ydec as u8,
+    halved_columns: cfg.xdec > 0,
+    halved_rows: cfg.ydec > 0,
   }
 }
 
@@ -578,7 +587,7 @@ pub fn mc_avg<T: Pixel>(
     ),
     PixelType::U16 => call!(
       "mc_avg_16",
-      write(dst, (width, height), |samples, at| av1_c::mc_avg_16(samples, at, width, height, tmp1, tmp2, bit_depth))
+      write(dst, (width, height), |samples, at| av1_c::mc_avg_16(samples, at, width, height, tmp1, tmp2, named(bit_depth)))
     ),
   }
 }

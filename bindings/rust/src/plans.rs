@@ -1,0 +1,146 @@
+//! Whole plans, grids of tiles, sequences and traces.
+
+use crate::Error;
+use crate::error::{of_parts, of_plan};
+use av1_c_sys as sys;
+use std::mem::size_of;
+
+/// Computes how many bytes the planes of a plan have, which is how many [`reconstruct_plan`] writes.
+/// It reads only the 20 bytes of the header at the front of `bytes`.
+///
+/// # Errors
+///
+/// `TooLong`, then `Malformed`.
+pub fn planes_len(bytes: &[u8]) -> Result<usize, Error> {
+    let mut len = 0;
+    let mut refusal = sys::Refusal::default();
+    // SAFETY: pointer and length come from one borrowed slice; the call writes only two locals.
+    let status = unsafe { sys::planes_len(bytes.as_ptr(), bytes.len(), &mut len, &mut refusal) };
+    of_plan(status, &refusal)?;
+    Ok(len)
+}
+
+macro_rules! plane_calls {
+    ($call:ident, $refusal:ident, $told:ident, $(#[$doc:meta])+) => {
+        $(#[$doc])+
+        pub fn $call(bytes: &[u8], room: &mut [u8]) -> Result<usize, Error> {
+            let mut written = 0;
+            let mut refusal = sys::$refusal::default();
+            // SAFETY: pointers and lengths come from borrowed slices, `room` borrowed mutably; the
+            // call writes only `room` and two locals.
+            let status = unsafe {
+                sys::$call(
+                    bytes.as_ptr(),
+                    bytes.len(),
+                    room.as_mut_ptr(),
+                    room.len(),
+                    &mut written,
+                    &mut refusal,
+                )
+            };
+            $told(status, &refusal)?;
+            Ok(written)
+        }
+    };
+}
+
+plane_calls!(
+    reconstruct_plan,
+    Refusal,
+    of_plan,
+    /// Reconstructs a plan, writes its visible planes to the front of `room`, and returns how many
+    /// bytes they have: Y, then U, then V, each row by row without padding. A sample takes one byte
+    /// at depth 8, else two, the low byte first. The rest of `room` is unchanged.
+    ///
+    /// ```no_run
+    /// let plan = std::fs::read("frame.plan")?;
+    /// let mut planes = vec![0; av1_c::planes_len(&plan)?];
+    /// av1_c::reconstruct_plan(&plan, &mut planes)?;
+    /// # Ok::<(), Box<dyn std::error::Error>>(())
+    /// ```
+    ///
+    /// # Errors
+    ///
+    /// `TooLong`, then `Malformed`, then `Invalid`, then `RoomTooSmall`. `OutOfMemory` can come
+    /// instead of any except the first. The buffer is then unchanged.
+);
+plane_calls!(
+    reconstruct_tiles,
+    PartRefusal,
+    of_parts,
+    /// Reconstructs the tiles of a grid, none of which reads another. It writes the visible planes
+    /// of their frame to the front of `room`, in the layout of [`reconstruct_plan`], and returns
+    /// how many bytes they have. The rest of `room` is unchanged.
+    ///
+    /// # Errors
+    ///
+    /// `TooLong`, then `Malformed`, then `MalformedPart` or `InvalidPart`, whose part is a tile,
+    /// then `RoomTooSmall`. `OutOfMemory` can come instead of any of them. The buffer is then
+    /// unchanged.
+);
+plane_calls!(
+    reconstruct_sequence,
+    PartRefusal,
+    of_parts,
+    /// Reconstructs the frames of a sequence, each predicted from earlier ones. It writes the
+    /// visible planes of all shown frames, one frame after the other, to the front of `room`, and
+    /// returns how many bytes they have. The rest of `room` is unchanged.
+    ///
+    /// # Errors
+    ///
+    /// `TooLong`, then `Malformed`, then `TooLongPart`, `MalformedPart`, `InvalidPart` or
+    /// `EmptySlot`, whose part is an entry, then `RoomTooSmall`. `OutOfMemory` can come instead of
+    /// any of them. The buffer is then unchanged.
+);
+
+/// The first visible sample of a leaf in one plane that differs from the sample that the plan
+/// defines.
+#[repr(C)]
+#[derive(Clone, Copy, Debug, Default, PartialEq, Eq)]
+pub struct Difference {
+    /// The leaf, counted from 0 in coding order.
+    pub leaf: u32,
+    /// The row of the sample in its plane.
+    pub row: u16,
+    /// The column of the sample in its plane.
+    pub column: u16,
+    /// The sample that was given: up to 16 bits at every depth.
+    pub given: u16,
+    /// The sample that the plan defines.
+    pub defined: u16,
+    /// 0 for Y, 1 for U and 2 for V.
+    pub plane: u8,
+}
+
+// Both have the same fields in the same order.
+const _: () = assert!(size_of::<Difference>() == size_of::<sys::Difference>());
+
+/// Compares the planes of a trace, as another encoder left them, with the planes that its plan
+/// defines, and returns how many differences there are. Each leaf has at most one difference in
+/// each of Y, U and V: the first visible sample of its rectangle, in raster order, that differs.
+/// The first differences, leaf by leaf in coding order, are written to `room`, as many as fit; the
+/// rest of `room` is unchanged.
+///
+/// # Errors
+///
+/// `TooLong`, then `Malformed` for what comes before the planes, then `MalformedPart` or
+/// `InvalidPart` (part 0 is the plan), then `Malformed` for the planes. `OutOfMemory` can come
+/// instead of any of them. The buffer is then unchanged.
+pub fn trace_differences(bytes: &[u8], room: &mut [Difference]) -> Result<usize, Error> {
+    let mut found = 0;
+    let mut refusal = sys::PartRefusal::default();
+    // SAFETY: pointers and lengths come from borrowed slices, `room` borrowed mutably, whose
+    // elements are laid out as the call's; the call writes only `room` and two locals.
+    let status = unsafe {
+        sys::trace_differences(
+            bytes.as_ptr(),
+            bytes.len(),
+            room.as_mut_ptr().cast(),
+            room.len(),
+            &mut found,
+            &mut refusal,
+        )
+    };
+    of_parts(status, &refusal)?;
+    Ok(found)
+}
