@@ -1,5 +1,5 @@
 // Input that is cut, and reads and writes that fail.
-use super::support::{PLAN, PLANES, same};
+use super::support::{PLAN, PLANES, WHOLE, same};
 use av1_recon::{MemSink, ReconError, SliceSource, reconstruct_plan};
 use std::alloc::Global;
 use std::process::Abort;
@@ -40,12 +40,19 @@ fn a_cut_plan_is_malformed_at_the_field_that_is_cut(rt: HostRuntime) {
 #[test]
 fn any_read_may_fail_and_nothing_is_written(rt: HostRuntime) {
     let refused = (Err(ReconError::ReadFault), 0);
-    for n in 0..84 {
+    for n in 0..84u64 {
         let answer = bytewise(&rt, rt.alloc(), &PLAN, &[n], &[]);
         same(&rt, (n, answer), (n, refused), "read");
     }
     let answer = bytewise(&rt, rt.alloc(), &PLAN, &[84], &[]);
     same(&rt, answer, (Ok(()), PLANES), "84 reads are all");
+}
+
+#[test]
+fn the_first_read_may_fail(rt: HostRuntime) {
+    let answer = bytewise(&rt, rt.alloc(), &WHOLE, &[0], &[]);
+    let refused = (Err(ReconError::ReadFault), 0);
+    same(&rt, answer, refused, "of the plan of one leaf");
 }
 
 #[test]

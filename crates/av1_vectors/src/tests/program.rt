@@ -1,6 +1,6 @@
 // What the program does with its words.
 use super::support::{WHOLE, same};
-use av1_recon::{MemSink, ReconError, SliceSource, reconstruct_plan, run};
+use av1_recon::{MemSink, SliceSource, run};
 use std::alloc::Global;
 use std::process::Abort;
 
@@ -14,8 +14,8 @@ fn words_of(rt: &impl Abort, alloc: Global, line: &str) -> Vec<String> {
     words
 }
 
-/// Stops the test if the program, run on the words of a line and no input, does not end with status 0. Its output, of at
-/// most `room` bytes, is kept.
+/// The output of the program, of at most `room` bytes, on the words of a line and no input. Stops the test if the
+/// status is not 0.
 fn output_of<'a>(rt: &impl Abort, alloc: Global, line: &str, room: usize) -> MemSink<'a> {
     let words = words_of(rt, alloc, line);
     let mut source = SliceSource::new(&[], 1, &[]);
@@ -60,8 +60,8 @@ fn a_made_plan_begins_with_its_samples(rt: HostRuntime) {
     same(&rt, out.bytes().get(786_452), Some(&0), "the first mark");
 }
 
-/// Stops the test if the program, run on no words, ends with another status, or writes planes, or other bytes of an error
-/// into this room.
+/// Runs the program on no words, and keeps `room` bytes of its line of an error. Stops the test if the status or the
+/// bytes that are kept are others, or if planes are written.
 fn ends_with(
     rt: &impl Abort,
     alloc: Global,
@@ -82,15 +82,6 @@ fn ends_with(
 fn a_read_that_fails_is_a_read_fault(rt: HostRuntime) {
     let mut source = SliceSource::new(&WHOLE, 65536, &[0]);
     ends_with(&rt, rt.alloc(), &mut source, 100, 4, "read fault\n");
-}
-
-#[test]
-fn a_read_that_fails_leaves_no_planes(rt: HostRuntime) {
-    let mut source = SliceSource::new(&WHOLE, 65536, &[0]);
-    let mut sink = MemSink::new(rt.alloc(), 100, 100, &[]).expect(&rt, "memory");
-    let answer = reconstruct_plan(rt.alloc(), &mut source, &mut sink);
-    same(&rt, answer, Err(ReconError::ReadFault), "the answer");
-    same(&rt, sink.bytes().len(), 0, "bytes of planes");
 }
 
 #[test]
