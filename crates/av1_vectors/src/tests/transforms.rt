@@ -23,45 +23,32 @@ fn lines_are_transformed(rt: HostRuntime) {
     same(&rt, output, [1; 4], "the Walsh-Hadamard transform");
 }
 
-/// A block of 4 by 4 samples of 128 after the cosine transform of these coefficients is added.
-fn added(alloc: Global, input: &[i16; 16]) -> Option<[[u8; 4]; 4]> {
+/// A block of 4 by 4 samples of 128 after the cosine transform of these first two coefficients is added.
+fn added(alloc: Global, first: i16, second: i16) -> Option<[[u8; 4]; 4]> {
     let Ok(mut plane) = Plane::from_slice(alloc, &[128; 16], 4) else {
         return None;
     };
     let mut block = plane.as_region_mut();
+    let mut input = [0; 16];
+    input[0] = first;
+    input[1] = second;
     let (tx_size, tx_type) = (TxSize::TX_4X4, TxType::DCT_DCT);
-    let Ok(()) = inverse_transform_add(alloc, input, &mut block, tx_size, tx_type, 8) else {
+    let Ok(()) = inverse_transform_add(alloc, &input, &mut block, tx_size, tx_type, 8) else {
         return None;
     };
     Some(four_rows(&block))
 }
 
-/// The coefficient 100 at the first place.
-const FIRST: [i16; 16] = [100, 0, 0, 0, 0, 0, 0, 0, 0, 0, 0, 0, 0, 0, 0, 0];
-
-/// The coefficient 100 at the second place.
-const SECOND: [i16; 16] = [0, 100, 0, 0, 0, 0, 0, 0, 0, 0, 0, 0, 0, 0, 0, 0];
-
 #[test]
 fn the_first_coefficient_raises_all_samples_alike(rt: HostRuntime) {
-    let wanted = [[131; 4]; 4];
-    same(
-        &rt,
-        added(rt.alloc(), &FIRST),
-        Some(wanted),
-        "the first place",
-    );
+    let wanted = Some([[131; 4]; 4]);
+    same(&rt, added(rt.alloc(), 100, 0), wanted, "the first place");
 }
 
 #[test]
 fn coefficients_stand_column_by_column(rt: HostRuntime) {
-    let wanted = [[132; 4], [130; 4], [126; 4], [124; 4]];
-    same(
-        &rt,
-        added(rt.alloc(), &SECOND),
-        Some(wanted),
-        "the second place",
-    );
+    let wanted = Some([[132; 4], [130; 4], [126; 4], [124; 4]]);
+    same(&rt, added(rt.alloc(), 0, 100), wanted, "the second place");
 }
 
 /// Two coefficients, all others being 0: a block of a first one alone takes a way of its own.
