@@ -33,9 +33,8 @@ EDITS = [
     ("src/itx_tmpl.c", 1, '#include "src/itx.h"\n', "-", INCLUDE),
     ("src/itx_tmpl.c", 1, "    itx_dsp_init_x86(c, bpc, &all_simd);\n", "-", "    bitfn(library_itx_init)(c);\n"),
     # checkasm compares the library, and nothing else, with dav1d's C
-    ("tests/checkasm/checkasm.c", 1, "DAV1D_X86_CPU_FLAG_SSE2 },\n", "-", "    { 0 },\n"),
     ("tests/checkasm/checkasm.c", 1, '    { "SSE2",               "sse2",      DAV1D_X86_CPU_FLAG_SSE2 },\n', "=",
-     '    { "library", "library", DAV1D_X86_CPU_FLAG_LIBRARY },\n'),
+     '    { "library", "library", DAV1D_X86_CPU_FLAG_LIBRARY },\n    { 0 },\n'),
 ]
 # checkasm draws only angles of AV1's modes, and edges that repeat their last visible sample, as AV1's do (README.md)
 DRAWS = [
