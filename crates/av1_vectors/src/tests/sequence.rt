@@ -6,6 +6,7 @@ use super::support::same;
 use av1_blocks::FilterMode;
 use av1_plan::InvalidKind;
 use av1_sequence::{FrameError, FrameHead, Sequence};
+use std::alloc::Global;
 use std::process::Abort;
 
 /// A frame that is predicted from the samples above it.
@@ -87,11 +88,17 @@ fn is_too_far(rt: &impl Abort, frames: &mut Sequence) {
     same(rt, frames.frame(&head(255), &TOO_FAR), refused, "too far");
 }
 
+/// A sequence of 8x8 frames in 4:4:4 at depth 8, after its first frame.
+fn started(rt: &impl Abort, alloc: Global) -> Sequence {
+    let mut frames = Sequence::new(alloc, 8, 8, 8, 2).expect(rt, "memory");
+    let answer = frames.frame(&head(1), &FROM_ABOVE);
+    same(rt, answer, Ok(()), "the first");
+    frames
+}
+
 #[test]
 fn a_refused_frame_changes_no_row_of_any_slot(rt: HostRuntime) {
-    let mut frames = Sequence::new(rt.alloc(), 8, 8, 8, 2).expect(&rt, "memory");
-    let answer = frames.frame(&head(1), &FROM_ABOVE);
-    same(&rt, answer, Ok(()), "the first");
+    let mut frames = started(&rt, rt.alloc());
     slots_are_as_at_first(&rt, &frames);
     is_too_far(&rt, &mut frames);
     slots_are_as_at_first(&rt, &frames);
@@ -99,9 +106,7 @@ fn a_refused_frame_changes_no_row_of_any_slot(rt: HostRuntime) {
 
 #[test]
 fn a_frame_copies_the_last_that_was_accepted(rt: HostRuntime) {
-    let mut frames = Sequence::new(rt.alloc(), 8, 8, 8, 2).expect(&rt, "memory");
-    let answer = frames.frame(&head(1), &FROM_ABOVE);
-    same(&rt, answer, Ok(()), "the first");
+    let mut frames = started(&rt, rt.alloc());
     is_too_far(&rt, &mut frames);
     last_is_the_frame(&rt, &frames);
     let answer = frames.frame(&head(0), &COPIED);

@@ -1,9 +1,11 @@
 // States that frames are reconstructed in.
 ghost use Rattle.std.specs.Prelude.{◌≡◌, None, IfSome};
 ghost use Rattle.av1_plan.specs.Values.{plan_value};
+ghost use Rattle.av1_tile.specs.State.{IsSound};
 ghost use Rattle.av1_plan.specs.Validity.{first_fault};
 
 use super::support::{PLAN, same};
+use av1_frame::Pixel;
 use av1_plan::Plan;
 use av1_recon::{
     MemSink, SliceSource, TileState, plane_sum, read_plan, reconstruct_tile, write_made,
@@ -37,6 +39,17 @@ fn each_block_that_is_predicted_takes_one_edge(rt: HostRuntime) -> Result<(), Fa
     Ok(())
 }
 
+/// The sums of the samples of the three planes.
+fn sums<T: Pixel>(state: &TileState<T>) -> [u64; 3]
+    requires sound { IsSound T.num state.now }
+{
+    [
+        plane_sum(state, 0),
+        plane_sum(state, 1),
+        plane_sum(state, 2),
+    ]
+}
+
 /// The sums of the planes of a plan, reconstructed where every stored sample was `value`.
 fn sums_over(alloc: Global, plan: &Plan, value: u16) -> Option<[u64; 3]>
     requires valid { first_fault (plan_value plan.now) ≡ None }
@@ -49,11 +62,7 @@ fn sums_over(alloc: Global, plan: &Plan, value: u16) -> Option<[u64; 3]>
     };
     state.fill_with(value);
     reconstruct_tile(&mut state, plan);
-    Some([
-        plane_sum(&state, 0),
-        plane_sum(&state, 1),
-        plane_sum(&state, 2),
-    ])
+    Some(sums(&state))
 }
 
 /// The plan of the number 5.
