@@ -79,7 +79,7 @@ def shared(plan, leaf, cells):
         return UNSHARED
     sharing = [cells[leaf.x // 4 - dx, leaf.y // 4 - dy] for dx in range(narrow + 1) for dy in range(low + 1)]
     if not all(it.references for it in sharing):
-        return "chroma shared whole, beside an intra leaf"
+        return "shared chroma predicted as a whole, because one leaf is intra"
     return f"chroma shared in parts: {leaf.w}x{leaf.h} of {'4:2:0' if plan.ydec else '4:2:2'}"
 
 

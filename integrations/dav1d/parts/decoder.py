@@ -21,8 +21,10 @@ OUT = os.path.join(os.path.dirname(HERE), "out")
 # version: suite, version of the package, SHA-256 of dav1d_VERSION.orig.tar.xz
 VERSIONS = {
     "1.5.4": ("sid", "1.5.4-1", "686616b7c69eb88d44459391ab25cac13b6647a3b288835c5784e71c1514a5c5"),
+    "1.5.1": ("trixie", "1.5.1-1", "401813f1f89fa8fd4295805aa5284d9aed9bc7fc1fdbe554af4292f64cbabe21"),
     "1.0.0": ("bookworm", "1.0.0-2+deb12u1", "51737db7e4897e599684f873a4725176dd3c779e639411d7c4fce134bb5ebb82"),
 }
+LOGGED = ("1.5.4", "1.0.0")  # those that `check` decodes with
 # What the decoder is built by, and the package of each.
 NEEDS = {"meson": "meson", "ninja": "ninja-build", "cc": "gcc"}
 
@@ -75,7 +77,7 @@ def decoder(folder, version=None):
     """The path of the decoder, which is fetched and built if it isn't there."""
     os.makedirs(folder, exist_ok=True)
     error = None
-    for one in [version] if version else VERSIONS:
+    for one in [version] if version else LOGGED:
         error = fetch(folder, one)
         if not error:
             return build(folder, one)
@@ -86,7 +88,7 @@ def decoder(folder, version=None):
 def main():
     parser = argparse.ArgumentParser(description=__doc__, formatter_class=argparse.RawDescriptionHelpFormatter)
     parser.add_argument("folder", nargs="?", default=OUT)
-    parser.add_argument("--version", choices=VERSIONS)
+    parser.add_argument("--version", choices=LOGGED)
     options = parser.parse_args()
     print(decoder(os.path.abspath(options.folder), options.version))
 

@@ -1,5 +1,5 @@
 // A plan that is built.
-use super::support::WHOLE;
+use super::support::{WHOLE, same};
 use av1_blocks::{FilterMode, PredictionMode, TxSize, TxType};
 use av1_plan::{ChromaMode, Header, LeafKind};
 use av1_planwrite::{BuildError, PlanBuilder};
@@ -35,18 +35,33 @@ fn a_plan_is_built_field_by_field(rt: HostRuntime) -> Result<(), Fail> {
     let Ok(mut builder) = PlanBuilder::new(rt.alloc(), &header(0, 0)) else {
         return Err(Fail::new("the header is admitted"));
     };
-    assert_eq!(rt; builder.mark(0), Ok(()));
-    assert_eq!(rt; builder.mark(3), Err(BuildError::NotNow));
+    same(&rt, builder.mark(0), Ok(()), "the mark");
+    same(
+        &rt,
+        builder.mark(3),
+        Err(BuildError::NotNow),
+        "a second mark",
+    );
     let Err(mut builder) = builder.finish() else {
         return Err(Fail::new("a leaf is asked for"));
     };
     let given = builder.leaf(&by_dc(), TxSize::TX_64X64, DCT, Some(DCT), &[], &[], &[]);
-    assert_eq!(rt; given, Ok(()));
+    same(&rt, given, Ok(()), "the leaf");
     let Ok(bytes) = builder.finish() else {
         return Err(Fail::new("all fields are given"));
     };
-    assert_eq!(rt; bytes.as_slice(), WHOLE.as_slice());
+    same(&rt, bytes.as_slice(), WHOLE.as_slice(), "the plan");
     Ok(())
+}
+
+/// A plane whose rows rise by 10 from 0, and end with this sample.
+fn rising(end: u16) -> [u16; 64] {
+    let mut plane = [0; 64];
+    for i in 0..64u16 {
+        plane[usize::from(i)] = 10 * (i % 8);
+    }
+    plane[63] = end;
+    plane
 }
 
 #[test]
@@ -55,14 +70,9 @@ fn planes_of_a_slot_are_taken_within_the_depth(rt: HostRuntime) -> Result<(), Fa
         return Err(Fail::new("the header is admitted"));
     };
     let chroma = [128; 64];
-    let mut luma = [0; 64];
-    for i in 0..64u16 {
-        luma[usize::from(i)] = 10 * (i % 8);
-    }
-    let mut deep = luma;
-    deep[63] = 256;
-    let refused = builder.reference(&deep, &chroma, &chroma);
-    assert_eq!(rt; refused, Err(BuildError::NotAdmitted));
-    assert_eq!(rt; builder.reference(&luma, &chroma, &chroma), Ok(()));
+    let given = builder.reference(&rising(256), &chroma, &chroma);
+    same(&rt, given, Err(BuildError::NotAdmitted), "past the depth");
+    let given = builder.reference(&rising(70), &chroma, &chroma);
+    same(&rt, given, Ok(()), "within it");
     Ok(())
 }

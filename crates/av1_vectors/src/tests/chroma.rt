@@ -1,5 +1,5 @@
 // Chroma that is predicted from luma.
-use super::support::four_rows;
+use super::support::{four_rows, same};
 use av1_blocks::{BlockSize, FilterMode, PredictionMode, TxSize};
 use av1_edges::IntraEdge;
 use av1_frame::{BlockOffset, FrameInvariants, Plane, TileBlockOffset, TileStateMut};
@@ -46,7 +46,7 @@ fn luma_differs_from_its_mean(rt: HostRuntime) -> Result<(), Fail> {
         TxSize::TX_4X4,
         &fi,
     );
-    assert_eq!(rt; &*found, DIFFERENCES.as_slice());
+    same(&rt, &*found, DIFFERENCES.as_slice(), "differences");
     Ok(())
 }
 
@@ -66,6 +66,7 @@ fn chroma_follows_luma_from_half_of_the_range(rt: HostRuntime) -> Result<(), Fai
         None,
         &edge,
     );
-    assert_eq!(rt; four_rows(&block), [[118; 4], [118; 4], [138; 4], [138; 4]]);
+    let wanted = [[118; 4], [118; 4], [138; 4], [138; 4]];
+    same(&rt, four_rows(&block), wanted, "chroma");
     Ok(())
 }

@@ -1,4 +1,5 @@
 // Samples that are filtered from a reference.
+use super::support::same;
 use av1_blocks::FilterMode;
 use av1_frame::{Plane, PlaneOffset};
 use av1_inter::put_8tap;
@@ -33,12 +34,12 @@ fn first_of(alloc: Global, value: u8) -> Result<u8, Fail> {
 
 #[test]
 fn the_sharp_filter_is_the_smooth_one_along_four_samples(rt: HostRuntime) -> Result<(), Fail> {
-    assert_eq!(rt; first_of(rt.alloc(), 100)?, 9);
-    Ok(())
-}
-
-#[test]
-fn a_sum_is_rounded_twice(rt: HostRuntime) -> Result<(), Fail> {
-    assert_eq!(rt; first_of(rt.alloc(), 5)?, 1);
+    same(&rt, first_of(rt.alloc(), 100)?, 9, "of 100");
+    same(
+        &rt,
+        first_of(rt.alloc(), 5)?,
+        1,
+        "of 5, whose sum is rounded twice",
+    );
     Ok(())
 }

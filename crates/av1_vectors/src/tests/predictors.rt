@@ -2,14 +2,13 @@
 ghost use Rattle.std.specs.Prelude.{◌≡◌, ◌≤◌};
 ghost use Rattle.av1_frame.specs.Regions.{InStorage};
 
-use super::support::four_rows;
+use super::support::{four_rows, same};
 use av1_frame::{Plane, PlaneRegionMut};
 use av1_rav1e::rust::{
     pred_dc, pred_dc_left, pred_dc_top, pred_directional, pred_paeth, pred_smooth, pred_smooth_h,
     pred_smooth_v,
 };
 use std::alloc::Global;
-use std::test::Fail;
 
 /// The samples above the block and right of those.
 const ABOVE: [u8; 8] = [33, 34, 35, 36, 37, 38, 39, 40];
@@ -62,95 +61,92 @@ fn predict(kind: Kind, block: &mut PlaneRegionMut<'_, u8>)
 }
 
 /// The rows of a block so predicted.
-fn predicted(alloc: Global, kind: Kind) -> Result<[[u8; 4]; 4], Fail> {
-    let mut plane = Plane::from_slice(alloc, &[0; 16], 4)?;
+fn predicted(alloc: Global, kind: Kind) -> Option<[[u8; 4]; 4]> {
+    let Ok(mut plane) = Plane::from_slice(alloc, &[0; 16], 4) else {
+        return None;
+    };
     let mut block = plane.as_region_mut();
     predict(kind, &mut block);
-    Ok(four_rows(&block))
+    Some(four_rows(&block))
+}
+
+/// The angle of 87 degrees copies the row above.
+const STEEP: [[u8; 4]; 4] = [[33, 34, 35, 36]; 4];
+
+/// The angle of 14 degrees runs into the last sample above.
+const FLAT: [[u8; 4]; 4] = [[37, 38, 39, 40], [40; 4], [40; 4], [40; 4]];
+
+#[test]
+fn angles_copy_samples_above(rt: HostRuntime) {
+    let block = predicted(rt.alloc(), Kind::Steep);
+    same(&rt, block, Some(STEEP), "87 degrees");
+    let block = predicted(rt.alloc(), Kind::Flat);
+    same(&rt, block, Some(FLAT), "14 degrees");
+}
+
+/// Each sample is the nearest of three.
+const NEAREST: [[u8; 4]; 4] = [
+    [32, 34, 35, 36],
+    [30, 32, 32, 36],
+    [29, 32, 32, 32],
+    [28, 28, 32, 32],
+];
+
+/// Both sides are weighed.
+const WEIGHED: [[u8; 4]; 4] = [
+    [32, 34, 35, 35],
+    [30, 32, 33, 34],
+    [29, 31, 32, 32],
+    [29, 30, 32, 32],
+];
+
+/// Rows run to the last sample above.
+const ACROSS: [[u8; 4]; 4] = [
+    [31, 33, 34, 35],
+    [30, 33, 34, 35],
+    [29, 32, 34, 34],
+    [28, 31, 33, 34],
+];
+
+/// Columns run to the lowest sample on the left.
+const DOWN: [[u8; 4]; 4] = [
+    [33, 34, 35, 36],
+    [31, 31, 32, 33],
+    [30, 30, 30, 31],
+    [29, 30, 30, 30],
+];
+
+#[test]
+fn paeth_takes_the_nearest_and_smooth_weighs(rt: HostRuntime) {
+    let block = predicted(rt.alloc(), Kind::Paeth);
+    same(&rt, block, Some(NEAREST), "Paeth");
+    let block = predicted(rt.alloc(), Kind::Smooth);
+    same(&rt, block, Some(WEIGHED), "both sides");
+    let block = predicted(rt.alloc(), Kind::SmoothAcross);
+    same(&rt, block, Some(ACROSS), "across");
+    let block = predicted(rt.alloc(), Kind::SmoothDown);
+    same(&rt, block, Some(DOWN), "down");
 }
 
 #[test]
-fn an_angle_near_ninety_degrees_copies_the_row_above(rt: HostRuntime) -> Result<(), Fail> {
-    let rows = predicted(rt.alloc(), Kind::Steep)?;
-    assert_eq!(rt; rows, [[33, 34, 35, 36]; 4]);
-    Ok(())
+fn means_are_rounded(rt: HostRuntime) {
+    let block = predicted(rt.alloc(), Kind::Mean);
+    same(&rt, block, Some([[32; 4]; 4]), "of both sides");
+    let block = predicted(rt.alloc(), Kind::MeanAbove);
+    same(&rt, block, Some([[35; 4]; 4]), "of the row above");
+    let block = predicted(rt.alloc(), Kind::MeanLeft);
+    same(&rt, block, Some([[30; 4]; 4]), "of the column on the left");
 }
 
 #[test]
-fn a_flat_angle_runs_into_the_last_sample_above(rt: HostRuntime) -> Result<(), Fail> {
-    let rows = predicted(rt.alloc(), Kind::Flat)?;
-    assert_eq!(rt; rows, [[37, 38, 39, 40], [40; 4], [40; 4], [40; 4]]);
-    Ok(())
-}
-
-#[test]
-fn paeth_takes_the_nearest(rt: HostRuntime) -> Result<(), Fail> {
-    let wanted = [
-        [32, 34, 35, 36],
-        [30, 32, 32, 36],
-        [29, 32, 32, 32],
-        [28, 28, 32, 32],
-    ];
-    assert_eq!(rt; predicted(rt.alloc(), Kind::Paeth)?, wanted);
-    Ok(())
-}
-
-#[test]
-fn smooth_weighs_both_sides(rt: HostRuntime) -> Result<(), Fail> {
-    let wanted = [
-        [32, 34, 35, 35],
-        [30, 32, 33, 34],
-        [29, 31, 32, 32],
-        [29, 30, 32, 32],
-    ];
-    assert_eq!(rt; predicted(rt.alloc(), Kind::Smooth)?, wanted);
-    Ok(())
-}
-
-#[test]
-fn horizontal_smooth_runs_to_the_last_sample_above(rt: HostRuntime) -> Result<(), Fail> {
-    let wanted = [
-        [31, 33, 34, 35],
-        [30, 33, 34, 35],
-        [29, 32, 34, 34],
-        [28, 31, 33, 34],
-    ];
-    assert_eq!(rt; predicted(rt.alloc(), Kind::SmoothAcross)?, wanted);
-    Ok(())
-}
-
-#[test]
-fn vertical_smooth_runs_to_the_lowest_left_sample(rt: HostRuntime) -> Result<(), Fail> {
-    let wanted = [
-        [33, 34, 35, 36],
-        [31, 31, 32, 33],
-        [30, 30, 30, 31],
-        [29, 30, 30, 30],
-    ];
-    assert_eq!(rt; predicted(rt.alloc(), Kind::SmoothDown)?, wanted);
-    Ok(())
-}
-
-#[test]
-fn means_are_rounded(rt: HostRuntime) -> Result<(), Fail> {
-    for (kind, mean) in [
-        (Kind::Mean, 32),
-        (Kind::MeanAbove, 35),
-        (Kind::MeanLeft, 30),
-    ] {
-        assert_eq!(rt; predicted(rt.alloc(), kind)?, [[mean; 4]; 4], "of {mean}");
-    }
-    Ok(())
-}
-
-#[test]
-fn smooth_keeps_the_greatest_sample_of_12_bits(rt: HostRuntime) -> Result<(), Fail> {
+fn smooth_keeps_the_greatest_sample_of_12_bits(rt: HostRuntime) {
     let greatest: [u16; 4] = [4095; 4];
-    let mut plane = Plane::from_slice(rt.alloc(), &[0; 16], 4)?;
+    let Ok(mut plane) = Plane::from_slice(rt.alloc(), &[0; 16], 4) else {
+        panic!(rt; "memory");
+    };
     let mut block = plane.as_region_mut();
     pred_smooth(&mut block, &greatest, &greatest, 4, 4);
     for y in 0..4 {
-        assert_eq!(rt; block.row(y), greatest.as_slice(), "row {y}");
+        same(&rt, (y, block.row(y)), (y, greatest.as_slice()), "row");
     }
-    Ok(())
 }

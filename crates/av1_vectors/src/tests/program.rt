@@ -1,43 +1,50 @@
 // What the program does with its words.
-use super::support::WHOLE;
-use av1_recon::{MemSink, ReconError, SliceSource, reconstruct_plan, run};
+use super::support::{WHOLE, same};
+use av1_recon::{MemSink, SliceSource, run};
 use std::alloc::Global;
-use std::test::Fail;
+use std::process::Abort;
 
-/// These words.
-fn words_of(alloc: Global, words: &[&str]) -> Result<Vec<String>, Fail> {
-    let mut list = Vec::new(alloc);
-    for word in words {
-        list.push(format!(in alloc; "{word}")?)?;
+/// The words of a line.
+fn words_of(rt: &impl Abort, alloc: Global, line: &str) -> Vec<String> {
+    let mut words = Vec::new(alloc);
+    for word in line.split_whitespace() {
+        let word = String::from_str(alloc, word).expect(rt, "memory");
+        words.push(word).expect(rt, "memory");
     }
-    Ok(list)
+    words
 }
 
-/// Runs the program on two words and no input. Its output, of at most `room` bytes, is kept.
-fn output_of<'a>(alloc: Global, words: &[&str], room: usize) -> Result<MemSink<'a>, Fail> {
-    let words = words_of(alloc, words)?;
+/// The output of the program, of at most `room` bytes, on the words of a line and no input. Stops the test if the
+/// status is not 0.
+fn output_of<'a>(rt: &impl Abort, alloc: Global, line: &str, room: usize) -> MemSink<'a> {
+    let words = words_of(rt, alloc, line);
     let mut source = SliceSource::new(&[], 1, &[]);
-    let mut out = MemSink::new(alloc, room, 65536, &[])?;
-    let mut err = MemSink::new(alloc, 100, 100, &[])?;
-    match run(alloc, &words, &mut source, &mut out, &mut err) {
-        0 => Ok(out),
-        _ => Err(Fail::new("the command is carried out")),
-    }
+    let mut out = MemSink::new(alloc, room, 65536, &[]).expect(rt, "memory");
+    let mut err = MemSink::new(alloc, 100, 100, &[]).expect(rt, "memory");
+    let status = run(alloc, &words, &mut source, &mut out, &mut err);
+    same(rt, status, 0, line);
+    out
 }
+
+/// Stops the test if the program prints other lines.
+fn writes(rt: &impl Abort, alloc: Global, line: &str, wanted: &str) {
+    let out = output_of(rt, alloc, line, 100);
+    same(rt, out.bytes(), wanted.as_bytes(), line);
+}
+
+/// The sums that rav1e has of the plans of four numbers.
+const SUMS: [(&str, &str); 4] = [
+    ("sum 1", "leaves 304\nY 137004277\nU 33980014\nV 33804601\n"),
+    ("sum 2", "leaves 254\nY 131820650\nU 33717348\nV 33925496\n"),
+    ("sum 3", "leaves 326\nY 135339078\nU 34688813\nV 35063627\n"),
+    ("sum 4", "leaves 323\nY 127568554\nU 33566697\nV 34317898\n"),
+];
 
 #[test]
-fn the_sums_of_made_plans_are_those_of_rav1e(rt: HostRuntime) -> Result<(), Fail> {
-    let table = [
-        ("1", "leaves 304\nY 137004277\nU 33980014\nV 33804601\n"),
-        ("2", "leaves 254\nY 131820650\nU 33717348\nV 33925496\n"),
-        ("3", "leaves 326\nY 135339078\nU 34688813\nV 35063627\n"),
-        ("4", "leaves 323\nY 127568554\nU 33566697\nV 34317898\n"),
-    ];
-    for (number, lines) in table {
-        let out = output_of(rt.alloc(), &["sum", number], 100)?;
-        assert_eq!(rt; out.bytes(), lines.as_bytes(), "of {number}");
+fn the_sums_of_made_plans_are_those_of_rav1e(rt: HostRuntime) {
+    for (line, wanted) in SUMS {
+        writes(&rt, rt.alloc(), line, wanted);
     }
-    Ok(())
 }
 
 /// What stands before the samples of the plan of the number 5, and the first three of them.
@@ -46,33 +53,39 @@ const FIVE: [u8; 26] = [
 ];
 
 #[test]
-fn a_made_plan_begins_with_its_samples(rt: HostRuntime) -> Result<(), Fail> {
-    let out = output_of(rt.alloc(), &["make", "5"], 900_000)?;
-    assert!(rt; out.bytes().starts_with(&FIVE));
-    assert_eq!(rt; out.bytes().get(786_452), Some(&0), "the first mark");
-    Ok(())
+fn a_made_plan_begins_with_its_samples(rt: HostRuntime) {
+    let out = output_of(&rt, rt.alloc(), "make 5", 900_000);
+    let front = out.bytes().get(..26);
+    same(&rt, front, Some(FIVE.as_slice()), "the first samples");
+    same(&rt, out.bytes().get(786_452), Some(&0), "the first mark");
+}
+
+/// Runs the program on no words, and keeps `room` bytes of its line of an error. Stops the test if the status or the
+/// bytes that are kept are others, or if planes are written.
+fn ends_with(
+    rt: &impl Abort,
+    alloc: Global,
+    source: &mut SliceSource<'_>,
+    room: usize,
+    status: u8,
+    wanted: &str,
+) {
+    let mut out = MemSink::new(alloc, 100, 100, &[]).expect(rt, "memory");
+    let mut err = MemSink::new(alloc, room, 100, &[]).expect(rt, "memory");
+    let given = run(alloc, &[], source, &mut out, &mut err);
+    same(rt, given, status, wanted);
+    same(rt, err.bytes(), wanted.as_bytes(), wanted);
+    same(rt, out.bytes().len(), 0, "bytes of planes");
 }
 
 #[test]
-fn a_read_that_fails_is_a_read_fault(rt: HostRuntime) -> Result<(), Fail> {
-    let mut out = MemSink::new(rt.alloc(), 100, 100, &[])?;
+fn a_read_that_fails_is_a_read_fault(rt: HostRuntime) {
     let mut source = SliceSource::new(&WHOLE, 65536, &[0]);
-    let answer = reconstruct_plan(rt.alloc(), &mut source, &mut out);
-    assert_eq!(rt; answer, Err(ReconError::ReadFault));
-    let mut source = SliceSource::new(&WHOLE, 65536, &[0]);
-    let mut err = MemSink::new(rt.alloc(), 100, 100, &[])?;
-    assert_eq!(rt; run(rt.alloc(), &[], &mut source, &mut out, &mut err), 4);
-    assert_eq!(rt; err.bytes(), b"read fault\n".as_slice());
-    assert!(rt; out.bytes().is_empty());
-    Ok(())
+    ends_with(&rt, rt.alloc(), &mut source, 100, 4, "read fault\n");
 }
 
 #[test]
-fn where_lines_find_no_room_the_status_stays(rt: HostRuntime) -> Result<(), Fail> {
+fn where_lines_find_no_room_the_status_stays(rt: HostRuntime) {
     let mut source = SliceSource::new(&[], 1, &[]);
-    let mut out = MemSink::new(rt.alloc(), 100, 100, &[])?;
-    let mut err = MemSink::new(rt.alloc(), 5, 100, &[])?;
-    assert_eq!(rt; run(rt.alloc(), &[], &mut source, &mut out, &mut err), 2);
-    assert_eq!(rt; err.bytes(), b"malfo".as_slice());
-    Ok(())
+    ends_with(&rt, rt.alloc(), &mut source, 5, 2, "malfo");
 }

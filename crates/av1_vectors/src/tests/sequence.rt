@@ -2,11 +2,12 @@
 ghost use Rattle.std.specs.Prelude.{◌<◌};
 ghost use Rattle.av1_sequence.specs.Frames.{IsHead};
 
+use super::support::same;
 use av1_blocks::FilterMode;
 use av1_plan::InvalidKind;
 use av1_sequence::{FrameError, FrameHead, Sequence};
 use std::alloc::Global;
-use std::test::Fail;
+use std::process::Abort;
 
 /// A frame that is predicted from the samples above it.
 const FROM_ABOVE: [u8; 14] = [0, 1, 0, 0, 0, 4, 0, 0, 0, 0, 0, 0, 0, 0];
@@ -17,8 +18,11 @@ const COPIED: [u8; 16] = [0, 19, 1, 0, 0, 0, 0, 4, 0, 0, 0, 0, 0, 0, 0, 0];
 /// A frame that would copy it from too far away.
 const TOO_FAR: [u8; 16] = [0, 19, 1, 0, 64, 0, 0, 4, 0, 0, 0, 0, 0, 0, 0, 0];
 
-/// How many samples a frame has.
-const SAMPLES: usize = 192;
+/// A row of Y of each frame here.
+const LUMA: [u16; 8] = [127; 8];
+
+/// A row of U, and of V.
+const CHROMA: [u16; 8] = [128; 8];
 
 /// The head of a frame that reads slot 0 and replaces the slots of `refresh`.
 fn head(refresh: u8) -> FrameHead
@@ -32,90 +36,80 @@ fn head(refresh: u8) -> FrameHead
     }
 }
 
-/// What each frame here comes to: Y 127, U and V 128.
-fn frame() -> [u16; SAMPLES] {
-    let mut samples = [128; SAMPLES];
-    samples[..64].fill(127);
-    samples
-}
-
-/// Adds a row of samples, and where there is none one number past the depth.
-fn push_row(list: &mut Vec<u16>, row: Option<&[u16]>) -> Result<(), Fail> {
-    match row {
-        Some(row) => list.extend_from_slice(row)?,
-        None => list.push(256)?,
-    }
-    Ok(())
-}
-
-/// Adds the rows of plane `p` of the last frame.
-fn push_last(list: &mut Vec<u16>, frames: &Sequence, p: usize) -> Result<(), Fail>
-    requires { p < 3 }
-{
-    for y in 0..frames.header().shown_rows(p) {
-        push_row(list, frames.last_row(p, y))?;
-    }
-    Ok(())
-}
-
-/// The rows of the last frame.
-fn last_of(alloc: Global, frames: &Sequence) -> Result<Vec<u16>, Fail> {
-    let mut list = Vec::new(alloc);
-    push_last(&mut list, frames, 0)?;
-    push_last(&mut list, frames, 1)?;
-    push_last(&mut list, frames, 2)?;
-    Ok(list)
-}
-
-/// Adds the rows of plane `p` of a slot.
-fn push_plane(list: &mut Vec<u16>, frames: &Sequence, slot: usize, p: usize) -> Result<(), Fail>
+/// Stops the test if a row of plane `p` of a slot is another.
+fn slot_has(rt: &impl Abort, frames: &Sequence, slot: usize, p: usize, row: Option<&[u16]>)
     requires slot { slot < 8 }
     requires plane { p < 3 }
 {
     for y in 0..frames.header().shown_rows(p) {
-        push_row(list, frames.slot_row(slot, p, y))?;
+        let given = frames.slot_row(slot, p, y);
+        same(
+            rt,
+            ((slot, p, y), given),
+            ((slot, p, y), row),
+            "slot, plane, row",
+        );
     }
-    Ok(())
 }
 
-/// The rows of all slots.
-fn kept_of(alloc: Global, frames: &Sequence) -> Result<Vec<u16>, Fail> {
-    let mut list = Vec::new(alloc);
-    for slot in 0..8 {
-        push_plane(&mut list, frames, slot, 0)?;
-        push_plane(&mut list, frames, slot, 1)?;
-        push_plane(&mut list, frames, slot, 2)?;
+/// Stops the test if slot 0 has another frame, or any other slot has one.
+fn slots_are_as_at_first(rt: &impl Abort, frames: &Sequence) {
+    slot_has(rt, frames, 0, 0, Some(LUMA.as_slice()));
+    slot_has(rt, frames, 0, 1, Some(CHROMA.as_slice()));
+    slot_has(rt, frames, 0, 2, Some(CHROMA.as_slice()));
+    for slot in 1..8 {
+        for p in 0..3 {
+            slot_has(rt, frames, slot, p, None);
+        }
     }
-    Ok(list)
+}
+
+/// Stops the test if a row of plane `p` of the last frame is another.
+fn last_has(rt: &impl Abort, frames: &Sequence, p: usize, row: &[u16])
+    requires plane { p < 3 }
+{
+    for y in 0..frames.header().shown_rows(p) {
+        let given = frames.last_row(p, y);
+        same(rt, ((p, y), given), ((p, y), Some(row)), "plane, row");
+    }
+}
+
+/// Stops the test if the last frame is another.
+fn last_is_the_frame(rt: &impl Abort, frames: &Sequence) {
+    last_has(rt, frames, 0, &LUMA);
+    last_has(rt, frames, 1, &CHROMA);
+    last_has(rt, frames, 2, &CHROMA);
+}
+
+/// Stops the test if a frame that copies LAST from too far away is not refused.
+fn is_too_far(rt: &impl Abort, frames: &mut Sequence) {
+    let (leaf, kind) = (0, InvalidKind::Vector);
+    let refused = Err(FrameError::Invalid { leaf, kind });
+    same(rt, frames.frame(&head(255), &TOO_FAR), refused, "too far");
+}
+
+/// A sequence of 8x8 frames in 4:4:4 at depth 8, after its first frame.
+fn started(rt: &impl Abort, alloc: Global) -> Sequence {
+    let mut frames = Sequence::new(alloc, 8, 8, 8, 2).expect(rt, "memory");
+    let answer = frames.frame(&head(1), &FROM_ABOVE);
+    same(rt, answer, Ok(()), "the first");
+    frames
 }
 
 #[test]
-fn a_refused_frame_changes_no_row_of_any_slot(rt: HostRuntime) -> Result<(), Fail> {
-    let mut wanted = [256; 360];
-    wanted[..SAMPLES].copy_from_slice(&frame());
-    let mut frames = Sequence::new(rt.alloc(), 8, 8, 8, 2)?;
-    assert_eq!(rt; frames.frame(&head(1), &FROM_ABOVE), Ok(()));
-    let kept = kept_of(rt.alloc(), &frames)?;
-    assert_eq!(rt; kept.as_slice(), wanted.as_slice(), "slot 0 has the frame");
-    let too_far = FrameError::Invalid {
-        leaf: 0,
-        kind: InvalidKind::Vector,
-    };
-    assert_eq!(rt; frames.frame(&head(255), &TOO_FAR), Err(too_far));
-    let kept = kept_of(rt.alloc(), &frames)?;
-    assert_eq!(rt; kept.as_slice(), wanted.as_slice(), "nothing changed");
-    Ok(())
+fn a_refused_frame_changes_no_row_of_any_slot(rt: HostRuntime) {
+    let mut frames = started(&rt, rt.alloc());
+    slots_are_as_at_first(&rt, &frames);
+    is_too_far(&rt, &mut frames);
+    slots_are_as_at_first(&rt, &frames);
 }
 
 #[test]
-fn a_frame_copies_the_last_that_was_accepted(rt: HostRuntime) -> Result<(), Fail> {
-    let mut frames = Sequence::new(rt.alloc(), 8, 8, 8, 2)?;
-    assert_eq!(rt; frames.frame(&head(1), &FROM_ABOVE), Ok(()));
-    assert!(rt; frames.frame(&head(255), &TOO_FAR).is_err());
-    let last = last_of(rt.alloc(), &frames)?;
-    assert_eq!(rt; last.as_slice(), frame().as_slice(), "the first");
-    assert_eq!(rt; frames.frame(&head(0), &COPIED), Ok(()));
-    let last = last_of(rt.alloc(), &frames)?;
-    assert_eq!(rt; last.as_slice(), frame().as_slice(), "the second");
-    Ok(())
+fn a_frame_copies_the_last_that_was_accepted(rt: HostRuntime) {
+    let mut frames = started(&rt, rt.alloc());
+    is_too_far(&rt, &mut frames);
+    last_is_the_frame(&rt, &frames);
+    let answer = frames.frame(&head(0), &COPIED);
+    same(&rt, answer, Ok(()), "the second");
+    last_is_the_frame(&rt, &frames);
 }

@@ -1,10 +1,33 @@
 // States that frames are reconstructed in.
-use super::support::PLAN;
+ghost use Rattle.std.specs.Prelude.{◌≡◌, None, IfSome};
+ghost use Rattle.av1_plan.specs.Values.{plan_value};
+ghost use Rattle.av1_tile.specs.State.{IsSound};
+ghost use Rattle.av1_plan.specs.Validity.{first_fault};
+
+use super::support::{PLAN, same};
+use av1_frame::Pixel;
+use av1_plan::Plan;
 use av1_recon::{
     MemSink, SliceSource, TileState, plane_sum, read_plan, reconstruct_tile, write_made,
 };
 use std::alloc::Global;
 use std::test::Fail;
+
+/// How many edges a plan takes that is reconstructed once, and then twice.
+fn edges_of(alloc: Global, plan: &Plan) -> Option<[u64; 2]>
+    requires valid { first_fault (plan_value plan.now) ≡ None }
+{
+    if plan.header().depth > 8 {
+        return None;
+    }
+    let Ok(mut state) = TileState::<u8>::new(alloc, plan) else {
+        return None;
+    };
+    reconstruct_tile(&mut state, plan);
+    let once = state.edges();
+    reconstruct_tile(&mut state, plan);
+    Some([once, state.edges()])
+}
 
 #[test]
 fn each_block_that_is_predicted_takes_one_edge(rt: HostRuntime) -> Result<(), Fail> {
@@ -12,42 +35,67 @@ fn each_block_that_is_predicted_takes_one_edge(rt: HostRuntime) -> Result<(), Fa
     let Ok(plan) = read_plan(rt.alloc(), &mut source) else {
         return Err(Fail::new("the worked plan is read"));
     };
-    assert!(rt; plan.header().depth <= 8);
-    let mut state = TileState::<u8>::new(rt.alloc(), &plan)?;
-    reconstruct_tile(&mut state, &plan);
-    assert_eq!(rt; state.edges(), 12);
-    reconstruct_tile(&mut state, &plan);
-    assert_eq!(rt; state.edges(), 24);
+    same(&rt, edges_of(rt.alloc(), &plan), Some([12, 24]), "edges");
     Ok(())
 }
 
-/// The sums of the planes of the plan of these bytes, reconstructed where every stored sample was `value`.
-fn sums_over(alloc: Global, bytes: &[u8], value: u16) -> Result<[u64; 3], Fail> {
-    let mut source = SliceSource::new(bytes, 65536, &[]);
-    let Ok(plan) = read_plan(alloc, &mut source) else {
-        return Err(Fail::new("a plan that was made is read"));
-    };
-    if plan.header().depth != 10 || value >= 1024 {
-        return Err(Fail::new("samples have ten bits"));
-    }
-    let mut state = TileState::<u16>::new(alloc, &plan)?;
-    state.fill_with(value);
-    reconstruct_tile(&mut state, &plan);
-    Ok([
-        plane_sum(&state, 0),
-        plane_sum(&state, 1),
-        plane_sum(&state, 2),
-    ])
+/// The sums of the samples of the three planes.
+fn sums<T: Pixel>(state: &TileState<T>) -> [u64; 3]
+    requires sound { IsSound T.num state.now }
+{
+    [
+        plane_sum(state, 0),
+        plane_sum(state, 1),
+        plane_sum(state, 2),
+    ]
 }
+
+/// The sums of the planes of a plan, reconstructed where every stored sample was `value`.
+fn sums_over(alloc: Global, plan: &Plan, value: u16) -> Option<[u64; 3]>
+    requires valid { first_fault (plan_value plan.now) ≡ None }
+{
+    if plan.header().depth != 10 || value >= 1024 {
+        return None;
+    }
+    let Ok(mut state) = TileState::<u16>::new(alloc, plan) else {
+        return None;
+    };
+    state.fill_with(value);
+    reconstruct_tile(&mut state, plan);
+    Some(sums(&state))
+}
+
+/// The plan of the number 5.
+fn five(alloc: Global) -> Option<Plan>
+    ensures { IfSome result (λ plan. first_fault (plan_value plan) ≡ None) }
+{
+    let Ok(mut made) = MemSink::new(alloc, 900_000, 65536, &[]) else {
+        return None;
+    };
+    let Ok(()) = write_made(alloc, 5, &mut made) else {
+        return None;
+    };
+    let mut source = SliceSource::new(made.bytes(), 65536, &[]);
+    match read_plan(alloc, &mut source) {
+        Ok(plan) => Some(plan),
+        Err(_) => None,
+    }
+}
+
+/// The sums that rav1e has of the plan of the number 5.
+const SUMS: [u64; 3] = [130_878_882, 31_162_854, 31_869_318];
 
 #[test]
 fn what_the_planes_held_before_does_not_show(rt: HostRuntime) -> Result<(), Fail> {
-    let mut made = MemSink::new(rt.alloc(), 900_000, 65536, &[])?;
-    let Ok(()) = write_made(rt.alloc(), 5, &mut made) else {
-        return Err(Fail::new("there is room for the plan of a number"));
+    let Some(plan) = five(rt.alloc()) else {
+        return Err(Fail::new("the plan of a number is made and read"));
     };
-    let sums = [130_878_882, 31_162_854, 31_869_318];
-    assert_eq!(rt; sums_over(rt.alloc(), made.bytes(), 0)?, sums, "rav1e's");
-    assert_eq!(rt; sums_over(rt.alloc(), made.bytes(), 1023)?, sums, "rav1e's");
+    same(&rt, sums_over(rt.alloc(), &plan, 0), Some(SUMS), "over 0");
+    same(
+        &rt,
+        sums_over(rt.alloc(), &plan, 1023),
+        Some(SUMS),
+        "over 1023",
+    );
     Ok(())
 }

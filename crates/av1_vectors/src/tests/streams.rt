@@ -1,5 +1,5 @@
 // The whole path over a reader and a writer.
-use super::support::{PLAN, PLANES, are_planes};
+use super::support::{PLAN, PLANES, are_planes, same};
 use av1_recon::{ReadSource, ReconError, WriteSink, reconstruct_plan};
 use std::test::Fail;
 
@@ -9,8 +9,8 @@ fn a_reader_gives_a_plan_and_a_writer_takes_its_planes(rt: HostRuntime) -> Resul
     let mut source = ReadSource::new(PLAN.as_slice());
     let mut sink = WriteSink::new(planes.as_mut_slice());
     let answer = reconstruct_plan(rt.alloc(), &mut source, &mut sink);
-    assert_eq!(rt; answer, Ok(()));
-    assert!(rt; are_planes(&planes));
+    same(&rt, answer, Ok(()), "the answer");
+    same(&rt, are_planes(&planes), true, "the planes");
     Ok(())
 }
 
@@ -20,7 +20,7 @@ fn a_writer_that_takes_no_more_is_a_write_fault(rt: HostRuntime) -> Result<(), F
     let mut source = ReadSource::new(PLAN.as_slice());
     let mut sink = WriteSink::new(front.as_mut_slice());
     let answer = reconstruct_plan(rt.alloc(), &mut source, &mut sink);
-    assert_eq!(rt; answer, Err(ReconError::WriteFault));
-    assert_eq!(rt; front, [131; 10]);
+    same(&rt, answer, Err(ReconError::WriteFault), "the answer");
+    same(&rt, front, [131; 10], "the bytes that stand");
     Ok(())
 }

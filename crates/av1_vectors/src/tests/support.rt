@@ -1,11 +1,12 @@
-// Worked plans, what a plan comes to or is refused for, and the samples of a block.
+// Worked plans, tables of plans as text, what they come to, and the samples of a block.
 ghost use Rattle.std.specs.Prelude.{◌≤◌};
 ghost use Rattle.av1_frame.specs.Regions.{InStorage};
 
 use av1_frame::PlaneRegionMut;
-use av1_recon::{MemSink, ReconError, SliceSource, reconstruct_plan};
+use av1_recon::{MemSink, SliceSource, reconstruct_plan};
 use std::alloc::Global;
-use std::test::Fail;
+use std::fmt::Debug;
+use std::process::Abort;
 
 /// An 8x8 frame in 4:4:4 at depth 8, split down to four leaves of 4x4. All are predicted by DC, and the first has the
 /// coefficient 100 at place 0 of its luma block.
@@ -35,25 +36,74 @@ pub fn are_planes(bytes: &[u8]) -> bool {
     bytes == planes.as_slice()
 }
 
-/// What a plan comes to.
-pub fn planes_of(alloc: Global, bytes: &[u8]) -> Result<Vec<u8>, Fail> {
-    let mut source = SliceSource::new(bytes, 65536, &[]);
-    let mut sink = MemSink::new(alloc, 2000, 65536, &[])?;
-    let Ok(()) = reconstruct_plan(alloc, &mut source, &mut sink) else {
-        return Err(Fail::new("the plan is reconstructed"));
-    };
-    let mut planes = Vec::new(alloc);
-    planes.extend_from_slice(sink.bytes())?;
-    Ok(planes)
+/// Stops the test if two values differ, and prints both, and what was tried.
+pub fn same<T: PartialEq + Debug + Copy>(rt: &impl Abort, given: T, wanted: T, what: &str) {
+    assert_eq!(rt; given, wanted, "{what}");
 }
 
-/// What a plan is refused for.
-pub fn refusal_of(alloc: Global, bytes: &[u8]) -> Result<ReconError, Fail> {
-    let mut source = SliceSource::new(bytes, 65536, &[]);
-    let mut sink = MemSink::new(alloc, 2000, 65536, &[])?;
+/// As `same`, of a text and of what `Debug` prints of a value.
+pub fn prints(rt: &impl Abort, alloc: Global, value: &impl Debug, wanted: &str, what: &str) {
+    let text = format!(in alloc; "{value:?}").expect(rt, "memory");
+    same(rt, text.as_str(), wanted, what);
+}
+
+/// Adds a byte for each number of a list such as `0,10,20`, and the letters of an item that is not a number.
+fn push_items(rt: &impl Abort, bytes: &mut Vec<u8>, items: &str) {
+    for item in items.split(',') {
+        match item.parse::<u8>() {
+            Ok(byte) => bytes.push(byte).expect(rt, "memory"),
+            Err(_) => bytes
+                .extend_from_slice(item.as_bytes())
+                .expect(rt, "memory"),
+        }
+    }
+}
+
+/// Adds the bytes of a word: a list, and how often it comes, as in `0,10,20*8`.
+fn push_word(rt: &impl Abort, bytes: &mut Vec<u8>, word: &str) {
+    let (items, times) = word.split_once('*').unwrap_or((word, "1"));
+    for _ in 0..times.parse::<usize>().expect(rt, word) {
+        push_items(rt, bytes, items);
+    }
+}
+
+/// The bytes of all words of a text.
+pub fn bytes_of(rt: &impl Abort, alloc: Global, text: &str) -> Vec<u8> {
+    let mut bytes = Vec::new(alloc);
+    for word in text.split_whitespace() {
+        push_word(rt, &mut bytes, word);
+    }
+    bytes
+}
+
+/// Stops the test if bytes are not those of a text.
+fn are_bytes(rt: &impl Abort, alloc: Global, given: &[u8], wanted: &str, what: &str) {
+    let wanted = bytes_of(rt, alloc, wanted);
+    same(rt, given, wanted.as_slice(), what);
+}
+
+/// Stops the test if a plan does not come to these planes, or is not refused for this error.
+pub fn comes_to(rt: &impl Abort, alloc: Global, plan: &[u8], wanted: &str, what: &str) {
+    let mut source = SliceSource::new(plan, 65536, &[]);
+    let mut sink = MemSink::new(alloc, 2000, 65536, &[]).expect(rt, "memory");
     match reconstruct_plan(alloc, &mut source, &mut sink) {
-        Ok(()) => Err(Fail::new("the plan is refused")),
-        Err(error) => Ok(error),
+        Ok(()) => are_bytes(rt, alloc, sink.bytes(), wanted, what),
+        Err(error) => prints(rt, alloc, &error, wanted, what),
+    }
+}
+
+/// A row of a table: what it shows, `:`, a plan, `->`, and its planes or its error.
+fn row(rt: &impl Abort, alloc: Global, text: &str) {
+    let (what, rest) = text.split_once(':').expect(rt, "a row has a name");
+    let (plan, wanted) = rest.split_once("->").expect(rt, what);
+    let plan = bytes_of(rt, alloc, plan);
+    comes_to(rt, alloc, &plan, wanted.trim(), what.trim());
+}
+
+/// Tries all rows of a table, with `;` between them.
+pub fn rows(rt: &impl Abort, alloc: Global, table: &str) {
+    for text in table.split(';') {
+        row(rt, alloc, text);
     }
 }
 

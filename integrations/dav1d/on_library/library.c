@@ -1,0 +1,515 @@
+/* dav1d's block functions by the calls of libav1_c.a (bindings/c/av1_c.h).
+ *
+ * build.py puts this file into a copy of dav1d's src/. It is compiled once for samples of 8 bits and once for samples of
+ * 16 bits. Each function has the type of an entry of dav1d's tables (src/mc.h, src/ipred.h, src/itx.h). The comment
+ * before it names the entries that it fills, and what it copies or converts.
+ *
+ *   LIBRARY_CALLS=FILE   appends a line for each kind of call: its name, the calls and their samples. Names that begin
+ *                        with own_ are functions that dav1d keeps. Only for one thread
+ *   LIBRARY_REGIONS=1    makes each call on a copy of the block, so that no call gets samples beside its block */
+#include "config.h"
+
+#include <stdio.h>
+#include <stdlib.h>
+#include <string.h>
+
+#include "common/attributes.h"
+#include "common/intops.h"
+#include "src/cpu.h"
+#include "src/library.h"
+#include "src/scan.h"
+#include "src/tables.h"
+
+#include "av1_c.h"
+
+#if BITDEPTH == 8
+#define CALL(name) av1_##name##_8
+#define MOTION_CALL(name) av1_##name##_8tap_8
+#define DEPTH 8
+#define DEPTH_ARG
+#define ANY_DEPTH_ARG
+#define REGION av1_region_8
+#define READ_REGION av1_read_region_8
+#else
+#define CALL(name) av1_##name##_16
+#define MOTION_CALL(name) av1_##name##_tested_16
+#define DEPTH ((uint8_t) bitdepth_from_max(bitdepth_max))
+#define DEPTH_ARG , DEPTH
+#define ANY_DEPTH_ARG , 12
+#define REGION av1_region_16
+#define READ_REGION av1_read_region_16
+#endif
+
+/* The buffers that calls work in: dav1d's functions get none, so each thread has its own. */
+#define BLOCK_LEN (128 * 128)
+#define WINDOW_LEN (135 * 135)
+static _Thread_local av1_transform_scratch ALIGN(scratch, 64);
+static _Thread_local pixel ALIGN(block_copy[BLOCK_LEN], 64);
+static _Thread_local pixel ALIGN(window[WINDOW_LEN], 64);
+
+/* ---- settings, counts and statuses */
+
+static const char *calls_file;
+static int by_regions;
+static unsigned rejected[64];
+static struct { const char *name; unsigned long long calls, samples; } counts[64];
+
+/* Returns whether dav1d's mask of processor features has the library, after reading the settings. */
+static COLD int is_chosen(void) {
+    calls_file = getenv("LIBRARY_CALLS");
+    by_regions = getenv("LIBRARY_REGIONS") != NULL;
+    return !!(dav1d_get_cpu_flags() & DAV1D_X86_CPU_FLAG_LIBRARY);
+}
+
+static NOINLINE void add_call(const char *const name, const int samples) {
+    int i = 0;
+    while (counts[i].name && strcmp(counts[i].name, name)) i++;
+    counts[i].name = name;
+    counts[i].calls++;
+    counts[i].samples += samples;
+}
+
+static inline void count(const char *const name, const int w, const int h) {
+    if (calls_file) add_call(name, w * h);
+}
+
+__attribute__((destructor)) static void report(void) {
+    FILE *const file = calls_file ? fopen(calls_file, "a") : NULL;
+    for (int i = 0; file && counts[i].name; i++)
+        fprintf(file, "%s %llu %llu\n", counts[i].name, counts[i].calls, counts[i].samples);
+    if (file) fclose(file);
+    for (int status = 1; status < 64; status++)
+        if (rejected[status])
+            fprintf(stderr, "library: %u calls rejected with status %d\n", rejected[status], status);
+}
+
+/* ---- rows of a plane */
+
+/* The rows that a call writes. */
+typedef struct {
+    pixel *at;
+    size_t len, stride;
+} rows;
+
+/* Whether a call gets a copy: if rows go upwards there is no slice, and other threads may write beside the block. */
+static inline int needs_copy(const ptrdiff_t stride) {
+    return by_regions || stride < 0;
+}
+
+/* The block's rows in the plane, with all samples between them and as far as the stride after the last; or a copy. */
+static inline rows rows_of(pixel *const dst, const ptrdiff_t stride, const int w, const int h) {
+    if (needs_copy(stride)) return (rows) { block_copy, BLOCK_LEN, (size_t) w };
+    return (rows) { dst, (size_t) (stride * h), (size_t) stride };
+}
+
+/* After a call: counts a status that isn't AV1_DONE. */
+static inline void check(const uint32_t status) {
+    if (status) rejected[umin(status, 63)]++;
+}
+
+/* The same, and stores a copy in the plane. */
+static inline void finish(const uint32_t status, pixel *const dst, const ptrdiff_t stride, const int w, const int h) {
+    const REGION region = { dst, stride, (size_t) w, (size_t) h };
+    check(status);
+    if (!status && needs_copy(stride)) CALL(store_region)(&region, 0, 0, (size_t) w, (size_t) h, block_copy, BLOCK_LEN);
+}
+
+static inline void load(pixel *const to, const size_t len, const pixel *const from, const ptrdiff_t stride, const int w,
+                        const int h)
+{
+    const READ_REGION region = { from, stride, (size_t) w, (size_t) h };
+    CALL(load_region)(&region, 0, 0, (size_t) w, (size_t) h, to, len);
+}
+
+/* ---- motion compensation: Dav1dMCDSPContext */
+
+/* By the names of dav1d's filters: the filter along rows and the filter down columns. */
+#define FILTERS(X) \
+    X(8TAP_REGULAR, 0, 0) X(8TAP_REGULAR_SMOOTH, 0, 1) X(8TAP_REGULAR_SHARP, 0, AV1_SHARP) \
+    X(8TAP_SHARP_REGULAR, AV1_SHARP, 0) X(8TAP_SHARP_SMOOTH, AV1_SHARP, 1) X(8TAP_SHARP, AV1_SHARP, AV1_SHARP) \
+    X(8TAP_SMOOTH_REGULAR, 1, 0) X(8TAP_SMOOTH, 1, 1) X(8TAP_SMOOTH_SHARP, 1, AV1_SHARP) X(BILINEAR, 3, 3)
+
+/* The calls read 3 columns and rows before a block and 4 after it. dav1d has them only beside a fraction, so without one
+ * they are zeros in a copy. Intra block copy reads the plane that it writes, so its filter always gets a copy. */
+static inline const pixel *reference(const pixel *const src, ptrdiff_t *const stride, const int w, const int h,
+                                     const int mx, const int my, const int filter)
+{
+    const int x = mx ? 3 : 0, columns = w + 7;
+    if (mx && my && *stride > 0 && filter != 3) return src - 3 * *stride - 3;
+    pixel *row = window;
+    for (int i = -3; i < h + 4; i++, row += columns) {
+        if (!my && (i < 0 || i >= h)) {
+            pixel_set(row, 0, columns);
+            continue;
+        }
+        if (!mx) pixel_set(row, 0, 3);
+        pixel_copy(row + 3 - x, src + i * *stride - x, mx ? columns : w);
+        if (!mx) pixel_set(row + 3 + w, 0, 4);
+    }
+    *stride = columns;
+    return window;
+}
+
+/* mc[]: copies a reference that has a fraction of 0. */
+static ALWAYS_INLINE void put(pixel *const dst, const ptrdiff_t dst_stride, const pixel *const src,
+                              const ptrdiff_t src_stride, const int w, const int h, const int mx, const int my,
+                              const uint8_t fx, const uint8_t fy HIGHBD_DECL_SUFFIX)
+{
+    ptrdiff_t stride = PXSTRIDE(src_stride);
+    const pixel *const from = reference(src, &stride, w, h, mx, my, fx);
+    const rows to = rows_of(dst, PXSTRIDE(dst_stride), w, h);
+    const av1_motion_block b = { (size_t) w, (size_t) h, (uint8_t) mx, (uint8_t) my, fx, fy };
+    count("put", w, h);
+    finish(MOTION_CALL(put)(to.at, to.len, to.stride, 0, 0, from, (size_t) (stride * (h + 7)), (size_t) stride, 3, 3,
+                            &b DEPTH_ARG), dst, PXSTRIDE(dst_stride), w, h);
+}
+
+/* mct[]: copies the same. */
+static ALWAYS_INLINE void prep(int16_t *const tmp, const pixel *const src, const ptrdiff_t src_stride, const int w,
+                               const int h, const int mx, const int my, const uint8_t fx, const uint8_t fy
+                               HIGHBD_DECL_SUFFIX)
+{
+    ptrdiff_t stride = PXSTRIDE(src_stride);
+    const pixel *const from = reference(src, &stride, w, h, mx, my, fx);
+    const av1_motion_block b = { (size_t) w, (size_t) h, (uint8_t) mx, (uint8_t) my, fx, fy };
+    count("prep", w, h);
+    check(MOTION_CALL(prep)(tmp, (size_t) (w * h), from, (size_t) (stride * (h + 7)), (size_t) stride, 3, 3, &b DEPTH_ARG));
+}
+
+#define MOTION(name, fx, fy) \
+static decl_mc_fn(library_put_##name) { \
+    put(dst, dst_stride, src, src_stride, w, h, mx, my, fx, fy HIGHBD_TAIL_SUFFIX); \
+} \
+static decl_mct_fn(library_prep_##name) { \
+    prep(tmp, src, src_stride, w, h, mx, my, fx, fy HIGHBD_TAIL_SUFFIX); \
+}
+FILTERS(MOTION)
+
+/* avg: as it is. */
+static decl_avg_fn(library_avg) {
+    const rows to = rows_of(dst, PXSTRIDE(dst_stride), w, h);
+    const size_t len = (size_t) (w * h);
+    count("avg", w, h);
+    finish(CALL(mc_avg)(to.at, to.len, to.stride, 0, 0, (size_t) w, (size_t) h, tmp1, len, tmp2, len DEPTH_ARG), dst,
+           PXSTRIDE(dst_stride), w, h);
+}
+
+/* ---- intra prediction: Dav1dIntraPredDSPContext */
+
+/* The number of a transform by the logarithms of a quarter of its sides; 255 if there is none. */
+static const uint8_t tx_sizes[5][5] = {
+    { TX_4X4,    RTX_4X8,   RTX_4X16,  255,       255       },
+    { RTX_8X4,   TX_8X8,    RTX_8X16,  RTX_8X32,  255       },
+    { RTX_16X4,  RTX_16X8,  TX_16X16,  RTX_16X32, RTX_16X64 },
+    { 255,       RTX_32X8,  RTX_32X16, TX_32X32,  RTX_32X64 },
+    { 255,       255,       RTX_64X16, RTX_64X32, TX_64X64  },
+};
+
+static inline av1_intra_block intra_block(const int w, const int h, const int has_left, const int has_above
+                                          HIGHBD_DECL_SUFFIX)
+{
+    return (av1_intra_block) { .tx_size = tx_sizes[ctz(w) - 2][ctz(h) - 2], .bit_depth = DEPTH,
+                               .has_left = (uint8_t) has_left, .has_above = (uint8_t) has_above,
+                               .visible_columns = 65536, .visible_rows = 65536 };
+}
+
+static void predict(pixel *const dst, const ptrdiff_t dst_stride, const av1_intra_block *const b,
+                    const pixel *const left, const int left_len, const pixel corner, const pixel *const above,
+                    const int above_len, const int w, const int h)
+{
+    const rows to = rows_of(dst, PXSTRIDE(dst_stride), w, h);
+    count("intra", w, h);
+    finish(CALL(predict_intra)(to.at, to.len, to.stride, 0, 0, b, left, (size_t) left_len, corner, above,
+                               (size_t) above_len), dst, PXSTRIDE(dst_stride), w, h);
+}
+
+/* intra_pred[] of the modes that don't turn: as they are, because dav1d's edge has the order of the library's. */
+#define INTRA(name, number, has_left, has_above) \
+static decl_angular_ipred_fn(library_##name) { \
+    av1_intra_block b = intra_block(width, height, has_left, has_above HIGHBD_TAIL_SUFFIX); \
+    b.mode = number; \
+    predict(dst, stride, &b, topleft - height, height, *topleft, topleft + 1, width, width, height); \
+}
+INTRA(dc, 0, 1, 1)
+INTRA(dc_128, 0, 0, 0)
+INTRA(dc_top, 0, 0, 1)
+INTRA(dc_left, 0, 1, 0)
+INTRA(vertical, 1, 1, 1)
+INTRA(horizontal, 2, 1, 1)
+INTRA(smooth, 9, 1, 1)
+INTRA(smooth_v, 10, 1, 1)
+INTRA(smooth_h, 11, 1, 1)
+INTRA(paeth, 12, 1, 1)
+
+/* A block of a mode that turns: finds the mode and its steps from dav1d's angle, of which bit 9 is the smooth neighbour and
+ * bit 10 the edge filter. An angle that no mode turns to gets a step that the library rejects. */
+static inline av1_intra_block turned(const int w, const int h, const int angle HIGHBD_DECL_SUFFIX) {
+    static const struct { uint8_t mode, angle; } modes[8] = {
+        { 3, 45 }, { 8, 67 }, { 1, 90 }, { 5, 113 }, { 4, 135 }, { 6, 157 }, { 2, 180 }, { 7, 203 }
+    };
+    av1_intra_block b = intra_block(w, h, 1, 1 HIGHBD_TAIL_SUFFIX);
+    b.smooth_neighbour = angle >> 9 & 1;
+    b.edge_filter = angle >> 10 & 1;
+    b.mode = 3;
+    b.angle_step = 100;
+    for (int i = 0; i < 8; i++) {
+        const int turn = (angle & 511) - modes[i].angle;
+        if (turn < -9 || turn > 9 || turn % 3) continue;
+        b.mode = modes[i].mode;
+        b.angle_step = (int8_t) (turn / 3);
+        break;
+    }
+    return b;
+}
+
+/* intra_pred[Z1_PRED]: for a tall block repeats the last sample above, because dav1d's edge ends at twice the width. */
+static decl_angular_ipred_fn(library_z1) {
+    const av1_intra_block b = turned(width, height, angle HIGHBD_TAIL_SUFFIX);
+    const pixel *above = topleft + 1;
+    pixel longer[128];
+    if (height > width) {
+        pixel_copy(longer, above, 2 * width);
+        pixel_set(longer + 2 * width, above[2 * width - 1], height - width);
+        above = longer;
+    }
+    predict(dst, stride, &b, topleft, 0, *topleft, above, width + height, width, height);
+}
+
+/* intra_pred[Z2_PRED]: as it is. */
+static decl_angular_ipred_fn(library_z2) {
+    av1_intra_block b = turned(width, height, angle HIGHBD_TAIL_SUFFIX);
+    b.visible_columns = (size_t) max_width;
+    b.visible_rows = (size_t) max_height;
+    predict(dst, stride, &b, topleft - height, height, *topleft, topleft + 1, width, width, height);
+}
+
+/* intra_pred[Z3_PRED]: for a wide block repeats the last sample on the left, because dav1d's edge ends at twice the height. */
+static decl_angular_ipred_fn(library_z3) {
+    const av1_intra_block b = turned(width, height, angle HIGHBD_TAIL_SUFFIX);
+    const pixel *left = topleft - (width + height);
+    pixel longer[128];
+    if (width > height) {
+        pixel_set(longer, topleft[-2 * height], width - height);
+        pixel_copy(longer + width - height, topleft - 2 * height, 2 * height);
+        left = longer;
+    }
+    predict(dst, stride, &b, left, width + height, *topleft, topleft + 1, 0, width, height);
+}
+
+/* cfl_ac[]: finds the size's number from the sides. At 16 bits dav1d doesn't pass the depth; at 12 the values are the same. */
+static ALWAYS_INLINE void cfl_ac(int16_t *const ac, const pixel *luma, const ptrdiff_t luma_stride, const int w_pad,
+                                 const int h_pad, const int w, const int h, const int xdec, const int ydec)
+{
+    static const uint8_t sizes[4][4] = { { 0, 1, 16, 255 }, { 2, 3, 4, 18 }, { 17, 5, 6, 7 }, { 255, 19, 8, 9 } };
+    const av1_cfl_block b = { sizes[ctz(w) - 2][ctz(h) - 2], (uint8_t) xdec, (uint8_t) ydec, (size_t) w_pad, (size_t) h_pad };
+    const int columns = imin(w << xdec, imax((w - 4 * w_pad) << xdec, 8));
+    const int luma_rows = imin(h << ydec, imax((h - 4 * h_pad) << ydec, 8));
+    ptrdiff_t stride = PXSTRIDE(luma_stride);
+    if (needs_copy(stride)) {
+        load(window, WINDOW_LEN, luma, stride, columns, luma_rows);
+        luma = window;
+        stride = columns;
+    }
+    count("cfl_ac", w, h);
+    check(CALL(cfl_ac)(ac, (size_t) (w * h), luma, (size_t) (stride * luma_rows), (size_t) stride, 0, 0, &b ANY_DEPTH_ARG));
+}
+
+#define CFL_AC(layout, xdec, ydec) \
+static decl_cfl_ac_fn(library_cfl_ac_##layout) { cfl_ac(ac, y, stride, w_pad, h_pad, cw, ch, xdec, ydec); }
+CFL_AC(420, 1, 1)
+CFL_AC(422, 1, 0)
+CFL_AC(444, 0, 0)
+
+/* cfl_pred[]: as it is. */
+#define CFL(name, has_left, has_above) \
+static decl_cfl_pred_fn(library_cfl_##name) { \
+    const av1_intra_block b = intra_block(width, height, has_left, has_above HIGHBD_TAIL_SUFFIX); \
+    const rows to = rows_of(dst, PXSTRIDE(stride), width, height); \
+    count("cfl_pred", width, height); \
+    finish(CALL(predict_cfl)(to.at, to.len, to.stride, 0, 0, &b, topleft - height, (size_t) height, topleft + 1, \
+                             (size_t) width, ac, (size_t) (width * height), (int16_t) alpha), \
+           dst, PXSTRIDE(stride), width, height); \
+}
+CFL(dc, 1, 1)
+CFL(dc_128, 0, 0)
+CFL(dc_top, 0, 1)
+CFL(dc_left, 1, 0)
+
+/* ---- inverse transforms: Dav1dInvTxfmDSPContext */
+
+/* How many coefficients a transform of both directions has up to the last that isn't 0, by the end of block. */
+static uint16_t lengths[N_RECT_TX_SIZES][1024];
+
+static COLD void init_lengths(void) {
+    for (int tx = 0; tx < N_RECT_TX_SIZES; tx++) {
+        const int n = imin(dav1d_txfm_dimensions[tx].w * 4, 32) * imin(dav1d_txfm_dimensions[tx].h * 4, 32);
+        for (int i = 0, most = 0; i < n; i++) {
+            most = imax(most, dav1d_scans[tx][i] + 1);
+            lengths[tx][i] = (uint16_t) most;
+        }
+    }
+}
+
+/* The same for any type: transforms of one direction have the scans of rows or of columns. */
+static inline size_t length(const int eob, const int tx, const int type) {
+    const int w = imin(dav1d_txfm_dimensions[tx].w * 4, 32), h = imin(dav1d_txfm_dimensions[tx].h * 4, 32);
+    if (type == WHT_WHT) return 16;
+    if (dav1d_tx_type_class[type] == TX_CLASS_2D) return lengths[tx][eob];
+    if (dav1d_tx_type_class[type] == TX_CLASS_H) return (size_t) eob + 1;
+    return (size_t) (eob >= w ? (w - 1) * h + eob / w + 1 : eob * h + 1);
+}
+
+/* itxfm_add[]: finds the number of coefficients from the end of block, and clears them after the call. */
+static NOINLINE void itx(pixel *const dst, const ptrdiff_t dst_stride, coef *const coeff, const int eob, const int tx,
+                         const int type HIGHBD_DECL_SUFFIX)
+{
+    const int w = dav1d_txfm_dimensions[tx].w * 4, h = dav1d_txfm_dimensions[tx].h * 4;
+    const ptrdiff_t stride = PXSTRIDE(dst_stride);
+    const rows to = rows_of(dst, stride, w, h);
+    const size_t n = length(eob, tx, type);
+    if (needs_copy(stride)) load(block_copy, BLOCK_LEN, dst, stride, w, h);
+    count("itx", w, h);
+    finish(CALL(inverse_transform_add)(&scratch, coeff, n, to.at, to.len, to.stride, 0, 0, (uint8_t) tx,
+                                       (uint8_t) type DEPTH_ARG), dst, stride, w, h);
+    memset(coeff, 0, n * sizeof(*coeff));
+}
+
+/* The sizes, each with its types. */
+#define TYPES_1(X, tx) X(tx, DCT_DCT)
+#define TYPES_2(X, tx) TYPES_1(X, tx) X(tx, IDTX)
+#define TYPES_12(X, tx) TYPES_2(X, tx) X(tx, ADST_DCT) X(tx, DCT_ADST) X(tx, ADST_ADST) X(tx, FLIPADST_DCT) \
+    X(tx, DCT_FLIPADST) X(tx, FLIPADST_FLIPADST) X(tx, ADST_FLIPADST) X(tx, FLIPADST_ADST) X(tx, V_DCT) X(tx, H_DCT)
+#define TYPES_16(X, tx) TYPES_12(X, tx) X(tx, V_ADST) X(tx, H_ADST) X(tx, V_FLIPADST) X(tx, H_FLIPADST)
+#define TYPES_17(X, tx) TYPES_16(X, tx) X(tx, WHT_WHT)
+#define TRANSFORMS(X) \
+    TYPES_17(X, TX_4X4) TYPES_16(X, TX_8X8) TYPES_12(X, TX_16X16) TYPES_2(X, TX_32X32) TYPES_1(X, TX_64X64) \
+    TYPES_16(X, RTX_4X8) TYPES_16(X, RTX_8X4) TYPES_16(X, RTX_8X16) TYPES_16(X, RTX_16X8) TYPES_2(X, RTX_16X32) \
+    TYPES_2(X, RTX_32X16) TYPES_1(X, RTX_32X64) TYPES_1(X, RTX_64X32) TYPES_16(X, RTX_4X16) TYPES_16(X, RTX_16X4) \
+    TYPES_2(X, RTX_8X32) TYPES_2(X, RTX_32X8) TYPES_1(X, RTX_16X64) TYPES_1(X, RTX_64X16)
+#define ITX(tx, type) \
+static decl_itx_fn(library_itx_##tx##_##type) { itx(dst, dst_stride, coeff, eob, tx, type HIGHBD_TAIL_SUFFIX); }
+TRANSFORMS(ITX)
+
+/* ---- what dav1d keeps: counted, then called */
+
+static Dav1dMCDSPContext own_mc;
+static Dav1dIntraPredDSPContext own_intra;
+
+static decl_angular_ipred_fn(own_filter_intra) {
+    count("own_filter_intra", width, height);
+    own_intra.intra_pred[FILTER_PRED](dst, stride, topleft, width, height, angle, max_width, max_height HIGHBD_TAIL_SUFFIX);
+}
+static decl_pal_pred_fn(own_palette) {
+    count("own_palette", w, h);
+    own_intra.pal_pred(dst, stride, pal, idx, w, h);
+}
+static decl_w_avg_fn(own_w_avg) {
+    count("own_w_avg", w, h);
+    own_mc.w_avg(dst, dst_stride, tmp1, tmp2, w, h, weight HIGHBD_TAIL_SUFFIX);
+}
+static decl_mask_fn(own_mask) {
+    count("own_mask", w, h);
+    own_mc.mask(dst, dst_stride, tmp1, tmp2, w, h, mask HIGHBD_TAIL_SUFFIX);
+}
+#define W_MASK(n) static decl_w_mask_fn(own_w_mask_##n) { \
+    count("own_w_mask", w, h); \
+    own_mc.w_mask[n](dst, dst_stride, tmp1, tmp2, w, h, mask, sign HIGHBD_TAIL_SUFFIX); \
+}
+W_MASK(0)
+W_MASK(1)
+W_MASK(2)
+static decl_blend_fn(own_blend) {
+    count("own_blend", w, h);
+    own_mc.blend(dst, dst_stride, tmp, w, h, mask);
+}
+static decl_blend_dir_fn(own_blend_v) {
+    count("own_blend_v", w, h);
+    own_mc.blend_v(dst, dst_stride, tmp, w, h);
+}
+static decl_blend_dir_fn(own_blend_h) {
+    count("own_blend_h", w, h);
+    own_mc.blend_h(dst, dst_stride, tmp, w, h);
+}
+static decl_warp8x8_fn(own_warp8x8) {
+    count("own_warp8x8", 8, 8);
+    own_mc.warp8x8(dst, dst_stride, src, src_stride, abcd, mx, my HIGHBD_TAIL_SUFFIX);
+}
+static decl_warp8x8t_fn(own_warp8x8t) {
+    count("own_warp8x8t", 8, 8);
+    own_mc.warp8x8t(tmp, tmp_stride, src, src_stride, abcd, mx, my HIGHBD_TAIL_SUFFIX);
+}
+#define SCALED(name, fx, fy) \
+static decl_mc_scaled_fn(own_put_scaled_##name) { \
+    count("own_put_scaled", w, h); \
+    own_mc.mc_scaled[FILTER_2D_##name](dst, dst_stride, src, src_stride, w, h, mx, my, dx, dy HIGHBD_TAIL_SUFFIX); \
+} \
+static decl_mct_scaled_fn(own_prep_scaled_##name) { \
+    count("own_prep_scaled", w, h); \
+    own_mc.mct_scaled[FILTER_2D_##name](tmp, src, src_stride, w, h, mx, my, dx, dy HIGHBD_TAIL_SUFFIX); \
+}
+FILTERS(SCALED)
+
+static COLD void count_own_mc(Dav1dMCDSPContext *const c) {
+    own_mc = *c;
+#define SET_SCALED(name, fx, fy) \
+    c->mc_scaled[FILTER_2D_##name] = own_put_scaled_##name; \
+    c->mct_scaled[FILTER_2D_##name] = own_prep_scaled_##name;
+    FILTERS(SET_SCALED)
+    c->w_avg = own_w_avg;
+    c->mask = own_mask;
+    c->w_mask[0] = own_w_mask_0;
+    c->w_mask[1] = own_w_mask_1;
+    c->w_mask[2] = own_w_mask_2;
+    c->blend = own_blend;
+    c->blend_v = own_blend_v;
+    c->blend_h = own_blend_h;
+    c->warp8x8 = own_warp8x8;
+    c->warp8x8t = own_warp8x8t;
+}
+
+/* ---- the tables */
+
+COLD void bitfn(library_mc_init)(Dav1dMCDSPContext *const c) {
+    if (!is_chosen()) return;
+#define SET_MOTION(name, fx, fy) \
+    c->mc[FILTER_2D_##name] = library_put_##name; \
+    c->mct[FILTER_2D_##name] = library_prep_##name;
+    FILTERS(SET_MOTION)
+    c->avg = library_avg;
+    if (calls_file) count_own_mc(c);
+}
+
+COLD void bitfn(library_ipred_init)(Dav1dIntraPredDSPContext *const c) {
+    if (!is_chosen()) return;
+    c->intra_pred[DC_PRED] = library_dc;
+    c->intra_pred[DC_128_PRED] = library_dc_128;
+    c->intra_pred[TOP_DC_PRED] = library_dc_top;
+    c->intra_pred[LEFT_DC_PRED] = library_dc_left;
+    c->intra_pred[VERT_PRED] = library_vertical;
+    c->intra_pred[HOR_PRED] = library_horizontal;
+    c->intra_pred[SMOOTH_PRED] = library_smooth;
+    c->intra_pred[SMOOTH_V_PRED] = library_smooth_v;
+    c->intra_pred[SMOOTH_H_PRED] = library_smooth_h;
+    c->intra_pred[PAETH_PRED] = library_paeth;
+    c->intra_pred[Z1_PRED] = library_z1;
+    c->intra_pred[Z2_PRED] = library_z2;
+    c->intra_pred[Z3_PRED] = library_z3;
+    c->cfl_ac[DAV1D_PIXEL_LAYOUT_I420 - 1] = library_cfl_ac_420;
+    c->cfl_ac[DAV1D_PIXEL_LAYOUT_I422 - 1] = library_cfl_ac_422;
+    c->cfl_ac[DAV1D_PIXEL_LAYOUT_I444 - 1] = library_cfl_ac_444;
+    c->cfl_pred[DC_PRED] = library_cfl_dc;
+    c->cfl_pred[DC_128_PRED] = library_cfl_dc_128;
+    c->cfl_pred[TOP_DC_PRED] = library_cfl_dc_top;
+    c->cfl_pred[LEFT_DC_PRED] = library_cfl_dc_left;
+    if (!calls_file) return;
+    own_intra = *c;
+    c->intra_pred[FILTER_PRED] = own_filter_intra;
+    c->pal_pred = own_palette;
+}
+
+COLD void bitfn(library_itx_init)(Dav1dInvTxfmDSPContext *const c) {
+    if (!is_chosen()) return;
+    init_lengths();
+#define SET_ITX(tx, type) c->itxfm_add[tx][type] = library_itx_##tx##_##type;
+    TRANSFORMS(SET_ITX)
+}
