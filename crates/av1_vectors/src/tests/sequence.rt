@@ -97,17 +97,11 @@ fn started(rt: &impl Abort, alloc: Global) -> Sequence {
 }
 
 #[test]
-fn a_refused_frame_changes_no_row_of_any_slot(rt: HostRuntime) {
+fn a_refused_frame_changes_nothing_and_the_next_copies_the_last(rt: HostRuntime) {
     let mut frames = started(&rt, rt.alloc());
     slots_are_as_at_first(&rt, &frames);
     is_too_far(&rt, &mut frames);
     slots_are_as_at_first(&rt, &frames);
-}
-
-#[test]
-fn a_frame_copies_the_last_that_was_accepted(rt: HostRuntime) {
-    let mut frames = started(&rt, rt.alloc());
-    is_too_far(&rt, &mut frames);
     last_is_the_frame(&rt, &frames);
     let answer = frames.frame(&head(0), &COPIED);
     same(&rt, answer, Ok(()), "the second");
