@@ -5,7 +5,6 @@ use av1_edges::IntraEdge;
 use av1_frame::{BlockOffset, FrameInvariants, Plane, TileBlockOffset, TileStateMut};
 use av1_intra::PredictionVariant;
 use av1_rav1e::{dispatch_predict_intra, luma_ac};
-use std::test::Fail;
 
 /// Two rows of dark luma over two rows of light luma, as differences from their mean in eighths.
 const DIFFERENCES: [i16; 16] = [
@@ -25,11 +24,13 @@ const LUMA: [u8; 64] = [
 ];
 
 #[test]
-fn luma_differs_from_its_mean(rt: HostRuntime) -> Result<(), Fail> {
-    let fi = FrameInvariants::new(rt.alloc(), 8, 8, FilterMode::REGULAR, 8, false, [0; 7])?;
-    let mut y = Plane::from_slice(rt.alloc(), &LUMA, 8)?;
-    let mut u = Plane::from_slice(rt.alloc(), &[0; 64], 8)?;
-    let mut v = Plane::from_slice(rt.alloc(), &[0; 64], 8)?;
+fn luma_differs_from_its_mean(rt: HostRuntime) {
+    let fi = FrameInvariants::new(rt.alloc(), 8, 8, FilterMode::REGULAR, 8, false, [0; 7]).expect(
+        &rt, "memory",
+    );
+    let mut y = Plane::from_slice(rt.alloc(), &LUMA, 8).expect(&rt, "memory");
+    let mut u = Plane::from_slice(rt.alloc(), &[0; 64], 8).expect(&rt, "memory");
+    let mut v = Plane::from_slice(rt.alloc(), &[0; 64], 8).expect(&rt, "memory");
     let mut ts = TileStateMut {
         y: y.as_region_mut(),
         u: u.as_region_mut(),
@@ -47,12 +48,11 @@ fn luma_differs_from_its_mean(rt: HostRuntime) -> Result<(), Fail> {
         &fi,
     );
     same(&rt, &*found, DIFFERENCES.as_slice(), "differences");
-    Ok(())
 }
 
 #[test]
-fn chroma_follows_luma_from_half_of_the_range(rt: HostRuntime) -> Result<(), Fail> {
-    let mut plane = Plane::from_slice(rt.alloc(), &[0; 16], 4)?;
+fn chroma_follows_luma_from_half_of_the_range(rt: HostRuntime) {
+    let mut plane = Plane::from_slice(rt.alloc(), &[0; 16], 4).expect(&rt, "memory");
     let mut block = plane.as_region_mut();
     let edge = IntraEdge::from_slices(&[], &[128], &[]);
     dispatch_predict_intra(
@@ -68,5 +68,4 @@ fn chroma_follows_luma_from_half_of_the_range(rt: HostRuntime) -> Result<(), Fai
     );
     let wanted = [[118; 4], [118; 4], [138; 4], [138; 4]];
     same(&rt, four_rows(&block), wanted, "chroma");
-    Ok(())
 }

@@ -1,5 +1,6 @@
 use Rattle.std.proofs.Common.{◌≡◌, ◌∙◌, ap, ℕ, ◌+◌, ◌-◌, ◌*◌, ◌<◌, ◌≤◌, true, nat_lt, List, arith, subst, sym, refl}
 use Rattle.std.proofs.lemmas.Bool.Decides.{nat_tests}
+use Rattle.std.proofs.lemmas.Result.{IfOk-at_ok}
 use Rattle.std.specs.List.{All, list_all}
 use Rattle.std.proofs.lemmas.List.Sums.{AllPass-from_list_all}
 use Rattle.av1_blocks.specs.declared.partition.BlockSize.TheVariants.{BLOCK_4X4}
@@ -48,20 +49,22 @@ rows_fit c r x y h d e f =
 pub luma_ac-found-requires-clause-columns : goal.luma_ac-found-requires-clause-columns
 luma_ac-found-requires-clause-columns g c =
     let chroma = c.as_region_mut-2.result.plane_cfg in
-    let fi = c.in_ok-fi.fi in
+    let fi = c.expect-fi.result in
     columns_fit fi.w_in_b fi.h_in_b chroma.xdec chroma.ydec c.as_region_mut.result.area.width
-    (ap (λ cfg. cfg.xdec) (c.as_region_mut-2.ensures.cfg ∙ c.in_ok-u.ensures.cfg)) (ap (λ fi. fi.w_in_b) c.in_ok-fi.ensures)
-    (ap (λ a. a.width) c.as_region_mut.ensures.area ∙ ap (λ cfg. cfg.width) c.in_ok-y.ensures.cfg)
+    (ap (λ cfg. cfg.xdec) (c.as_region_mut-2.ensures.cfg ∙ IfOk-at_ok _ c.expect-u.ensures c.from_slice-2.ensures.cfg))
+    (ap (λ fi. fi.w_in_b) (IfOk-at_ok _ c.expect-fi.ensures c.new.ensures))
+    (ap (λ a. a.width) c.as_region_mut.ensures.area ∙ ap (λ cfg. cfg.width) (IfOk-at_ok _ c.expect-y.ensures c.from_slice.ensures.cfg))
 
 pub luma_ac-found-requires-clause-rows : goal.luma_ac-found-requires-clause-rows
 luma_ac-found-requires-clause-rows g c =
     let chroma = c.as_region_mut-2.result.plane_cfg in
-    let fi = c.in_ok-fi.fi in
+    let fi = c.expect-fi.result in
     rows_fit fi.w_in_b fi.h_in_b chroma.xdec chroma.ydec c.as_region_mut.result.area.height
-    (ap (λ cfg. cfg.ydec) (c.as_region_mut-2.ensures.cfg ∙ c.in_ok-u.ensures.cfg)) (ap (λ fi. fi.h_in_b) c.in_ok-fi.ensures)
-    (ap (λ a. a.height) c.as_region_mut.ensures.area ∙ ap (λ cfg. cfg.height) c.in_ok-y.ensures.cfg)
+    (ap (λ cfg. cfg.ydec) (c.as_region_mut-2.ensures.cfg ∙ IfOk-at_ok _ c.expect-u.ensures c.from_slice-2.ensures.cfg))
+    (ap (λ fi. fi.h_in_b) (IfOk-at_ok _ c.expect-fi.ensures c.new.ensures))
+    (ap (λ a. a.height) c.as_region_mut.ensures.area ∙ ap (λ cfg. cfg.height) (IfOk-at_ok _ c.expect-y.ensures c.from_slice.ensures.cfg))
 
 pub luma_ac-found-requires-clause-low : goal.luma_ac-found-requires-clause-low
 luma_ac-found-requires-clause-low g c =
-    let few = all_below _ _ (ap (λ p. p.samples) c.as_region_mut.ensures.plane ∙ c.in_ok-y.ensures.samples) refl in
+    let few = all_below _ _ (ap (λ p. p.samples) c.as_region_mut.ensures.plane ∙ IfOk-at_ok _ c.expect-y.ensures c.from_slice.ensures.samples) refl in
     λ x y a b. number_below (λ v. v) 4096 c.as_region_mut.result.plane.now.samples _ (omega arith) few
