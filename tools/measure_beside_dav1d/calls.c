@@ -1,13 +1,16 @@
-/* Makes block calls by dav1d's own functions and by libav1_c.a in one program, compares the results, and measures the calls.
+/* Makes block calls by dav1d's own functions and by builds of the library in one program, compares the results, and measures the
+ * calls.
  *
- * calls.py compiles this file for samples of 8 bits and for samples of 16 bits (at a depth of 10), and links both with dav1d
- * and the archive. Standard input has a line for each call: its kind, the depth, the block's width and height, and the three
+ *   calls LIBRARY.so..
+ *
+ * calls.py compiles this file for samples of 8 bits and for samples of 16 bits (at a depth of 10), and links both with dav1d.
+ * It makes each LIBRARY.so of an archive, by bindings/shared.sh. Standard input has a line for each call: its kind, the depth, the block's width and height, and the three
  * numbers that add_call of library.c writes. The kind `nothing` makes no call.
  *
  * First each implementation makes each call, with four sets of drawn samples (one under callgrind). If a result differs from
  * dav1d's plain C, or the library rejects a call, the program names the call and ends with status 1. Then each call is measured:
  *
- *   under callgrind   a dump for each implementation, of one call; its name has the line and the implementation
+ *   under callgrind   a dump for each implementation, of CALLS calls; its name has the line and the implementation
  *   otherwise         a line with the ticks of the time stamp counter for CALLS calls, for each implementation: the medians
  *                     of rounds in which the implementations take turns
  *
@@ -15,12 +18,14 @@
  * measured calls include that they are cleared afterwards. */
 #include "src/library.c"
 
+#include <dlfcn.h>
 #include <valgrind/callgrind.h>
 #include <x86intrin.h>
 
-/* The implementations: dav1d's, by its masks of processor features, then the library. */
-enum { PLAIN_C, SSE, AVX2, LIBRARY, IMPLEMENTATIONS };
-static const unsigned masks[LIBRARY] = { 0, 7, 15 };
+/* The implementations: dav1d's, by its masks of processor features, then the builds of the library. */
+enum { PLAIN_C, SSE, AVX2, OWN, MOST_LIBRARIES = 8, MOST_IMPLEMENTATIONS = OWN + MOST_LIBRARIES };
+static const unsigned masks[OWN] = { 0, 7, 15 };
+extern int implementations;
 
 enum { CALLS = 4, ROUNDS = 151, SETS = 4, STRIDE = 192, AROUND = 16, ROWS = 128 + 2 * AROUND, MOST_LINES = 1 << 14 };
 
@@ -29,6 +34,7 @@ typedef struct {
     int depth, w, h, more[3];
 } call;
 
+bitfn_decls(void open_library, int number, void *handle);
 bitfn_decls(void draw, int set);
 bitfn_decls(void compare, const call *c);
 bitfn_decls(void measure, const call *c, int line);
@@ -43,7 +49,19 @@ static struct {
     Dav1dMCDSPContext mc;
     Dav1dIntraPredDSPContext intra;
     Dav1dInvTxfmDSPContext itx;
-} tables[LIBRARY];
+} tables[OWN];
+
+/* The library's calls: the name here, and the name in av1_c.h. */
+#define LIBRARY_CALLS(X) X(put, MOTION_CALL(put)) X(prep, MOTION_CALL(prep)) X(avg, CALL(mc_avg)) X(intra, CALL(predict_intra)) \
+    X(cfl_ac, CALL(cfl_ac)) X(cfl_pred, CALL(predict_cfl)) X(itx, CALL(inverse_transform_add))
+#define POINTER(name, function) __typeof__(&function) name;
+static struct { LIBRARY_CALLS(POINTER) } libraries[MOST_LIBRARIES];
+#define TEXT(x) #x
+#define FIND(name, function) libraries[number].name = (__typeof__(&function)) dlsym(handle, TEXT(function));
+
+void bitfn(open_library)(const int number, void *const handle) {
+    LIBRARY_CALLS(FIND)
+}
 
 /* ---- what calls read: samples of a plane, an edge whose corner is in the middle, values of prep, cfl_ac and coefficients */
 
@@ -134,6 +152,9 @@ static inline uint64_t now(void) {
     return end - begin; \
 } while (0)
 
+/* A function that is in a register before the measurement begins. */
+#define READY(name, function) __typeof__(function) name = function; __asm__ volatile("" : "+r"(name))
+
 /* The block's rows for dav1d, and for the library. */
 #define OWN_ROWS written.samples, STRIDE * sizeof(pixel)
 #define LIBRARY_ROWS written.samples, 128 * STRIDE, STRIDE, 0, 0
@@ -150,25 +171,33 @@ static const uint8_t filters[4][4] = { FILTERS(FILTER) };
 static uint64_t make_put(const call *const c, const int by, const int times) {
     const int w = c->w, h = c->h, mx = c->more[0] & 1 ? 5 : 0, my = c->more[0] & 2 ? 9 : 0;
     const av1_motion_block b = { (size_t) w, (size_t) h, (uint8_t) mx, (uint8_t) my, (uint8_t) c->more[1], (uint8_t) c->more[2] };
-    if (by == LIBRARY) MEASURED(status |= MOTION_CALL(put)(LIBRARY_ROWS, LIBRARY_REFERENCE, &b DEPTH_ARG));
-    const mc_fn own = tables[by].mc.mc[filters[c->more[1]][c->more[2]]];
+    if (by >= OWN) {
+        READY(library, libraries[by - OWN].put);
+        MEASURED(status |= library(LIBRARY_ROWS, LIBRARY_REFERENCE, &b DEPTH_ARG));
+    }
+    READY(own, tables[by].mc.mc[filters[c->more[1]][c->more[2]]]);
     MEASURED(own(OWN_ROWS, OWN_REFERENCE, w, h, mx, my HIGHBD_TAIL_SUFFIX));
 }
 
 static uint64_t make_prep(const call *const c, const int by, const int times) {
     const int w = c->w, h = c->h, mx = c->more[0] & 1 ? 5 : 0, my = c->more[0] & 2 ? 9 : 0;
     const av1_motion_block b = { (size_t) w, (size_t) h, (uint8_t) mx, (uint8_t) my, (uint8_t) c->more[1], (uint8_t) c->more[2] };
-    if (by == LIBRARY) MEASURED(status |= MOTION_CALL(prep)(written.values, 128 * 128, LIBRARY_REFERENCE, &b DEPTH_ARG));
-    const mct_fn own = tables[by].mc.mct[filters[c->more[1]][c->more[2]]];
+    if (by >= OWN) {
+        READY(library, libraries[by - OWN].prep);
+        MEASURED(status |= library(written.values, 128 * 128, LIBRARY_REFERENCE, &b DEPTH_ARG));
+    }
+    READY(own, tables[by].mc.mct[filters[c->more[1]][c->more[2]]]);
     MEASURED(own(written.values, OWN_REFERENCE, w, h, mx, my HIGHBD_TAIL_SUFFIX));
 }
 
 static uint64_t make_avg(const call *const c, const int by, const int times) {
     const int w = c->w, h = c->h;
     const size_t len = (size_t) (w * h);
-    if (by == LIBRARY)
-        MEASURED(status |= CALL(mc_avg)(LIBRARY_ROWS, (size_t) w, (size_t) h, values[0], len, values[1], len DEPTH_ARG));
-    const avg_fn own = tables[by].mc.avg;
+    if (by >= OWN) {
+        READY(library, libraries[by - OWN].avg);
+        MEASURED(status |= library(LIBRARY_ROWS, (size_t) w, (size_t) h, values[0], len, values[1], len DEPTH_ARG));
+    }
+    READY(own, tables[by].mc.avg);
     MEASURED(own(OWN_ROWS, values[0], values[1], w, h HIGHBD_TAIL_SUFFIX));
 }
 
@@ -193,9 +222,11 @@ static uint64_t make_intra(const call *const c, const int by, const int times) {
     b.angle_step = (int8_t) c->more[1];
     b.edge_filter = c->more[2] >> 2 & 1;
     b.smooth_neighbour = c->more[2] >> 3 & 1;
-    if (by == LIBRARY)
-        MEASURED(status |= CALL(predict_intra)(LIBRARY_ROWS, &b, corner - left_len, left_len, *corner, corner + 1, above_len));
-    const angular_ipred_fn own = tables[by].intra.intra_pred[own_kind];
+    if (by >= OWN) {
+        READY(library, libraries[by - OWN].intra);
+        MEASURED(status |= library(LIBRARY_ROWS, &b, corner - left_len, left_len, *corner, corner + 1, above_len));
+    }
+    READY(own, tables[by].intra.intra_pred[own_kind]);
     const int own_angle = angle | b.smooth_neighbour << 9 | b.edge_filter << 10;
     MEASURED(own(OWN_ROWS, corner, w, h, own_angle, 128, 128 HIGHBD_TAIL_SUFFIX));
 }
@@ -204,9 +235,11 @@ static uint64_t make_cfl_ac(const call *const c, const int by, const int times) 
     static const uint8_t layouts[4] = { DAV1D_PIXEL_LAYOUT_I444, DAV1D_PIXEL_LAYOUT_I422, 0, DAV1D_PIXEL_LAYOUT_I420 };
     const int w = c->w, h = c->h, halved = c->more[0], w_pad = c->more[1], h_pad = c->more[2];
     const av1_cfl_block b = { cfl_sizes[ctz(w) - 2][ctz(h) - 2], halved & 1, halved >> 1 & 1, (size_t) w_pad, (size_t) h_pad };
-    if (by == LIBRARY)
-        MEASURED(status |= CALL(cfl_ac)(written.values, (size_t) (w * h), samples, ROWS * STRIDE, STRIDE, 0, 0, &b ANY_DEPTH_ARG));
-    const cfl_ac_fn own = tables[by].intra.cfl_ac[layouts[halved] - 1];
+    if (by >= OWN) {
+        READY(library, libraries[by - OWN].cfl_ac);
+        MEASURED(status |= library(written.values, (size_t) (w * h), samples, ROWS * STRIDE, STRIDE, 0, 0, &b ANY_DEPTH_ARG));
+    }
+    READY(own, tables[by].intra.cfl_ac[layouts[halved] - 1]);
     MEASURED(own(written.values, samples, STRIDE * sizeof(pixel), w_pad, h_pad, w, h));
 }
 
@@ -215,9 +248,11 @@ static uint64_t make_cfl_pred(const call *const c, const int by, const int times
     const size_t len = (size_t) (w * h);
     const pixel *const corner = edge + 256;
     const av1_intra_block b = intra_block(w, h, edges & 1, edges >> 1 HIGHBD_TAIL_SUFFIX);
-    if (by == LIBRARY)
-        MEASURED(status |= CALL(predict_cfl)(LIBRARY_ROWS, &b, corner - h, (size_t) h, corner + 1, (size_t) w, ac, len, alpha));
-    const cfl_pred_fn own = tables[by].intra.cfl_pred[own_mode(DC_PRED, 0, edges)];
+    if (by >= OWN) {
+        READY(library, libraries[by - OWN].cfl_pred);
+        MEASURED(status |= library(LIBRARY_ROWS, &b, corner - h, (size_t) h, corner + 1, (size_t) w, ac, len, alpha));
+    }
+    READY(own, tables[by].intra.cfl_pred[own_mode(DC_PRED, 0, edges)]);
     MEASURED(own(OWN_ROWS, corner, w, h, ac, alpha HIGHBD_TAIL_SUFFIX));
 }
 
@@ -225,11 +260,12 @@ static uint64_t make_itx(const call *const c, const int by, const int times) {
     const int tx = tx_sizes[ctz(c->w) - 2][ctz(c->h) - 2], type = c->more[0], eob = c->more[1];
     const size_t n = length(eob, tx, type);
     for (int i = 0; i < times; i++) memcpy(written.coefficients[i], drawn_coefficients, sizeof(drawn_coefficients));
-    if (by == LIBRARY)
-        MEASURED(status |= CALL(inverse_transform_add)(&scratch, written.coefficients[i], n, LIBRARY_ROWS, (uint8_t) tx,
-                                                       (uint8_t) type DEPTH_ARG);
+    if (by >= OWN) {
+        READY(library, libraries[by - OWN].itx);
+        MEASURED(status |= library(&scratch, written.coefficients[i], n, LIBRARY_ROWS, (uint8_t) tx, (uint8_t) type DEPTH_ARG);
                  memset(written.coefficients[i], 0, n * sizeof(coef)));
-    const itxfm_fn own = tables[by].itx.itxfm_add[tx][type];
+    }
+    READY(own, tables[by].itx.itxfm_add[tx][type]);
     MEASURED(own(OWN_ROWS, written.coefficients[i], eob HIGHBD_TAIL_SUFFIX));
 }
 
@@ -239,9 +275,8 @@ static const struct { const char *name; uint64_t (*make)(const call *c, int by, 
 };
 
 static _Noreturn void fail(const call *const c, const int by, const char *const why) {
-    static const char *const names[] = { "dav1d's C", "dav1d's SSE4.1", "dav1d's AVX2", "the library" };
-    fprintf(stderr, "%s %d %d %d %d %d %d by %s: %s\n", c->kind, c->depth, c->w, c->h, c->more[0], c->more[1], c->more[2],
-            names[by], why);
+    fprintf(stderr, "%s %d %d %d %d %d %d by %s, number %d: %s\n", c->kind, c->depth, c->w, c->h, c->more[0], c->more[1],
+            c->more[2], by < OWN ? "dav1d" : "the library", by < OWN ? by : by - OWN, why);
     exit(1);
 }
 
@@ -255,7 +290,7 @@ static uint64_t make(const call *const c, const int by, const int times) {
 
 static COLD void init_tables(void) {
     init_lengths();
-    for (int by = 0; by < LIBRARY; by++) {
+    for (int by = 0; by < OWN; by++) {
         dav1d_set_cpu_flags_mask(masks[by]);
         bitfn(dav1d_mc_dsp_init)(&tables[by].mc);
         bitfn(dav1d_intra_pred_dsp_init)(&tables[by].intra);
@@ -273,7 +308,7 @@ static void prepare(const call *const c) {
 /* Compares the results of all implementations with those of dav1d's C, samples beside the block too. */
 void bitfn(compare)(const call *const c) {
     prepare(c);
-    for (int by = PLAIN_C; by < IMPLEMENTATIONS; by++) {
+    for (int by = PLAIN_C; by < implementations; by++) {
         memcpy(written.samples, samples, sizeof(written.samples));
         memset(written.values, 0, sizeof(written.values));
         make(c, by, 1);
@@ -289,28 +324,37 @@ static int compare_ticks(const void *const a, const void *const b) {
 }
 
 void bitfn(measure)(const call *const c, const int line) {
-    static uint64_t ticks[IMPLEMENTATIONS][ROUNDS];
+    static uint64_t ticks[MOST_IMPLEMENTATIONS][ROUNDS];
     char name[32];
     prepare(c);
-    for (int by = PLAIN_C; by < IMPLEMENTATIONS && RUNNING_ON_VALGRIND; by++) {
+    for (int by = PLAIN_C; by < implementations && RUNNING_ON_VALGRIND; by++) {
         snprintf(name, sizeof(name), "%d %d", line, by);
         CALLGRIND_ZERO_STATS;
-        make(c, by, 1);
+        make(c, by, CALLS);
         CALLGRIND_DUMP_STATS_AT(name);
     }
     if (RUNNING_ON_VALGRIND) return;
     for (int round = 0; round < ROUNDS; round++)
-        for (int by = PLAIN_C; by < IMPLEMENTATIONS; by++) ticks[by][round] = make(c, by, CALLS);
-    for (int by = PLAIN_C; by < IMPLEMENTATIONS; by++) {
+        for (int by = PLAIN_C; by < implementations; by++) ticks[by][round] = make(c, by, CALLS);
+    for (int by = PLAIN_C; by < implementations; by++) {
         qsort(ticks[by], ROUNDS, sizeof(**ticks), compare_ticks);
-        printf("%llu%c", (unsigned long long) ticks[by][ROUNDS / 2], by == LIBRARY ? '\n' : ' ');
+        printf("%llu%c", (unsigned long long) ticks[by][ROUNDS / 2], by == implementations - 1 ? '\n' : ' ');
     }
 }
 
 #if BITDEPTH == 8
-int main(void) {
+int implementations = OWN;
+
+int main(const int arguments, char **const paths) {
     static call calls[MOST_LINES];
     int n = 0;
+    for (int i = 1; i < arguments && i <= MOST_LIBRARIES; i++) {
+        void *const handle = dlopen(paths[i], RTLD_NOW | RTLD_LOCAL);
+        if (!handle) return fprintf(stderr, "%s\n", dlerror()), 2;
+        open_library_8bpc(i - 1, handle);
+        open_library_16bpc(i - 1, handle);
+        implementations++;
+    }
     while (n < MOST_LINES && scanf("%15s %d %d %d %d %d %d", calls[n].kind, &calls[n].depth, &calls[n].w, &calls[n].h,
                                    &calls[n].more[0], &calls[n].more[1], &calls[n].more[2]) == 7) n++;
     dav1d_init_cpu();

@@ -29,7 +29,7 @@ import build
 
 OWN = ["C", "SSE4.1", "AVX2"]
 NOTHING = ("nothing", 8, 4, 4, 0, 0, 0)
-CALLS = 4  # of calls.c: calls between two looks at the clock
+CALLS = 4  # of calls.c: calls that are measured together
 SIDES = (4, 8, 16, 32, 64)
 BOTH_EDGES, EDGE_FILTER = 3, 4
 SHARP = 2
@@ -104,10 +104,11 @@ def own_functions():
     return source
 
 
-def compiled(folder, source, archive):
-    """The program of calls.c on an archive."""
-    if not os.path.isfile(archive):
-        sys.exit(f"missing: {archive}")
+def compiled(folder, source, archives):
+    """The words that run calls.c on the archives."""
+    for archive in archives.values():
+        if not os.path.isfile(archive):
+            sys.exit(f"missing: {archive}")
     paths = [f"-I{path}" for path in (source, f"{source}/include", f"{source}/include/dav1d", f"{source}/build",
                                       f"{source}/build/include", os.path.join(TOP, "bindings/c"))]
     objects = []
@@ -116,13 +117,19 @@ def compiled(folder, source, archive):
         subprocess.run(["gcc", "-O2", "-Wall", "-D_GNU_SOURCE", f"-DBITDEPTH={bits}", "-DDAV1D_X86_CPU_FLAG_LIBRARY=256", *paths, "-c",
                         os.path.join(HERE, "calls.c"), "-o", objects[-1]], check=True)
     program = os.path.join(folder, "calls")
+    # library.c, of which only tables and settings are used here, needs an archive to link with
     subprocess.run(["gcc", *objects, f"{source}/build/src/libdav1d.a", archive, "-lm", "-lpthread", "-ldl", "-Wl,-z,now", "-o", program],
                    check=True)
-    return program
+    words = [program]
+    for name, archive in archives.items():
+        words.append(os.path.join(folder, name, "libav1_c.so"))
+        os.mkdir(os.path.dirname(words[-1]))
+        subprocess.run([os.path.join(TOP, "bindings/shared.sh"), archive, os.path.dirname(words[-1])], check=True)
+    return words
 
 
 def run(words, calls):
-    """What the program prints for these calls."""
+    """What a run of the program prints for these calls."""
     text = "".join(" ".join(map(str, call)) + "\n" for call in calls)
     done = subprocess.run(words, input=text, stdout=subprocess.PIPE, text=True, check=False)
     if done.returncode:
@@ -130,20 +137,19 @@ def run(words, calls):
     return done.stdout
 
 
-def cycles(program, calls):
+def cycles(words, calls):
     """For each call the ticks of one by each implementation."""
-    ticks = [[int(word) / CALLS for word in line.split()] for line in run([program], calls).splitlines()]
-    return net(calls, ticks)
+    return net(calls, [[int(word) for word in line.split()] for line in run(words, calls).splitlines()])
 
 
-def instructions(program, calls):
+def instructions(words, calls):
     """For each call the instructions of one by each implementation."""
     with tempfile.TemporaryDirectory() as folder:
         out = os.path.join(folder, "out")
-        run(["valgrind", "-q", "--tool=callgrind", "--collect-atstart=no", "--combine-dumps=yes", f"--callgrind-out-file={out}", program], calls)
+        run(["valgrind", "-q", "--tool=callgrind", "--collect-atstart=no", "--combine-dumps=yes", f"--callgrind-out-file={out}", *words], calls)
         with open(out, encoding="utf-8", errors="replace") as file:
             parts = file.read().split("\ndesc: Trigger: Client Request: ")[1:]
-    counts = [[0] * (len(OWN) + 1) for _ in calls]
+    counts = [[0] * (len(OWN) + len(words) - 1) for _ in calls]
     for part in parts:
         line, by = map(int, part.split("\n", 1)[0].split())
         counts[line][by] = int(re.search(r"^(?:summary|totals): (\d+)", part, re.M)[1])
@@ -151,14 +157,9 @@ def instructions(program, calls):
 
 
 def net(calls, measured):
-    """By call, without what the empty call takes."""
+    """By call, one of the calls that were measured together, without what empty calls take."""
     by_call = dict(zip(calls, measured))
-    return {call: [all_of_it - empty for all_of_it, empty in zip(taken, by_call[NOTHING])] for call, taken in by_call.items()}
-
-
-def merged(runs):
-    """dav1d's three figures of the last run, then the library's of each."""
-    return {call: runs[-1][call][:-1] + [run[call][-1] for run in runs] for call in runs[-1]}
+    return {call: [(whole - empty) / CALLS for whole, empty in zip(taken, by_call[NOTHING])] for call, taken in by_call.items()}
 
 
 def sums(mix, measured):
@@ -197,13 +198,9 @@ def main():
     archives = dict(word.split("=", 1) for word in options.archives)
     source, mix = own_functions(), recorded()
     calls = list(dict.fromkeys([NOTHING, *(call for _, call in table_calls()), *mix]))
-    counts, ticks = [], []
     with tempfile.TemporaryDirectory() as folder:
-        for archive in archives.values():
-            program = compiled(folder, source, archive)
-            ticks.append(cycles(program, calls))
-            counts.append(instructions(program, calls))
-    counts, ticks = merged(counts), merged(ticks)
+        words = compiled(folder, source, archives)
+        ticks, counts = cycles(words, calls), instructions(words, calls)
     written(options.out, archives, counts, ticks, mix)
     for what, measured in (("instructions", counts), ("cycles", ticks)):
         for title, depths, number, millions in sums(mix, measured):
