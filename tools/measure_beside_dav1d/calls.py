@@ -175,7 +175,8 @@ def written(path, names, counts, ticks, mix):
     """Writes the table."""
     columns = [*OWN, *names]
     with open(path, "w", encoding="utf-8") as file:
-        print("call", "depth", "size", *columns, *(f"{column}, cycles" for column in columns), sep="\t", file=file)
+        heads = [f"{column}, {what}" for what in ("instructions", "cycles") for column in columns]
+        print("call", "depth", "size", *heads, sep="\t", file=file)
         for title, call in table_calls():
             figures = [f"{figure:.0f}" for figure in (*counts[call], *ticks[call])]
             print(title, call[1], f"{call[2]}x{call[3]}", *figures, sep="\t", file=file)
