@@ -4,11 +4,13 @@
  * 16 bits. Each function has the type of an entry of dav1d's tables (src/mc.h, src/ipred.h, src/itx.h). The comment
  * before it names the entries that it fills, and what it copies or converts.
  *
- *   LIBRARY_CALLS=FILE   appends a line for each kind of call: its name, the calls and their samples. Names that begin
- *                        with own_ are functions that dav1d keeps. Only for one thread
+ *   LIBRARY_CALLS=FILE   appends a line for each call: its name, 8 or 16 (bits of a sample), the block's width and height,
+ *                        and three numbers that say more about the call (see count_as). Names that begin with own_ are
+ *                        functions that dav1d keeps
  *   LIBRARY_REGIONS=1    makes each call on a copy of the block, so that no call gets samples beside its block */
 #include "config.h"
 
+#include <fcntl.h>
 #include <stdio.h>
 #include <stdlib.h>
 #include <string.h>
@@ -49,35 +51,38 @@ static _Thread_local pixel ALIGN(window[WINDOW_LEN], 64);
 
 /* ---- settings, counts and statuses */
 
-static const char *calls_file;
+static int calls_file = -1;
 static int by_regions;
 static unsigned rejected[64];
-static struct { const char *name; unsigned long long calls, samples; } counts[64];
 
 /* Returns whether dav1d's mask of processor features has the library, after reading the settings. */
 static COLD int is_chosen(void) {
-    calls_file = getenv("LIBRARY_CALLS");
+    const char *const path = getenv("LIBRARY_CALLS");
+    if (path && calls_file < 0) calls_file = open(path, O_WRONLY | O_CREAT | O_APPEND, 0644);
     by_regions = getenv("LIBRARY_REGIONS") != NULL;
     return !!(dav1d_get_cpu_flags() & DAV1D_X86_CPU_FLAG_LIBRARY);
 }
 
-static NOINLINE void add_call(const char *const name, const int samples) {
-    int i = 0;
-    while (counts[i].name && strcmp(counts[i].name, name)) i++;
-    counts[i].name = name;
-    counts[i].calls++;
-    counts[i].samples += samples;
+/* Writes the line of a call. The three numbers are, by name:
+ *   put, prep  1: a fraction along rows, 2: one down columns, 3: both; the filter along rows; the filter down columns
+ *   intra      the mode; its steps of 3 degrees; 1: a left edge, 2: an edge above, 4: the edge filter, 8: a smooth neighbour
+ *   cfl_ac     1: half of luma's columns, 2: of its rows, 3: of both; units of 4 columns without luma; units of 4 rows
+ *   cfl_pred   0; 0; 1: a left edge, 2: an edge above, 3: both
+ *   itx        the type; the end of block; 0
+ * and 0 for all others. */
+static NOINLINE void add_call(const char *const name, const int w, const int h, const int a, const int b, const int c) {
+    dprintf(calls_file, "%s %d %d %d %d %d %d\n", name, BITDEPTH, w, h, a, b, c);
+}
+
+static inline void count_as(const char *const name, const int w, const int h, const int a, const int b, const int c) {
+    if (calls_file >= 0) add_call(name, w, h, a, b, c);
 }
 
 static inline void count(const char *const name, const int w, const int h) {
-    if (calls_file) add_call(name, w * h);
+    count_as(name, w, h, 0, 0, 0);
 }
 
 __attribute__((destructor)) static void report(void) {
-    FILE *const file = calls_file ? fopen(calls_file, "a") : NULL;
-    for (int i = 0; file && counts[i].name; i++)
-        fprintf(file, "%s %llu %llu\n", counts[i].name, counts[i].calls, counts[i].samples);
-    if (file) fclose(file);
     for (int status = 1; status < 64; status++)
         if (rejected[status])
             fprintf(stderr, "library: %u calls rejected with status %d\n", rejected[status], status);
@@ -159,7 +164,7 @@ static ALWAYS_INLINE void put(pixel *const dst, const ptrdiff_t dst_stride, cons
     const pixel *const from = reference(src, &stride, w, h, mx, my, fx);
     const rows to = rows_of(dst, PXSTRIDE(dst_stride), w, h);
     const av1_motion_block b = { (size_t) w, (size_t) h, (uint8_t) mx, (uint8_t) my, fx, fy };
-    count("put", w, h);
+    count_as("put", w, h, (mx ? 1 : 0) | (my ? 2 : 0), fx, fy);
     finish(MOTION_CALL(put)(to.at, to.len, to.stride, 0, 0, from, (size_t) (stride * (h + 7)), (size_t) stride, 3, 3,
                             &b DEPTH_ARG), dst, PXSTRIDE(dst_stride), w, h);
 }
@@ -172,7 +177,7 @@ static ALWAYS_INLINE void prep(int16_t *const tmp, const pixel *const src, const
     ptrdiff_t stride = PXSTRIDE(src_stride);
     const pixel *const from = reference(src, &stride, w, h, mx, my, fx);
     const av1_motion_block b = { (size_t) w, (size_t) h, (uint8_t) mx, (uint8_t) my, fx, fy };
-    count("prep", w, h);
+    count_as("prep", w, h, (mx ? 1 : 0) | (my ? 2 : 0), fx, fy);
     check(MOTION_CALL(prep)(tmp, (size_t) (w * h), from, (size_t) (stride * (h + 7)), (size_t) stride, 3, 3, &b DEPTH_ARG));
 }
 
@@ -218,7 +223,8 @@ static void predict(pixel *const dst, const ptrdiff_t dst_stride, const av1_intr
                     const int above_len, const int w, const int h)
 {
     const rows to = rows_of(dst, PXSTRIDE(dst_stride), w, h);
-    count("intra", w, h);
+    count_as("intra", w, h, b->mode, b->angle_step,
+             b->has_left | b->has_above << 1 | b->edge_filter << 2 | b->smooth_neighbour << 3);
     finish(CALL(predict_intra)(to.at, to.len, to.stride, 0, 0, b, left, (size_t) left_len, corner, above,
                                (size_t) above_len), dst, PXSTRIDE(dst_stride), w, h);
 }
@@ -296,12 +302,14 @@ static decl_angular_ipred_fn(library_z3) {
     predict(dst, stride, &b, left, width + height, *topleft, topleft + 1, 0, width, height);
 }
 
+/* The number of a chroma block by the logarithms of a quarter of its sides; 255 if there is none. */
+static const uint8_t cfl_sizes[4][4] = { { 0, 1, 16, 255 }, { 2, 3, 4, 18 }, { 17, 5, 6, 7 }, { 255, 19, 8, 9 } };
+
 /* cfl_ac[]: finds the size's number from the sides. At 16 bits dav1d doesn't pass the depth; at 12 the values are the same. */
 static ALWAYS_INLINE void cfl_ac(int16_t *const ac, const pixel *luma, const ptrdiff_t luma_stride, const int w_pad,
                                  const int h_pad, const int w, const int h, const int xdec, const int ydec)
 {
-    static const uint8_t sizes[4][4] = { { 0, 1, 16, 255 }, { 2, 3, 4, 18 }, { 17, 5, 6, 7 }, { 255, 19, 8, 9 } };
-    const av1_cfl_block b = { sizes[ctz(w) - 2][ctz(h) - 2], (uint8_t) xdec, (uint8_t) ydec, (size_t) w_pad, (size_t) h_pad };
+    const av1_cfl_block b = { cfl_sizes[ctz(w) - 2][ctz(h) - 2], (uint8_t) xdec, (uint8_t) ydec, (size_t) w_pad, (size_t) h_pad };
     const int columns = imin(w << xdec, imax((w - 4 * w_pad) << xdec, 8));
     const int luma_rows = imin(h << ydec, imax((h - 4 * h_pad) << ydec, 8));
     ptrdiff_t stride = PXSTRIDE(luma_stride);
@@ -310,7 +318,7 @@ static ALWAYS_INLINE void cfl_ac(int16_t *const ac, const pixel *luma, const ptr
         luma = window;
         stride = columns;
     }
-    count("cfl_ac", w, h);
+    count_as("cfl_ac", w, h, xdec | ydec << 1, w_pad, h_pad);
     check(CALL(cfl_ac)(ac, (size_t) (w * h), luma, (size_t) (stride * luma_rows), (size_t) stride, 0, 0, &b ANY_DEPTH_ARG));
 }
 
@@ -325,7 +333,7 @@ CFL_AC(444, 0, 0)
 static decl_cfl_pred_fn(library_cfl_##name) { \
     const av1_intra_block b = intra_block(width, height, has_left, has_above HIGHBD_TAIL_SUFFIX); \
     const rows to = rows_of(dst, PXSTRIDE(stride), width, height); \
-    count("cfl_pred", width, height); \
+    count_as("cfl_pred", width, height, 0, 0, has_left | has_above << 1); \
     finish(CALL(predict_cfl)(to.at, to.len, to.stride, 0, 0, &b, topleft - height, (size_t) height, topleft + 1, \
                              (size_t) width, ac, (size_t) (width * height), (int16_t) alpha), \
            dst, PXSTRIDE(stride), width, height); \
@@ -368,7 +376,7 @@ static NOINLINE void itx(pixel *const dst, const ptrdiff_t dst_stride, coef *con
     const rows to = rows_of(dst, stride, w, h);
     const size_t n = length(eob, tx, type);
     if (needs_copy(stride)) load(block_copy, BLOCK_LEN, dst, stride, w, h);
-    count("itx", w, h);
+    count_as("itx", w, h, type, eob, 0);
     finish(CALL(inverse_transform_add)(&scratch, coeff, n, to.at, to.len, to.stride, 0, 0, (uint8_t) tx,
                                        (uint8_t) type DEPTH_ARG), dst, stride, w, h);
     memset(coeff, 0, n * sizeof(*coeff));
@@ -476,7 +484,7 @@ COLD void bitfn(library_mc_init)(Dav1dMCDSPContext *const c) {
     c->mct[FILTER_2D_##name] = library_prep_##name;
     FILTERS(SET_MOTION)
     c->avg = library_avg;
-    if (calls_file) count_own_mc(c);
+    if (calls_file >= 0) count_own_mc(c);
 }
 
 COLD void bitfn(library_ipred_init)(Dav1dIntraPredDSPContext *const c) {
@@ -501,7 +509,7 @@ COLD void bitfn(library_ipred_init)(Dav1dIntraPredDSPContext *const c) {
     c->cfl_pred[DC_128_PRED] = library_cfl_dc_128;
     c->cfl_pred[TOP_DC_PRED] = library_cfl_dc_top;
     c->cfl_pred[LEFT_DC_PRED] = library_cfl_dc_left;
-    if (!calls_file) return;
+    if (calls_file < 0) return;
     own_intra = *c;
     c->intra_pred[FILTER_PRED] = own_filter_intra;
     c->pal_pred = own_palette;
