@@ -7,11 +7,11 @@ set -eu
 c=$(cd "$(dirname "$0")/c" && pwd)
 # number PART: that part of the version
 number() {
-    sed -n "s/^#define AV1_C_VERSION_$1 //p" "$c/av1_c.h"
+    sed -n "s/^#define TILG_VERSION_$1 //p" "$c/tilgwaren.h"
 }
-name=libav1_c.so.$(number MAJOR).$(number MINOR)
+name=libtilgwaren.so.$(number MAJOR).$(number MINOR)
 file=$name.$(number PATCH)
-gcc -shared -s -o "$2/$file" -Wl,--whole-archive "$1" -Wl,--no-whole-archive -Wl,-soname,"$name" -Wl,--version-script="$c/av1_c.map" \
+gcc -shared -s -o "$2/$file" -Wl,--whole-archive "$1" -Wl,--no-whole-archive -Wl,-soname,"$name" -Wl,--version-script="$c/tilgwaren.map" \
     -Wl,-z,defs -Wl,-z,relro -Wl,-z,now -Wl,-z,noexecstack
 ln -sf "$file" "$2/$name"
-ln -sf "$name" "$2/libav1_c.so"
+ln -sf "$name" "$2/libtilgwaren.so"

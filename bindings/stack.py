@@ -10,8 +10,8 @@ what functions of the C library take (the output lists them). It fails if it can
 the functions in NESTED), at a call by a pointer, and at a frame without a fixed length.
 
 `c/stack.c` makes each call with many arguments and measures how deep it goes, which must not exceed the bound. The output
-has for each call the bound and the measured depth, in bytes. With --check the bound must not exceed what the comment on
-the stack in `c/av1_c.h` says. The status is 1 if a check fails. It needs gcc and binutils.
+has for each call the bound and the measured depth, in bytes. With --check the bound must not exceed what the table in
+docs/LIBRARY.md says. The status is 1 if a check fails. It needs gcc and binutils.
 """
 import pathlib
 import re
@@ -146,7 +146,7 @@ class Function:
 def on_the_stack():
     """The bytes of the arguments of each call that are passed on the stack: all behind the sixth."""
     text = (HERE / "c" / "declared.c").read_text("utf8")
-    counts = {name: listed.count(",") + 1 for name, listed in re.findall(r"^uint32_t (av1_\w+)\((.*?)\);", text, re.M | re.S)}
+    counts = {name: listed.count(",") + 1 for name, listed in re.findall(r"^(?:tilg_status|uint32_t) (tilg_\w+)\((.*?)\);", text, re.M | re.S)}
     return {name: -(-max(0, count - 6) // 2) * 2 * WORD for name, count in counts.items()}
 
 
@@ -165,7 +165,7 @@ def functions_of(archive):
     with tempfile.TemporaryDirectory() as work:
         library = work + "/library.so"
         subprocess.run(["gcc", "-shared", "-o", library, "-Wl,--whole-archive", archive, "-Wl,--no-whole-archive",
-                        "-Wl,--version-script=%s" % (HERE / "c" / "av1_c.map")], check=True)
+                        "-Wl,--version-script=%s" % (HERE / "c" / "tilgwaren.map")], check=True)
         told = subprocess.run(["objdump", "-d", "--no-show-raw-insn", library], check=True, capture_output=True, text=True)
     functions, function = {}, None
     for line in told.stdout.splitlines():
@@ -210,15 +210,12 @@ class Stack:
 
 
 def stated():
-    """What the header says of each call."""
-    text = (HERE / "c" / "av1_c.h").read_text("utf8")
-    part = re.search(r"/\* Stack: .*?\*/", text, re.S)
+    """What docs/LIBRARY.md says of each call."""
+    text = (HERE.parent / "docs" / "LIBRARY.md").read_text("utf8")
     said, bytes_of = {}, 0
-    for line in part[0].splitlines() if part else []:
-        match = re.match(r"^ \* +([\d,]+)? +(av1_[\w, ]+?)(?: \*/)?$", line)
-        if match:
-            bytes_of = int(match[1].replace(",", "")) if match[1] else bytes_of
-            said.update({name.strip(): bytes_of for name in match[2].split(",") if name.strip()})
+    for bytes_more, names in re.findall(r"^    +([\d,]+)? +(tilg_[\w, ]+)$", text, re.M):
+        bytes_of = int(bytes_more.replace(",", "")) if bytes_more else bytes_of
+        said.update({name.strip(): bytes_of for name in names.split(",") if name.strip()})
     return said
 
 
@@ -230,7 +227,7 @@ def main():
     stack = Stack(functions_of(words[0]))
     taken = {name: passed[name] + WORD + stack.of(name) + RED_ZONE for name in passed}
     said = stated() if "--check" in sys.argv[1:] else taken
-    faults = {name: "more than the header says: correct the table in bindings/c/av1_c.h" for name in taken if taken[name] > said.get(name, 0)}
+    faults = {name: "more than the page says: correct the table in docs/LIBRARY.md" for name in taken if taken[name] > said.get(name, 0)}
     faults.update({name: "measured deeper than the bound" for name in taken if went[name] > taken[name]})
     print("bound and measured depth, in bytes")
     for name in sorted(taken):

@@ -1,5 +1,5 @@
 /* Predicts blocks by every intra mode in samples of its own, and calls as the header says not to. */
-#include "av1_c.h"
+#include "tilgwaren.h"
 
 #include <stdio.h>
 #include <stdlib.h>
@@ -32,19 +32,19 @@ static uint8_t *bytes_of(const uint16_t *samples, size_t len) {
 }
 
 /* The mode by which a block is predicted: Paeth has fewer neighbours at a missing side. */
-static unsigned effective(const av1_intra_block *b) {
+static unsigned effective(const tilg_intra_block *b) {
     if (b->mode != 12) return b->mode;
     return b->has_left ? (b->has_above ? 12 : 2) : (b->has_above ? 1 : 0);
 }
 
-static size_t places_left(const av1_intra_block *b, unsigned mode) {
+static size_t places_left(const tilg_intra_block *b, unsigned mode) {
     size_t w = widths[b->tx_size], h = heights[b->tx_size];
     int p = angles[mode % MODES] + 3 * b->angle_step;
     if (mode == 0 || mode == LUMA) return b->has_left ? h : 0;
     return mode > 8 ? h : p <= 90 ? 0 : p <= 180 ? h : h + w;
 }
 
-static size_t places_above(const av1_intra_block *b, unsigned mode) {
+static size_t places_above(const tilg_intra_block *b, unsigned mode) {
     size_t w = widths[b->tx_size], h = heights[b->tx_size];
     int p = angles[mode % MODES] + 3 * b->angle_step;
     if (mode == 0 || mode == LUMA) return b->has_above ? w : 0;
@@ -52,7 +52,7 @@ static size_t places_above(const av1_intra_block *b, unsigned mode) {
 }
 
 /* What a sample is by the modes that need no more than a line: -1 for others. */
-static long expected(const av1_intra_block *b, unsigned mode, const uint16_t *left, size_t left_len, const uint16_t *above, size_t r, size_t c) {
+static long expected(const tilg_intra_block *b, unsigned mode, const uint16_t *left, size_t left_len, const uint16_t *above, size_t r, size_t c) {
     size_t w = widths[b->tx_size], h = heights[b->tx_size];
     int p = angles[mode % MODES] + 3 * b->angle_step;
     if (mode == 0) {
@@ -67,7 +67,7 @@ static long expected(const av1_intra_block *b, unsigned mode, const uint16_t *le
 }
 
 /* One block: what is predicted in bytes is what is predicted in samples of 16 bits, all within the depth, and all else stays. */
-static void block(av1_intra_block b) {
+static void block(tilg_intra_block b) {
     unsigned mode = effective(&b), depth = b.bit_depth;
     size_t w = widths[b.tx_size], h = heights[b.tx_size], stride = BEFORE + w + AFTER, len = stride * (1 + h);
     size_t left_len = places_left(&b, mode), above_len = places_above(&b, mode);
@@ -75,12 +75,12 @@ static void block(av1_intra_block b) {
     uint16_t *left = some_samples(left_len, depth), *above = some_samples(above_len, depth), *corner = some_samples(1, depth);
     for (size_t i = 0; i < len; i++) samples[i] = old[i];
     if (left_len)
-        CHECK(av1_predict_intra_16(samples, len, stride, BEFORE, 1, &b, left, left_len - 1, *corner, above, above_len) == AV1_TOO_SHORT);
+        CHECK(tilg_predict_intra_16(samples, len, stride, BEFORE, 1, &b, left, left_len - 1, *corner, above, above_len) == TILG_TOO_SHORT);
     if (above_len)
-        CHECK(av1_predict_intra_16(samples, len, stride, BEFORE, 1, &b, left, left_len, *corner, above, above_len - 1) == AV1_TOO_SHORT);
-    CHECK(av1_predict_intra_16(samples, len - 1, stride, BEFORE, 1, &b, left, left_len, *corner, above, above_len) == AV1_BAD_AREA);
+        CHECK(tilg_predict_intra_16(samples, len, stride, BEFORE, 1, &b, left, left_len, *corner, above, above_len - 1) == TILG_TOO_SHORT);
+    CHECK(tilg_predict_intra_16(samples, len - 1, stride, BEFORE, 1, &b, left, left_len, *corner, above, above_len) == TILG_BAD_AREA);
     for (size_t i = 0; i < len; i++) CHECK(samples[i] == old[i]);
-    CHECK(av1_predict_intra_16(samples, len, stride, BEFORE, 1, &b, left, left_len, *corner, above, above_len) == AV1_DONE);
+    CHECK(tilg_predict_intra_16(samples, len, stride, BEFORE, 1, &b, left, left_len, *corner, above, above_len) == TILG_DONE);
     for (size_t i = 0; i < len; i++) {
         size_t y = i / stride, x = i % stride;
         if (y < 1 || x < BEFORE || x >= BEFORE + w) {
@@ -92,7 +92,7 @@ static void block(av1_intra_block b) {
     }
     if (depth == 8) {
         uint8_t *bytes = bytes_of(old, len), *left_bytes = bytes_of(left, left_len), *above_bytes = bytes_of(above, above_len);
-        CHECK(av1_predict_intra_8(bytes, len, stride, BEFORE, 1, &b, left_bytes, left_len, (uint8_t)*corner, above_bytes, above_len) == AV1_DONE);
+        CHECK(tilg_predict_intra_8(bytes, len, stride, BEFORE, 1, &b, left_bytes, left_len, (uint8_t)*corner, above_bytes, above_len) == TILG_DONE);
         for (size_t i = 0; i < len; i++) CHECK(bytes[i] == samples[i]);
         free(bytes), free(left_bytes), free(above_bytes);
     }
@@ -100,7 +100,7 @@ static void block(av1_intra_block b) {
 }
 
 /* Chroma from luma, against its definition. */
-static void from_luma(av1_intra_block b, int16_t alpha) {
+static void from_luma(tilg_intra_block b, int16_t alpha) {
     unsigned depth = b.bit_depth;
     size_t w = widths[b.tx_size], h = heights[b.tx_size], len = w * h, left_len = places_left(&b, LUMA), above_len = places_above(&b, LUMA);
     uint16_t *samples = some_samples(len, depth), *left = some_samples(left_len, depth), *above = some_samples(above_len, depth);
@@ -108,8 +108,8 @@ static void from_luma(av1_intra_block b, int16_t alpha) {
     int16_t *ac = malloc(len * sizeof *ac);
     CHECK(ac);
     for (size_t i = 0; i < len; i++) ac[i] = (int16_t)(8 * ((int)luma[i] - (1 << (depth - 1))));
-    CHECK(av1_predict_cfl_16(samples, len, w, 0, 0, &b, left, left_len, above, above_len, ac, len - 1, alpha) == AV1_TOO_SHORT);
-    CHECK(av1_predict_cfl_16(samples, len, w, 0, 0, &b, left, left_len, above, above_len, ac, len, alpha) == AV1_DONE);
+    CHECK(tilg_predict_cfl_16(samples, len, w, 0, 0, &b, left, left_len, above, above_len, ac, len - 1, alpha) == TILG_TOO_SHORT);
+    CHECK(tilg_predict_cfl_16(samples, len, w, 0, 0, &b, left, left_len, above, above_len, ac, len, alpha) == TILG_DONE);
     for (size_t i = 0; i < len; i++) {
         long product = (long)alpha * ac[i], size = (labs(product) + 32) / 64, most = (1L << depth) - 1;
         long is = expected(&b, 0, left, left_len, above, 0, 0) + (product < 0 ? -size : size);
@@ -118,44 +118,44 @@ static void from_luma(av1_intra_block b, int16_t alpha) {
     free(samples), free(left), free(above), free(luma), free(ac);
 }
 
-static void refusals(av1_intra_block b) {
+static void refusals(tilg_intra_block b) {
     uint8_t samples[16] = {0}, side[8] = {0};
-    av1_intra_block other = b;
+    tilg_intra_block other = b;
     other.mode = LUMA;
-    CHECK(av1_predict_intra_8(samples, 16, 4, 0, 0, &other, side, 8, 0, side, 8) == AV1_BAD_MODE);
+    CHECK(tilg_predict_intra_8(samples, 16, 4, 0, 0, &other, side, 8, 0, side, 8) == TILG_BAD_MODE);
     other = b, other.tx_size = SIZES;
-    CHECK(av1_predict_intra_8(samples, 16, 4, 0, 0, &other, side, 8, 0, side, 8) == AV1_BAD_SIZE);
+    CHECK(tilg_predict_intra_8(samples, 16, 4, 0, 0, &other, side, 8, 0, side, 8) == TILG_BAD_SIZE);
     other = b, other.angle_step = -1;
-    CHECK(av1_predict_intra_8(samples, 16, 4, 0, 0, &other, side, 8, 0, side, 8) == AV1_BAD_ANGLE);
+    CHECK(tilg_predict_intra_8(samples, 16, 4, 0, 0, &other, side, 8, 0, side, 8) == TILG_BAD_ANGLE);
     other = b, other.mode = 1, other.angle_step = 4;
-    CHECK(av1_predict_intra_8(samples, 16, 4, 0, 0, &other, side, 8, 0, side, 8) == AV1_BAD_ANGLE);
+    CHECK(tilg_predict_intra_8(samples, 16, 4, 0, 0, &other, side, 8, 0, side, 8) == TILG_BAD_ANGLE);
     other = b, other.bit_depth = 10;
-    CHECK(av1_predict_intra_8(samples, 16, 4, 0, 0, &other, side, 8, 0, side, 8) == AV1_BAD_DEPTH);
-    CHECK(av1_predict_intra_8(samples, 16, 0, 0, 0, &b, side, 8, 0, side, 8) == AV1_BAD_AREA);
-    CHECK(av1_predict_intra_8(samples, 16, 4, 1, 0, &b, side, 8, 0, side, 8) == AV1_BAD_AREA);
-    CHECK(av1_predict_intra_8(samples, 16, 4, 0, SIZE_MAX, &b, side, 8, 0, side, 8) == AV1_BAD_AREA);
-    CHECK(av1_predict_intra_8(samples, 16, SIZE_MAX, SIZE_MAX, 0, &b, side, 8, 0, side, 8) == AV1_BAD_AREA);
-    CHECK(av1_predict_intra_8(NULL, 0, 4, 0, 0, &b, side, 8, 0, side, 8) == AV1_BAD_AREA);
-    CHECK(av1_predict_intra_8(samples, 16, 4, 0, 0, &b, NULL, 0, 0, NULL, 0) == AV1_TOO_SHORT);
+    CHECK(tilg_predict_intra_8(samples, 16, 4, 0, 0, &other, side, 8, 0, side, 8) == TILG_BAD_DEPTH);
+    CHECK(tilg_predict_intra_8(samples, 16, 0, 0, 0, &b, side, 8, 0, side, 8) == TILG_BAD_AREA);
+    CHECK(tilg_predict_intra_8(samples, 16, 4, 1, 0, &b, side, 8, 0, side, 8) == TILG_BAD_AREA);
+    CHECK(tilg_predict_intra_8(samples, 16, 4, 0, SIZE_MAX, &b, side, 8, 0, side, 8) == TILG_BAD_AREA);
+    CHECK(tilg_predict_intra_8(samples, 16, SIZE_MAX, SIZE_MAX, 0, &b, side, 8, 0, side, 8) == TILG_BAD_AREA);
+    CHECK(tilg_predict_intra_8(NULL, 0, 4, 0, 0, &b, side, 8, 0, side, 8) == TILG_BAD_AREA);
+    CHECK(tilg_predict_intra_8(samples, 16, 4, 0, 0, &b, NULL, 0, 0, NULL, 0) == TILG_TOO_SHORT);
 }
 
 /* A block of 4x4 in the middle of a plane of 12x12, predicted straight down from the edge that is prepared there: by two calls, and by one. */
 static void from_its_plane(void) {
-    uint8_t samples[144], other[144], edge[AV1_EDGE_SAMPLES];
-    av1_edge_plane plane = {.stride = 12, .width = 12, .height = 12, .tile_width = 12, .tile_height = 12};
-    av1_edge_block at = {.x = 4, .y = 4, .cell_x = 1, .cell_y = 1, .mode = 1, .bit_depth = 8};
-    av1_intra_block b = {.mode = 1, .bit_depth = 8, .has_left = 1, .has_above = 1};
+    uint8_t samples[144], other[144], edge[TILG_EDGE_SAMPLES];
+    tilg_edge_plane plane = {.stride = 12, .width = 12, .height = 12, .tile_width = 12, .tile_height = 12};
+    tilg_edge_block at = {.x = 4, .y = 4, .cell_x = 1, .cell_y = 1, .mode = 1, .bit_depth = 8};
+    tilg_intra_block b = {.mode = 1, .bit_depth = 8, .has_left = 1, .has_above = 1};
     for (size_t i = 0; i < 144; i++) samples[i] = other[i] = (uint8_t)i;
-    CHECK(av1_intra_edge_8(edge, sizeof edge - 1, samples, 144, &plane, &at) == AV1_ROOM_TOO_SMALL);
-    CHECK(av1_intra_edge_8(edge, sizeof edge, samples, 143, &plane, &at) == AV1_BAD_AREA);
-    CHECK(av1_intra_edge_8(edge, sizeof edge, samples, 144, &plane, &at) == AV1_DONE);
-    CHECK(av1_predict_intra_8(samples, 144, 12, 4, 4, &b, edge, 128, edge[128], edge + 129, 128) == AV1_DONE);
+    CHECK(tilg_intra_edge_8(edge, sizeof edge - 1, samples, 144, &plane, &at) == TILG_ROOM_TOO_SMALL);
+    CHECK(tilg_intra_edge_8(edge, sizeof edge, samples, 143, &plane, &at) == TILG_BAD_AREA);
+    CHECK(tilg_intra_edge_8(edge, sizeof edge, samples, 144, &plane, &at) == TILG_DONE);
+    CHECK(tilg_predict_intra_8(samples, 144, 12, 4, 4, &b, edge, 128, edge[128], edge + 129, 128) == TILG_DONE);
     for (size_t i = 0; i < 144; i++) {
         size_t y = i / 12, x = i % 12;
         CHECK(samples[i] == (x >= 4 && x < 8 && y >= 4 && y < 8 ? 36 + x : i));
     }
-    CHECK(av1_predict_in_plane_8(other, 143, &plane, &at, 0, NULL, 0, 0) == AV1_BAD_AREA);
-    CHECK(av1_predict_in_plane_8(other, 144, &plane, &at, 0, NULL, 0, 0) == AV1_DONE);
+    CHECK(tilg_predict_in_plane_8(other, 143, &plane, &at, 0, NULL, 0, 0) == TILG_BAD_AREA);
+    CHECK(tilg_predict_in_plane_8(other, 144, &plane, &at, 0, NULL, 0, 0) == TILG_DONE);
     for (size_t i = 0; i < 144; i++) CHECK(other[i] == samples[i]);
 }
 
@@ -163,51 +163,20 @@ static void from_its_plane(void) {
 static void from_luma_in_its_plane(void) {
     uint16_t samples[144];
     int16_t ac[16];
-    av1_edge_plane plane = {.stride = 12, .width = 12, .height = 12, .tile_width = 12, .tile_height = 12};
-    av1_edge_block at = {.x = 4, .y = 4, .cell_x = 1, .cell_y = 1, .mode = AV1_FROM_LUMA, .bit_depth = 10};
+    tilg_edge_plane plane = {.stride = 12, .width = 12, .height = 12, .tile_width = 12, .tile_height = 12};
+    tilg_edge_block at = {.x = 4, .y = 4, .cell_x = 1, .cell_y = 1, .mode = TILG_UV_CFL_PRED, .bit_depth = 10};
     for (size_t i = 0; i < 144; i++) samples[i] = 500;
     for (size_t i = 0; i < 16; i++) ac[i] = 64;
-    CHECK(av1_predict_in_plane_16(samples, 144, &plane, &at, 0, ac, 15, 8) == AV1_TOO_SHORT);
-    CHECK(av1_predict_in_plane_16(samples, 144, &plane, &at, 0, ac, 16, 0) == AV1_DONE);
+    CHECK(tilg_predict_in_plane_16(samples, 144, &plane, &at, 0, ac, 15, 8) == TILG_TOO_SHORT);
+    CHECK(tilg_predict_in_plane_16(samples, 144, &plane, &at, 0, ac, 16, 0) == TILG_DONE);
     for (size_t i = 0; i < 144; i++) CHECK(samples[i] == 500);
-    CHECK(av1_predict_in_plane_16(samples, 144, &plane, &at, 0, ac, 16, 8) == AV1_DONE);
+    CHECK(tilg_predict_in_plane_16(samples, 144, &plane, &at, 0, ac, 16, 8) == TILG_DONE);
     for (size_t i = 0; i < 144; i++) {
         size_t y = i / 12, x = i % 12;
         CHECK(samples[i] == (x >= 4 && x < 8 && y >= 4 && y < 8 ? 508 : 500));
     }
-    at.mode = AV1_ANY_MODE;
-    CHECK(av1_predict_in_plane_16(samples, 144, &plane, &at, 0, ac, 16, 8) == AV1_BAD_MODE);
-}
-
-/* Each mode turns to seven angles, 3 degrees apart, or to none but 0. */
-static void angle_steps(void) {
-    for (unsigned mode = 0; mode < 256; mode++)
-        for (size_t angle = 0; angle < 300; angle++) {
-            int8_t step = 77;
-            uint32_t status = av1_angle_step(&step, (uint8_t)mode, angle);
-            int turned = mode < MODES ? (int)angle - angles[mode] : 0, most = mode >= 1 && mode <= 8 ? 9 : 0;
-            int found = mode < MODES && turned % 3 == 0 && turned >= -most && turned <= most;
-            CHECK(status == (mode >= MODES ? AV1_BAD_MODE : found ? AV1_DONE : AV1_BAD_ANGLE));
-            CHECK(step == (found ? turned / 3 : 77));
-        }
-    int8_t step = 77;
-    CHECK(av1_angle_step(&step, 1, SIZE_MAX) == AV1_BAD_ANGLE && step == 77);
-}
-
-/* Whether a neighbour is smooth, as the specification's get_filter_type has it. */
-static int is_smooth(unsigned mode, int chroma, int inter) { return mode >= 9 && mode <= 11 && !(chroma && inter); }
-
-static void smooth_neighbours(void) {
-    for (unsigned above = 0; above < 256; above++)
-        for (unsigned left = 0; left < 256; left++)
-            for (unsigned flags = 0; flags < 8; flags++) {
-                int chroma = flags & 1, above_inter = flags >> 1 & 1, left_inter = flags >> 2;
-                av1_neighbours of = {(uint8_t)(2 * chroma), (uint8_t)above, (uint8_t)(3 * above_inter), (uint8_t)left, (uint8_t)left_inter};
-                uint8_t smooth = 77;
-                int known = (above < 34 || above == AV1_ANY_MODE) && (left < 34 || left == AV1_ANY_MODE);
-                CHECK(av1_smooth_neighbour(&smooth, &of) == (known ? AV1_DONE : AV1_BAD_MODE));
-                CHECK(smooth == (known ? is_smooth(above, chroma, above_inter) || is_smooth(left, chroma, left_inter) : 77));
-            }
+    at.mode = TILG_ANY_MODE;
+    CHECK(tilg_predict_in_plane_16(samples, 144, &plane, &at, 0, ac, 16, 8) == TILG_BAD_MODE);
 }
 
 int main(void) {
@@ -215,7 +184,7 @@ int main(void) {
     for (unsigned depth = 8; depth <= 12; depth += 2)
         for (unsigned size = 0; size < SIZES; size++)
             for (unsigned sides = 0; sides < 4; sides++) {
-                av1_intra_block b = {0, (uint8_t)size, 0, (uint8_t)depth, sides & 1, sides >> 1, 0, 0, widths[size], heights[size]};
+                tilg_intra_block b = {0, (uint8_t)size, 0, (uint8_t)depth, sides & 1, sides >> 1, 0, 0, widths[size], heights[size]};
                 for (unsigned mode = 0; mode < MODES; mode++)
                     for (int step = mode >= 1 && mode <= 8 ? -3 : 0; step <= (mode >= 1 && mode <= 8 ? 3 : 0); step++)
                         for (unsigned filter = 0; filter < 3; filter++) {
@@ -229,9 +198,7 @@ int main(void) {
             }
     from_its_plane();
     from_luma_in_its_plane();
-    angle_steps();
-    smooth_neighbours();
-    refusals((av1_intra_block){0, 0, 0, 8, 1, 1, 0, 0, 4, 4});
+    refusals((tilg_intra_block){0, 0, 0, 8, 1, 1, 0, 0, 4, 4});
     printf("each of %lu blocks\n", count);
     return 0;
 }

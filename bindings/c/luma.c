@@ -1,6 +1,6 @@
 /* The differences of luma from its mean: by the library, beside the formula of the AV1 specification, in memory that is no longer than it is
  * read, and calls as the header says not to. */
-#include "av1_c.h"
+#include "tilgwaren.h"
 
 #include <stdio.h>
 #include <stdlib.h>
@@ -41,15 +41,15 @@ static uint8_t *bytes_of(const uint16_t *samples, size_t len) {
 }
 
 /* The differences by the formula. */
-static void expect(int16_t *ac, const uint16_t *luma, size_t stride, const av1_cfl_block *b) {
+static void expect(int16_t *ac, const uint16_t *luma, size_t stride, const tilg_cfl_block *b) {
     size_t w = widths[b->block_size], h = heights[b->block_size], sum = 0;
-    size_t last_x = side_read(w, b->w_pad, b->xdec) - ((size_t)1 << b->xdec), last_y = side_read(h, b->h_pad, b->ydec) - ((size_t)1 << b->ydec);
+    size_t last_x = side_read(w, b->w_pad, b->halved_columns) - ((size_t)1 << b->halved_columns), last_y = side_read(h, b->h_pad, b->halved_rows) - ((size_t)1 << b->halved_rows);
     for (size_t r = 0; r < h; r++)
         for (size_t c = 0; c < w; c++) {
-            size_t x = least(c << b->xdec, last_x), y = least(r << b->ydec, last_y), covered = 0;
-            for (size_t v = 0; v <= b->ydec; v++)
-                for (size_t u = 0; u <= b->xdec; u++) covered += luma[(Y + y + v) * stride + X + x + u];
-            covered <<= 3 - b->xdec - b->ydec;
+            size_t x = least(c << b->halved_columns, last_x), y = least(r << b->halved_rows, last_y), covered = 0;
+            for (size_t v = 0; v <= b->halved_rows; v++)
+                for (size_t u = 0; u <= b->halved_columns; u++) covered += luma[(Y + y + v) * stride + X + x + u];
+            covered <<= 3 - b->halved_columns - b->halved_rows;
             ac[r * w + c] = (int16_t)covered;
             sum += covered;
         }
@@ -57,25 +57,25 @@ static void expect(int16_t *ac, const uint16_t *luma, size_t stride, const av1_c
 }
 
 /* A block at this depth, in 16 bits and at a depth of 8 also in 8. */
-static void give(const av1_cfl_block *b, unsigned depth) {
-    size_t w = widths[b->block_size], h = heights[b->block_size], stride = X + (w << b->xdec);
-    size_t len = (Y + side_read(h, b->h_pad, b->ydec)) * stride;
+static void give(const tilg_cfl_block *b, unsigned depth) {
+    size_t w = widths[b->block_size], h = heights[b->block_size], stride = X + (w << b->halved_columns);
+    size_t len = (Y + side_read(h, b->h_pad, b->halved_rows)) * stride;
     uint16_t *luma = some_samples(len, depth);
     uint8_t *bytes = bytes_of(luma, len);
     int16_t expected[MOST], *ac = malloc(w * h * sizeof *ac);
     CHECK(ac);
     expect(expected, luma, stride, b);
-    CHECK(av1_cfl_ac_16(ac, w * h, luma, len, stride, X, Y, b, depth) == AV1_DONE);
+    CHECK(tilg_cfl_ac_16(ac, w * h, luma, len, stride, X, Y, b, depth) == TILG_DONE);
     CHECK(!memcmp(ac, expected, w * h * sizeof *ac));
     if (depth == 8) {
         memset(ac, 0, w * h * sizeof *ac);
-        CHECK(av1_cfl_ac_8(ac, w * h, bytes, len, stride, X, Y, b) == AV1_DONE);
+        CHECK(tilg_cfl_ac_8(ac, w * h, bytes, len, stride, X, Y, b) == TILG_DONE);
         CHECK(!memcmp(ac, expected, w * h * sizeof *ac));
     }
-    CHECK(av1_cfl_ac_8(ac, w * h - 1, bytes, len, stride, X, Y, b) == AV1_TOO_SHORT);
-    CHECK(av1_cfl_ac_8(ac, w * h, bytes, len - 1, stride, X, Y, b) == AV1_BAD_AREA);
-    luma[len - 1 - (stride - X - side_read(w, b->w_pad, b->xdec))] = (uint16_t)(1 << depth);
-    CHECK(av1_cfl_ac_16(ac, w * h, luma, len, stride, X, Y, b, depth) == AV1_BAD_SAMPLE);
+    CHECK(tilg_cfl_ac_8(ac, w * h - 1, bytes, len, stride, X, Y, b) == TILG_TOO_SHORT);
+    CHECK(tilg_cfl_ac_8(ac, w * h, bytes, len - 1, stride, X, Y, b) == TILG_BAD_AREA);
+    luma[len - 1 - (stride - X - side_read(w, b->w_pad, b->halved_columns))] = (uint16_t)(1 << depth);
+    CHECK(tilg_cfl_ac_16(ac, w * h, luma, len, stride, X, Y, b, depth) == TILG_BAD_SAMPLE);
     free(luma);
     free(bytes);
     free(ac);
@@ -89,7 +89,7 @@ static unsigned blocks(void) {
                 for (size_t w_pad = 0; 4 * w_pad < widths[size]; w_pad++)
                     for (size_t h_pad = 0; 4 * h_pad < heights[size]; h_pad++)
                         for (unsigned depth = 8; depth <= 12; depth += 2) {
-                            av1_cfl_block block = {size, xdec, ydec, w_pad, h_pad};
+                            tilg_cfl_block block = {size, xdec, ydec, w_pad, h_pad};
                             give(&block, depth);
                             count++;
                         }
@@ -97,11 +97,11 @@ static unsigned blocks(void) {
 }
 
 /* A call that is refused, and writes nothing. */
-static void refuse(uint32_t status, av1_cfl_block block, size_t stride, size_t x, size_t y, size_t depth) {
+static void refuse(uint32_t status, tilg_cfl_block block, size_t stride, size_t x, size_t y, size_t depth) {
     uint16_t luma[256] = {0};
     int16_t ac[64];
     for (size_t i = 0; i < 64; i++) ac[i] = UNTOUCHED;
-    CHECK(av1_cfl_ac_16(ac, 64, luma, 256, stride, x, y, &block, depth) == status);
+    CHECK(tilg_cfl_ac_16(ac, 64, luma, 256, stride, x, y, &block, depth) == status);
     for (size_t i = 0; i < 64; i++) CHECK(ac[i] == UNTOUCHED);
 }
 
@@ -129,50 +129,50 @@ static unsigned chroma(void) {
             for (uint8_t sampling = 0; sampling < 3; sampling++)
                 for (size_t seen = 0; seen <= 68; seen += 4) {
                     uint8_t xdec = sampling > 0, ydec = sampling > 1;
-                    av1_luma_block of = {size, tx, xdec, ydec, seen, 72 - seen};
+                    tilg_luma_block of = {size, tx, xdec, ydec, seen, 72 - seen};
                     size_t w = greatest(widths[size] >> xdec, 4), h = greatest(heights[size] >> ydec, 4);
-                    av1_cfl_block block = {99, 98, 97, 96, 95};
-                    uint32_t status = av1_cfl_block_of(&block, &of);
+                    tilg_cfl_block block = {99, 98, 97, 96, 95};
+                    uint32_t status = tilg_cfl_block_of(&block, &of);
                     int has_none = greatest(w, h) > 32 || (xdec && !ydec && heights[size] > widths[size]);
                     if (has_none || seen == 0) {
-                        CHECK(status == (has_none ? AV1_BAD_SIZE : AV1_BAD_PAD));
-                        CHECK(block.block_size == 99 && block.xdec == 98 && block.ydec == 97 && block.w_pad == 96 && block.h_pad == 95);
+                        CHECK(status == (has_none ? TILG_BAD_SIZE : TILG_BAD_PAD));
+                        CHECK(block.block_size == 99 && block.halved_columns == 98 && block.halved_rows == 97 && block.w_pad == 96 && block.h_pad == 95);
                         continue;
                     }
-                    CHECK(status == AV1_DONE && block.block_size == size_of(w, h) && block.xdec == xdec && block.ydec == ydec);
+                    CHECK(status == TILG_DONE && block.block_size == size_of(w, h) && block.halved_columns == xdec && block.halved_rows == ydec);
                     CHECK(block.w_pad == pad_of(widths[size], tx_widths[tx], seen, xdec));
                     CHECK(block.h_pad == pad_of(heights[size], tx_heights[tx], 72 - seen, ydec));
                     count++;
                 }
-    av1_cfl_block block;
-    CHECK(av1_cfl_block_of(&block, &(av1_luma_block){SIZES, 0, 1, 1, 8, 8}) == AV1_BAD_SIZE);
-    CHECK(av1_cfl_block_of(&block, &(av1_luma_block){3, 19, 1, 1, 8, 8}) == AV1_BAD_SIZE);
-    CHECK(av1_cfl_block_of(&block, &(av1_luma_block){SIZES, 0, 0, 1, 8, 8}) == AV1_BAD_SAMPLING);
-    CHECK(av1_cfl_block_of(&block, &(av1_luma_block){9, 0, 1, 1, SIZE_MAX, SIZE_MAX}) == AV1_DONE && block.w_pad == 0 && block.h_pad == 0);
+    tilg_cfl_block block;
+    CHECK(tilg_cfl_block_of(&block, &(tilg_luma_block){SIZES, 0, 1, 1, 8, 8}) == TILG_BAD_SIZE);
+    CHECK(tilg_cfl_block_of(&block, &(tilg_luma_block){3, 19, 1, 1, 8, 8}) == TILG_BAD_SIZE);
+    CHECK(tilg_cfl_block_of(&block, &(tilg_luma_block){SIZES, 0, 0, 1, 8, 8}) == TILG_BAD_SAMPLING);
+    CHECK(tilg_cfl_block_of(&block, &(tilg_luma_block){9, 0, 1, 1, SIZE_MAX, SIZE_MAX}) == TILG_DONE && block.w_pad == 0 && block.h_pad == 0);
     return count;
 }
 
 int main(void) {
-    av1_cfl_block plain = {3, 1, 1, 0, 0};
+    tilg_cfl_block plain = {3, 1, 1, 0, 0};
     for (unsigned size = 0; size < 256; size++) {
-        av1_cfl_block block = {(uint8_t)size, 1, 1, 0, 0};
-        if (size >= SIZES || greatest(widths[size], heights[size]) > 32) refuse(AV1_BAD_SIZE, block, 16, 0, 0, 8);
+        tilg_cfl_block block = {(uint8_t)size, 1, 1, 0, 0};
+        if (size >= SIZES || greatest(widths[size], heights[size]) > 32) refuse(TILG_BAD_SIZE, block, 16, 0, 0, 8);
     }
     for (unsigned decs = 0; decs < 65536; decs++) {
-        av1_cfl_block block = {3, (uint8_t)decs, (uint8_t)(decs >> 8), 0, 0};
-        if (decs != 0 && decs != 1 && decs != 257) refuse(AV1_BAD_SAMPLING, block, 16, 0, 0, 8);
+        tilg_cfl_block block = {3, (uint8_t)decs, (uint8_t)(decs >> 8), 0, 0};
+        if (decs != 0 && decs != 1 && decs != 257) refuse(TILG_BAD_SAMPLING, block, 16, 0, 0, 8);
     }
-    refuse(AV1_BAD_PAD, (av1_cfl_block){3, 1, 1, 2, 0}, 16, 0, 0, 8);
-    refuse(AV1_BAD_PAD, (av1_cfl_block){3, 1, 1, 0, SIZE_MAX}, 16, 0, 0, 8);
-    refuse(AV1_BAD_PAD, (av1_cfl_block){3, 1, 1, (size_t)1 << 62, 0}, 16, 0, 0, 8);
-    refuse(AV1_BAD_AREA, plain, 0, 0, 0, 8);
-    refuse(AV1_BAD_AREA, plain, 16, 1, 0, 8);
-    refuse(AV1_BAD_AREA, plain, 16, SIZE_MAX, 0, 8);
-    refuse(AV1_BAD_AREA, plain, 16, 0, SIZE_MAX - 15, 8);
-    refuse(AV1_BAD_AREA, plain, SIZE_MAX, 0, 0, 8);
-    refuse(AV1_TOO_SHORT, (av1_cfl_block){6, 0, 0, 0, 0}, 16, 0, 0, 8);
+    refuse(TILG_BAD_PAD, (tilg_cfl_block){3, 1, 1, 2, 0}, 16, 0, 0, 8);
+    refuse(TILG_BAD_PAD, (tilg_cfl_block){3, 1, 1, 0, SIZE_MAX}, 16, 0, 0, 8);
+    refuse(TILG_BAD_PAD, (tilg_cfl_block){3, 1, 1, (size_t)1 << 62, 0}, 16, 0, 0, 8);
+    refuse(TILG_BAD_AREA, plain, 0, 0, 0, 8);
+    refuse(TILG_BAD_AREA, plain, 16, 1, 0, 8);
+    refuse(TILG_BAD_AREA, plain, 16, SIZE_MAX, 0, 8);
+    refuse(TILG_BAD_AREA, plain, 16, 0, SIZE_MAX - 15, 8);
+    refuse(TILG_BAD_AREA, plain, SIZE_MAX, 0, 0, 8);
+    refuse(TILG_TOO_SHORT, (tilg_cfl_block){6, 0, 0, 0, 0}, 16, 0, 0, 8);
     for (size_t depth = 0; depth < 20; depth++)
-        if (depth != 8 && depth != 10 && depth != 12) refuse(AV1_BAD_DEPTH, plain, 16, 0, 0, depth);
+        if (depth != 8 && depth != 10 && depth != 12) refuse(TILG_BAD_DEPTH, plain, 16, 0, 0, depth);
     printf("of %u blocks each has its chroma, ", chroma());
     printf("of %u blocks each has its differences\n", blocks());
     return 0;

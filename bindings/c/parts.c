@@ -1,5 +1,5 @@
 /* Grids of tiles, sequences of frames and traces, made of a plan whose file and whose planes' file are named: whole, cut and spoilt. */
-#include "av1_c.h"
+#include "tilgwaren.h"
 
 #include <stdio.h>
 #include <stdlib.h>
@@ -9,9 +9,9 @@
 
 enum { MOST = 4096, ROOM = 2 * MOST, FILLED = 0xA5, HEADER = 20 };
 
-static const av1_part_refusal untold = {7, 8, 9, 10};
+static const tilg_part_refusal untold = {7, 8, 9, 10};
 
-typedef uint32_t (*reconstruct)(const uint8_t *, size_t, uint8_t *, size_t, size_t *, av1_part_refusal *);
+typedef tilg_status (*reconstruct)(uint8_t *, size_t, size_t *, tilg_part_refusal *, const uint8_t *, size_t);
 
 /* Bytes that grow. */
 typedef struct {
@@ -75,7 +75,7 @@ static text trace_of(const text *plan, const text *planes) {
     return trace;
 }
 
-static int same_refusal(av1_part_refusal a, av1_part_refusal b) {
+static int same_refusal(tilg_part_refusal a, tilg_part_refusal b) {
     return a.part == b.part && a.at == b.at && a.leaf == b.leaf && a.kind == b.kind;
 }
 
@@ -89,7 +89,7 @@ static int all_filled(const uint8_t *bytes, size_t len) {
 struct left {
     uint32_t status;
     size_t written;
-    av1_part_refusal refusal;
+    tilg_part_refusal refusal;
     uint8_t room[ROOM];
 };
 
@@ -98,11 +98,11 @@ static struct left call(reconstruct with, const uint8_t *bytes, size_t len, size
     struct left left = {0, 77, untold, {0}};
     memset(left.room, FILLED, sizeof left.room);
     CHECK(room_len <= ROOM);
-    left.status = with(bytes, len, left.room, room_len, &left.written, &left.refusal);
-    CHECK(left.status == AV1_DONE ? left.written <= room_len : left.written == 77);
-    size_t written = left.status == AV1_DONE ? left.written : 0;
+    left.status = with(left.room, room_len, &left.written, &left.refusal, bytes, len);
+    CHECK(left.status == TILG_DONE ? left.written <= room_len : left.status == TILG_ROOM_TOO_SMALL ? left.written > room_len : left.written == 77);
+    size_t written = left.status == TILG_DONE ? left.written : 0;
     CHECK(all_filled(left.room + written, ROOM - written));
-    int tells = left.status == AV1_MALFORMED || (AV1_TOO_LONG_PART <= left.status && left.status <= AV1_EMPTY_SLOT);
+    int tells = left.status == TILG_MALFORMED || (TILG_TOO_LONG_PART <= left.status && left.status <= TILG_EMPTY_SLOT);
     CHECK(tells || same_refusal(left.refusal, untold));
     return left;
 }
@@ -112,19 +112,19 @@ static void whole_and_cut(reconstruct with, const text *bytes, const text *plane
     size_t wanted = count * planes->len;
     for (size_t more = 0; more < 9; more += 4) {
         struct left done = call(with, bytes->at, bytes->len, wanted + more);
-        CHECK(done.status == AV1_DONE && done.written == wanted);
+        CHECK(done.status == TILG_DONE && done.written == wanted);
         for (size_t i = 0; i < count; i++) CHECK(!memcmp(done.room + i * planes->len, planes->at, planes->len));
     }
-    CHECK(call(with, bytes->at, bytes->len, wanted - 1).status == AV1_ROOM_TOO_SMALL);
-    CHECK(call(with, bytes->at, bytes->len, 0).status == AV1_ROOM_TOO_SMALL);
-    CHECK(call(with, NULL, 0, ROOM).status == AV1_MALFORMED);
+    CHECK(call(with, bytes->at, bytes->len, wanted - 1).status == TILG_ROOM_TOO_SMALL);
+    CHECK(call(with, bytes->at, bytes->len, 0).status == TILG_ROOM_TOO_SMALL);
+    CHECK(call(with, NULL, 0, ROOM).status == TILG_MALFORMED);
     for (size_t front = 0; front < bytes->len; front++) {
         struct left cut = call(with, bytes->at, front, ROOM);
-        CHECK(cut.status == AV1_MALFORMED && cut.refusal.at <= front);
+        CHECK(cut.status == TILG_MALFORMED && cut.refusal.at <= front);
         CHECK(cut.refusal.part == 0 && cut.refusal.leaf == 0 && cut.refusal.kind == 0);
     }
     struct left left_over = call(with, bytes->at, bytes->len + 1, ROOM);
-    CHECK(left_over.status == AV1_MALFORMED && left_over.refusal.at == bytes->len);
+    CHECK(left_over.status == TILG_MALFORMED && left_over.refusal.at == bytes->len);
 }
 
 /* Bytes past the most that are read. */
@@ -132,8 +132,8 @@ static void long_bytes(reconstruct with) {
     size_t most = (size_t)1 << 26;
     uint8_t *bytes = calloc(most + 1, 1);
     CHECK(bytes);
-    CHECK(call(with, bytes, most + 1, ROOM).status == AV1_TOO_LONG);
-    CHECK(call(with, bytes, most, ROOM).status == AV1_MALFORMED);
+    CHECK(call(with, bytes, most + 1, ROOM).status == TILG_TOO_LONG);
+    CHECK(call(with, bytes, most, ROOM).status == TILG_MALFORMED);
     free(bytes);
 }
 
@@ -141,29 +141,29 @@ static void long_bytes(reconstruct with) {
 static void spoilt(reconstruct with, text bytes, size_t start, uint32_t part) {
     bytes.at[start + 34 - HEADER] = 16;
     struct left invalid = call(with, bytes.at, bytes.len, ROOM);
-    av1_part_refusal leaf = {part, 0, 0, AV1_INVALID_COEFFICIENT};
-    CHECK(invalid.status == AV1_INVALID_PART && same_refusal(invalid.refusal, leaf));
+    tilg_part_refusal leaf = {part, 0, 0, TILG_INVALID_COEFFICIENT};
+    CHECK(invalid.status == TILG_INVALID_PART && same_refusal(invalid.refusal, leaf));
     bytes.at[start] = 7;
     struct left malformed = call(with, bytes.at, bytes.len, ROOM);
-    av1_part_refusal mark = {part, 0, 0, 0};
-    CHECK(malformed.status == AV1_MALFORMED_PART && same_refusal(malformed.refusal, mark));
+    tilg_part_refusal mark = {part, 0, 0, 0};
+    CHECK(malformed.status == TILG_MALFORMED_PART && same_refusal(malformed.refusal, mark));
 }
 
 /* A trace whose planes are those of the plan, and one whose first sample and whose last are not; cut, and with a byte behind it. */
 static void traces(const text *plan, const text *planes) {
     text same = trace_of(plan, planes), other = same;
-    av1_difference room[3];
-    av1_part_refusal refusal = untold;
+    tilg_difference room[3];
+    tilg_part_refusal refusal = untold;
     size_t found = 77, start = same.len - planes->len;
     memset(room, FILLED, sizeof room);
-    CHECK(av1_trace_differences(same.at, same.len, room, 3, &found, &refusal) == AV1_DONE && found == 0);
+    CHECK(tilg_trace_differences(room, 3, &found, &refusal, same.at, same.len) == TILG_DONE && found == 0);
     CHECK(all_filled((const uint8_t *)room, sizeof room));
-    CHECK(av1_trace_differences(same.at, same.len, NULL, 0, &found, &refusal) == AV1_DONE && found == 0);
+    CHECK(tilg_trace_differences(NULL, 0, &found, &refusal, same.at, same.len) == TILG_DONE && found == 0);
     other.at[start] ^= 255, other.at[other.len - 1] ^= 255;
     for (size_t len = 0; len <= 3; len++) {
         memset(room, FILLED, sizeof room);
-        CHECK(av1_trace_differences(other.at, other.len, room, len, &found, &refusal) == AV1_DONE && found == 2);
-        if (len > 0) CHECK(room[0].leaf == 0 && room[0].plane == 0 && room[0].row == 0 && room[0].column == 0);
+        CHECK(tilg_trace_differences(room, len, &found, &refusal, other.at, other.len) == TILG_DONE && found == 2);
+        if (len > 0) CHECK(room[0].leaf == 0 && room[0].plane == 0 && room[0].y == 0 && room[0].x == 0);
         if (len > 0) CHECK(room[0].given == other.at[start] && room[0].defined == same.at[start]);
         if (len > 1) CHECK(room[1].plane == 2 && room[1].defined == same.at[same.len - 1]);
         size_t listed = len < 2 ? len : 2;
@@ -172,13 +172,13 @@ static void traces(const text *plan, const text *planes) {
     CHECK(same_refusal(refusal, untold));
     memset(room, FILLED, sizeof room), found = 77;
     for (size_t front = 0; front < other.len; front++) {
-        CHECK(av1_trace_differences(other.at, front, room, 3, &found, &refusal) == AV1_MALFORMED);
+        CHECK(tilg_trace_differences(room, 3, &found, &refusal, other.at, front) == TILG_MALFORMED);
         CHECK(refusal.at <= front && refusal.part == 0 && refusal.leaf == 0 && refusal.kind == 0);
     }
-    CHECK(av1_trace_differences(other.at, other.len + 1, room, 3, &found, &refusal) == AV1_MALFORMED && refusal.at == other.len);
+    CHECK(tilg_trace_differences(room, 3, &found, &refusal, other.at, other.len + 1) == TILG_MALFORMED && refusal.at == other.len);
     other.at[8 + 34] = 16;
-    CHECK(av1_trace_differences(other.at, other.len, room, 3, &found, &refusal) == AV1_INVALID_PART);
-    CHECK(refusal.part == 0 && refusal.leaf == 0 && refusal.kind == AV1_INVALID_COEFFICIENT);
+    CHECK(tilg_trace_differences(room, 3, &found, &refusal, other.at, other.len) == TILG_INVALID_PART);
+    CHECK(refusal.part == 0 && refusal.leaf == 0 && refusal.kind == TILG_INVALID_COEFFICIENT);
     CHECK(found == 77 && all_filled((const uint8_t *)room, sizeof room));
 }
 
@@ -199,10 +199,10 @@ static text hidden_of(const text *plan, uint8_t slot) {
 /* What is written is the frame that is shown again, and nothing where the slot is empty. */
 static void shown_again(const text *plan, const text *planes) {
     text again = hidden_of(plan, 0), empty = hidden_of(plan, 1);
-    whole_and_cut(av1_reconstruct_sequence, &again, planes, 1);
-    struct left left = call(av1_reconstruct_sequence, empty.at, empty.len, ROOM);
-    av1_part_refusal entry = {1, 0, 0, 0};
-    CHECK(left.status == AV1_EMPTY_SLOT && same_refusal(left.refusal, entry));
+    whole_and_cut(tilg_reconstruct_sequence, &again, planes, 1);
+    struct left left = call(tilg_reconstruct_sequence, empty.at, empty.len, ROOM);
+    tilg_part_refusal entry = {1, 0, 0, 0};
+    CHECK(left.status == TILG_EMPTY_SLOT && same_refusal(left.refusal, entry));
 }
 
 int main(int count, char **words) {
@@ -211,16 +211,16 @@ int main(int count, char **words) {
     CHECK(planes.len > 0);
     text grid = grid_of(&plan, "RTL1"), third = grid_of(&plan, "RTL2"), sequence = sequence_of(&plan);
     size_t part = plan.len - HEADER;
-    whole_and_cut(av1_reconstruct_tiles, &grid, &planes, 1);
-    whole_and_cut(av1_reconstruct_tiles, &third, &planes, 1);
-    whole_and_cut(av1_reconstruct_sequence, &sequence, &planes, 2);
+    whole_and_cut(tilg_reconstruct_tiles, &grid, &planes, 1);
+    whole_and_cut(tilg_reconstruct_tiles, &third, &planes, 1);
+    whole_and_cut(tilg_reconstruct_sequence, &sequence, &planes, 2);
     shown_again(&plan, &planes);
     traces(&plan, &planes);
-    long_bytes(av1_reconstruct_tiles);
-    long_bytes(av1_reconstruct_sequence);
-    spoilt(av1_reconstruct_tiles, grid, grid.len - part, 0);
-    spoilt(av1_reconstruct_tiles, third, third.len - part, 0);
-    spoilt(av1_reconstruct_sequence, sequence, 12 + 14, 0);
-    spoilt(av1_reconstruct_sequence, sequence, sequence.len - part, 1);
+    long_bytes(tilg_reconstruct_tiles);
+    long_bytes(tilg_reconstruct_sequence);
+    spoilt(tilg_reconstruct_tiles, grid, grid.len - part, 0);
+    spoilt(tilg_reconstruct_tiles, third, third.len - part, 0);
+    spoilt(tilg_reconstruct_sequence, sequence, 12 + 14, 0);
+    spoilt(tilg_reconstruct_sequence, sequence, sequence.len - part, 1);
     return 0;
 }

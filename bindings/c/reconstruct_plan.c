@@ -1,6 +1,6 @@
 /* An example: reads a plan from the file that is named, and writes its planes to standard output.
- *   cc reconstruct_plan.c libav1_c.a -o reconstruct_plan && ./reconstruct_plan FILE > planes */
-#include "av1_c.h"
+ *   cc reconstruct_plan.c libtilgwaren.a -o reconstruct_plan && ./reconstruct_plan FILE > planes */
+#include "tilgwaren.h"
 
 #include <stdio.h>
 #include <stdlib.h>
@@ -10,11 +10,11 @@
 
 static const char *const kinds[] = {"", "block size", "transform", "mode", "vector", "missing reference", "coefficient"};
 
-static int refused(uint32_t status, const av1_refusal *refusal) {
+static int refused(uint32_t status, const tilg_refusal *refusal) {
     switch (status) {
-    case AV1_TOO_LONG: fputs("too long\n", stderr); break;
-    case AV1_MALFORMED: fprintf(stderr, "malformed at %u\n", refusal->at); break;
-    case AV1_INVALID: fprintf(stderr, "invalid leaf %u: %s\n", refusal->leaf, kinds[refusal->kind]); break;
+    case TILG_TOO_LONG: fputs("too long\n", stderr); break;
+    case TILG_MALFORMED: fprintf(stderr, "malformed at %u\n", refusal->at); break;
+    case TILG_INVALID: fprintf(stderr, "invalid leaf %u: %s\n", refusal->leaf, kinds[refusal->kind]); break;
     default: fputs("out of memory\n", stderr); break;
     }
     return 1;
@@ -35,17 +35,17 @@ static uint8_t *read_file(const char *name, size_t *len) {
 
 int main(int count, char **words) {
     size_t len, wanted, written;
-    av1_refusal refusal;
+    tilg_refusal refusal;
     uint8_t *plan = count == 2 ? read_file(words[1], &len) : NULL;
     if (!plan) {
         fputs("usage: reconstruct_plan FILE\n", stderr);
         return 2;
     }
     int result = 1;
-    uint32_t status = av1_planes_len(plan, len, &wanted, &refusal);
-    uint8_t *planes = status == AV1_DONE ? malloc(wanted) : NULL;
-    if (planes) status = av1_reconstruct_plan(plan, len, planes, wanted, &written, &refusal);
-    if (planes && status == AV1_DONE)
+    uint32_t status = tilg_planes_len(&wanted, &refusal, plan, len);
+    uint8_t *planes = status == TILG_DONE ? malloc(wanted) : NULL;
+    if (planes) status = tilg_reconstruct_plan(planes, wanted, &written, &refusal, plan, len);
+    if (planes && status == TILG_DONE)
         result = fwrite(planes, 1, written, stdout) == written && fflush(stdout) == 0 ? 0 : 1;
     else
         result = refused(status, &refusal);

@@ -1,6 +1,6 @@
 /* Calls on regions: on a plane whose last row ends where memory does, on one that stands upside down, and on tiles of one plane, each of which a thread
  * works on. Each leaves what the call on the samples themselves leaves. */
-#include "av1_c.h"
+#include "tilgwaren_regions.h"
 
 #include <pthread.h>
 #include <stdio.h>
@@ -12,12 +12,11 @@
 #define CHECK(e) do { if (!(e)) { fprintf(stderr, "%s:%d: %s\n", __FILE__, __LINE__, #e); exit(1); } } while (0)
 
 enum { STRIDE = 263, COLUMNS = 256, ROWS = 64, TILES = 8, TILE = COLUMNS / TILES, FULL = STRIDE * ROWS, LEN = STRIDE * (ROWS - 1) + COLUMNS };
-enum { SIDE = 64, TURNS = 20, SIZE_8X8 = 1, BLOCK_8X8 = 3 };
+enum { SIDE = 64, TURNS = 20, SIZE_8X8 = TILG_TX_8X8, BLOCK_8X8 = TILG_BLOCK_8X8 };
 
 static uint8_t reference_8[SIDE * SIDE];
 static uint16_t reference_16[SIDE * SIDE];
 static const int16_t few[] = {300, -70, 9};
-static const int32_t many[] = {300, -70, 9};
 
 /* Memory that ends where a page begins which nobody may touch. */
 static void *before_a_page(size_t bytes) {
@@ -28,48 +27,64 @@ static void *before_a_page(size_t bytes) {
 }
 
 /* The motion, the edge and the transform of the block of 8x8 at column x of row y of a tile. */
-static av1_motion_block motion_of(size_t x, size_t y, size_t seed) {
-    av1_motion_block block = {8, 8, (uint8_t)((x + seed) % 16), (uint8_t)((y + 3 * seed) % 16), (uint8_t)(seed % 4), AV1_SHARP};
+static tilg_motion_block motion_of(size_t x, size_t y, size_t seed) {
+    tilg_motion_block block = {8, 8, (uint8_t)((x + seed) % 16), (uint8_t)((y + 3 * seed) % 16), (uint8_t)(seed % 4), TILG_FILTER_SHARP};
     return block;
 }
 
-static av1_edge_block edge_of(size_t x, size_t y, size_t seed) {
-    av1_edge_block edge = {x, y, x / 4, y / 4, 0, 0, BLOCK_8X8, SIZE_8X8, (uint8_t)((x / 8 + y / 8 + seed) % 13), 0, 8, 1};
+static tilg_edge_block edge_of(size_t x, size_t y, size_t seed) {
+    tilg_edge_block edge = {x, y, x / 4, y / 4, 0, 0, BLOCK_8X8, SIZE_8X8, (uint8_t)((x / 8 + y / 8 + seed) % 13), 0, 8, 1};
     return edge;
 }
 
-static av1_edge_plane tile_of(size_t number) {
-    av1_edge_plane plane = {STRIDE, 0, 0, COLUMNS, ROWS, number * TILE, 0, TILE, ROWS, 0, 0};
+static tilg_edge_plane tile_of(size_t number) {
+    tilg_edge_plane plane = {STRIDE, 0, 0, COLUMNS, ROWS, number * TILE, 0, TILE, ROWS, 0, 0};
     return plane;
 }
 
+/* A block of 8x8 moved to a region: the call works in a buffer, which is stored. */
+static tilg_status put_in(const tilg_region_8 *to, size_t x, size_t y, size_t src_x, size_t src_y, const tilg_motion_block *block) {
+    uint8_t room[64];
+    tilg_status status = tilg_put_8tap_8(room, 64, 8, 0, 0, reference_8, sizeof reference_8, SIDE, src_x, src_y, block);
+    return status ? status : tilg_store_region_8(to, x, y, 8, 8, room, 64);
+}
+
+/* A residue added to a block of 8x8 in a region: it is loaded first. */
+static tilg_status add_in(const tilg_region_8 *to, size_t x, size_t y, tilg_transform_scratch *scratch, uint8_t size) {
+    uint8_t room[64];
+    tilg_read_region_8 from = {to->first, to->stride, to->width, to->height};
+    tilg_status status = tilg_load_region_8(room, 64, &from, x, y, 8, 8);
+    if (!status) status = tilg_inverse_transform_add_8(room, 64, 8, 0, 0, scratch, few, 3, size, TILG_DCT_DCT);
+    return status ? status : tilg_store_region_8(to, x, y, 8, 8, room, 64);
+}
+
 /* Every block of a tile is moved, then every other one predicted, and a residue is added. */
-static void work(const av1_region_8 *tile, size_t number, size_t seed) {
+static void work(const tilg_region_8 *tile, size_t number, size_t seed) {
     uint8_t room[129 * 129];
-    av1_transform_scratch scratch;
-    av1_edge_plane plane = tile_of(number);
+    tilg_transform_scratch scratch;
+    tilg_edge_plane plane = tile_of(number);
     for (size_t y = 0; y < ROWS; y += 8)
         for (size_t x = 0; x < TILE; x += 8) {
-            av1_motion_block block = motion_of(x, y, seed);
-            av1_edge_block edge = edge_of(x, y, seed);
-            CHECK(av1_put_8tap_in_8(tile, x, y, room, sizeof room, reference_8, sizeof reference_8, SIDE, 3 + x, 3 + y / 2, &block) == AV1_DONE);
-            if ((x + y) / 8 % 2) CHECK(av1_predict_in_tile_8(tile, room, sizeof room, &plane, &edge, 1, NULL, 0, 0) == AV1_DONE);
-            CHECK(av1_inverse_transform_add_in_8(tile, x, y, room, sizeof room, &scratch, few, 3, SIZE_8X8, 0) == AV1_DONE);
+            tilg_motion_block block = motion_of(x, y, seed);
+            tilg_edge_block edge = edge_of(x, y, seed);
+            CHECK(put_in(tile, x, y, 3 + x, 3 + y / 2, &block) == TILG_DONE);
+            if ((x + y) / 8 % 2) CHECK(tilg_predict_in_tile_8(tile, room, sizeof room, &plane, &edge, 1, NULL, 0, 0) == TILG_DONE);
+            CHECK(add_in(tile, x, y, &scratch, SIZE_8X8) == TILG_DONE);
         }
 }
 
 /* The same by calls on all samples of the plane. */
 static void work_on_samples(uint8_t *samples, size_t number, size_t seed) {
-    av1_transform_scratch scratch;
-    av1_edge_plane plane = tile_of(number);
+    tilg_transform_scratch scratch;
+    tilg_edge_plane plane = tile_of(number);
     for (size_t y = 0; y < ROWS; y += 8)
         for (size_t x = 0; x < TILE; x += 8) {
             size_t column = number * TILE + x;
-            av1_motion_block block = motion_of(x, y, seed);
-            av1_edge_block edge = edge_of(x, y, seed);
-            CHECK(av1_put_8tap_8(samples, FULL, STRIDE, column, y, reference_8, sizeof reference_8, SIDE, 3 + x, 3 + y / 2, &block) == AV1_DONE);
-            if ((x + y) / 8 % 2) CHECK(av1_predict_in_plane_8(samples, FULL, &plane, &edge, 1, NULL, 0, 0) == AV1_DONE);
-            CHECK(av1_inverse_transform_add_8(&scratch, few, 3, samples, FULL, STRIDE, column, y, SIZE_8X8, 0) == AV1_DONE);
+            tilg_motion_block block = motion_of(x, y, seed);
+            tilg_edge_block edge = edge_of(x, y, seed);
+            CHECK(tilg_put_8tap_8(samples, FULL, STRIDE, column, y, reference_8, sizeof reference_8, SIDE, 3 + x, 3 + y / 2, &block) == TILG_DONE);
+            if ((x + y) / 8 % 2) CHECK(tilg_predict_in_plane_8(samples, FULL, &plane, &edge, 1, NULL, 0, 0) == TILG_DONE);
+            CHECK(tilg_inverse_transform_add_8(samples, FULL, STRIDE, column, y, &scratch, few, 3, SIZE_8X8, 0) == TILG_DONE);
         }
 }
 
@@ -81,7 +96,7 @@ static void expect(uint8_t *samples) {
 }
 
 struct tile {
-    av1_region_8 region;
+    tilg_region_8 region;
     size_t number;
 };
 
@@ -96,7 +111,7 @@ static void work_by_threads(uint8_t *first, ptrdiff_t stride) {
     pthread_t threads[TILES];
     struct tile tiles[TILES];
     for (size_t i = 0; i < TILES; i++) {
-        tiles[i].region = (av1_region_8){first + i * TILE, stride, TILE, ROWS};
+        tiles[i].region = (tilg_region_8){first + i * TILE, stride, TILE, ROWS};
         tiles[i].number = i;
         CHECK(pthread_create(&threads[i], NULL, work_by_turns, &tiles[i]) == 0);
     }
@@ -125,69 +140,30 @@ static void a_plane_upside_down(void) {
 static void a_reference_upside_down(void) {
     static uint8_t flipped[SIDE * SIDE];
     uint8_t window[15 * 15], one[64], other[64];
-    av1_read_region_8 region = {flipped + (SIDE - 1) * SIDE, -SIDE, SIDE, SIDE};
-    av1_motion_block block = motion_of(3, 5, 2);
+    tilg_read_region_8 region = {flipped + (SIDE - 1) * SIDE, -SIDE, SIDE, SIDE};
+    tilg_motion_block block = motion_of(3, 5, 2);
     for (size_t y = 0; y < SIDE; y++) memcpy(flipped + y * SIDE, reference_8 + (SIDE - 1 - y) * SIDE, SIDE);
-    CHECK(av1_load_region_8(&region, SIDE - 15, SIDE - 15, 15, 15, window, sizeof window) == AV1_DONE);
-    CHECK(av1_put_8tap_8(one, 64, 8, 0, 0, window, sizeof window, 15, 3, 3, &block) == AV1_DONE);
-    CHECK(av1_put_8tap_8(other, 64, 8, 0, 0, reference_8, sizeof reference_8, SIDE, SIDE - 12, SIDE - 12, &block) == AV1_DONE);
+    CHECK(tilg_load_region_8(window, sizeof window, &region, SIDE - 15, SIDE - 15, 15, 15) == TILG_DONE);
+    CHECK(tilg_put_8tap_8(one, 64, 8, 0, 0, window, sizeof window, 15, 3, 3, &block) == TILG_DONE);
+    CHECK(tilg_put_8tap_8(other, 64, 8, 0, 0, reference_8, sizeof reference_8, SIDE, SIDE - 12, SIDE - 12, &block) == TILG_DONE);
     CHECK(memcmp(one, other, 64) == 0);
 }
 
-/* The calls that `work` doesn't make, beside those on all samples. */
-static void other_calls_of_8(void) {
-    uint8_t *samples = before_a_page(LEN), expected[FULL], room[64], window[15 * 15], side[16] = {9, 8, 7, 6, 5, 4, 3, 2, 50, 60, 70, 80, 90, 99, 98, 97};
-    int16_t values[64], ac[64];
-    av1_region_8 region = {samples, STRIDE, COLUMNS, ROWS};
-    av1_motion_plane plane = {.stride = SIDE, .width = SIDE, .height = SIDE};
-    av1_moved_block moved = {0, 0, 8, 8, -77, 33, AV1_SHARP, 0};
-    av1_intra_block block = {3, SIZE_8X8, -1, 8, 1, 1, 1, 0, 8, 8}, chroma = {0, SIZE_8X8, 0, 8, 1, 1, 0, 0, 8, 8};
-    memset(samples, 77, LEN), memset(expected, 77, FULL);
-    for (int i = 0; i < 64; i++) values[i] = (int16_t)(i * 60), ac[i] = (int16_t)(i * 8 - 252);
-    CHECK(av1_put_moved_in_8(&region, 248, 56, room, 64, reference_8, sizeof reference_8, &plane, &moved, window, sizeof window) == AV1_DONE);
-    CHECK(av1_put_moved_8(expected, FULL, STRIDE, 248, 56, reference_8, sizeof reference_8, &plane, &moved, window, sizeof window) == AV1_DONE);
-    CHECK(av1_mc_avg_in_8(&region, 240, 56, room, 64, 8, 8, values, 64, values, 64) == AV1_DONE);
-    CHECK(av1_mc_avg_8(expected, FULL, STRIDE, 240, 56, 8, 8, values, 64, values, 64) == AV1_DONE);
-    CHECK(av1_predict_intra_in_8(&region, 232, 56, room, 64, &block, side, 16, 60, side, 16) == AV1_DONE);
-    CHECK(av1_predict_intra_8(expected, FULL, STRIDE, 232, 56, &block, side, 16, 60, side, 16) == AV1_DONE);
-    CHECK(av1_predict_cfl_in_8(&region, 224, 56, room, 64, &chroma, side, 16, side, 16, ac, 64, 3) == AV1_DONE);
-    CHECK(av1_predict_cfl_8(expected, FULL, STRIDE, 224, 56, &chroma, side, 16, side, 16, ac, 64, 3) == AV1_DONE);
-    CHECK(memcmp(samples, expected, LEN) == 0);
-}
-
-static void calls_of_16(void) {
-    uint16_t *samples = before_a_page(2 * LEN), expected[FULL], room[129 * 129], window[15 * 15];
-    uint16_t side[16] = {9, 8, 7, 6, 5, 4, 3, 2, 500, 600, 700, 800, 900, 990, 980, 970};
-    int16_t values[64], ac[64];
-    av1_transform_scratch scratch;
-    av1_region_16 region = {samples, STRIDE, COLUMNS, ROWS};
-    av1_motion_plane plane = {.stride = SIDE, .width = SIDE, .height = SIDE};
-    av1_moved_block moved = {0, 0, 8, 8, -77, 33, AV1_SHARP, 0};
-    av1_motion_block motion = motion_of(5, 6, 7);
-    av1_edge_plane tile = {STRIDE, 0, 0, COLUMNS, ROWS, 0, 0, COLUMNS, ROWS, 0, 0};
-    av1_edge_block edge = edge_of(8, 8, 4);
-    av1_intra_block block = {3, SIZE_8X8, -1, 10, 1, 1, 1, 0, 8, 8}, chroma = {0, SIZE_8X8, 0, 10, 1, 1, 0, 0, 8, 8};
+/* Rectangles of 16 bits: what is stored is what was loaded, and a transform is predicted in a tile as in its plane. */
+static void samples_of_16_bits(void) {
+    uint16_t *samples = before_a_page(2 * LEN), expected[FULL], room[129 * 129];
+    tilg_region_16 region = {samples, STRIDE, COLUMNS, ROWS};
+    tilg_read_region_16 from = {samples, STRIDE, COLUMNS, ROWS};
+    tilg_edge_plane tile = {STRIDE, 0, 0, COLUMNS, ROWS, 0, 0, COLUMNS, ROWS, 0, 0};
+    tilg_edge_block edge = edge_of(8, 8, 4);
     for (size_t i = 0; i < LEN; i++) samples[i] = expected[i] = (uint16_t)(i % 1021);
-    for (int i = 0; i < 64; i++) values[i] = (int16_t)(i * 60), ac[i] = (int16_t)(i * 8 - 252);
     edge.bit_depth = 10;
-    CHECK(av1_put_8tap_in_16(&region, 248, 56, room, 64, reference_16, SIDE * SIDE, SIDE, 3, 3, &motion, 10) == AV1_DONE);
-    CHECK(av1_put_8tap_16(expected, FULL, STRIDE, 248, 56, reference_16, SIDE * SIDE, SIDE, 3, 3, &motion, 10) == AV1_DONE);
-    CHECK(av1_put_tested_in_16(&region, 240, 56, room, 64, reference_16, SIDE * SIDE, SIDE, 3, 3, &motion, 10) == AV1_DONE);
-    CHECK(av1_put_tested_16(expected, FULL, STRIDE, 240, 56, reference_16, SIDE * SIDE, SIDE, 3, 3, &motion, 10) == AV1_DONE);
-    CHECK(av1_put_moved_in_16(&region, 232, 56, room, 64, reference_16, SIDE * SIDE, &plane, &moved, window, 225, 10) == AV1_DONE);
-    CHECK(av1_put_moved_16(expected, FULL, STRIDE, 232, 56, reference_16, SIDE * SIDE, &plane, &moved, window, 225, 10) == AV1_DONE);
-    CHECK(av1_mc_avg_in_16(&region, 224, 56, room, 64, 8, 8, values, 64, values, 64, 10) == AV1_DONE);
-    CHECK(av1_mc_avg_16(expected, FULL, STRIDE, 224, 56, 8, 8, values, 64, values, 64, 10) == AV1_DONE);
-    CHECK(av1_inverse_transform_add_in_16(&region, 228, 56, room, 64, &scratch, many, 3, SIZE_8X8, 0, 10) == AV1_DONE);
-    CHECK(av1_inverse_transform_add_16(&scratch, many, 3, expected, FULL, STRIDE, 228, 56, SIZE_8X8, 0, 10) == AV1_DONE);
-    CHECK(av1_inverse_transform_add_clamped_in_16(&region, 236, 55, room, 64, &scratch, many, 3, SIZE_8X8, 0, 10) == AV1_DONE);
-    CHECK(av1_inverse_transform_add_clamped_16(&scratch, many, 3, expected, FULL, STRIDE, 236, 55, SIZE_8X8, 0, 10) == AV1_DONE);
-    CHECK(av1_predict_intra_in_16(&region, 216, 56, room, 64, &block, side, 16, 60, side, 16) == AV1_DONE);
-    CHECK(av1_predict_intra_16(expected, FULL, STRIDE, 216, 56, &block, side, 16, 60, side, 16) == AV1_DONE);
-    CHECK(av1_predict_cfl_in_16(&region, 208, 56, room, 64, &chroma, side, 16, side, 16, ac, 64, 3) == AV1_DONE);
-    CHECK(av1_predict_cfl_16(expected, FULL, STRIDE, 208, 56, &chroma, side, 16, side, 16, ac, 64, 3) == AV1_DONE);
-    CHECK(av1_predict_in_tile_16(&region, room, 129 * 129, &tile, &edge, 0, NULL, 0, 0) == AV1_DONE);
-    CHECK(av1_predict_in_plane_16(expected, FULL, &tile, &edge, 0, NULL, 0, 0) == AV1_DONE);
+    CHECK(tilg_predict_in_tile_16(&region, room, 129 * 129, &tile, &edge, 0, NULL, 0, 0) == TILG_DONE);
+    CHECK(tilg_predict_in_plane_16(expected, FULL, &tile, &edge, 0, NULL, 0, 0) == TILG_DONE);
+    CHECK(tilg_load_region_16(room, 64, &from, 248, 56, 8, 8) == TILG_DONE);
+    for (size_t i = 0; i < 64; i++) CHECK(room[i] == expected[(56 + i / 8) * STRIDE + 248 + i % 8]);
+    CHECK(tilg_store_region_16(&region, 240, 56, 8, 8, room, 64) == TILG_DONE);
+    for (size_t i = 0; i < 64; i++) expected[(56 + i / 8) * STRIDE + 240 + i % 8] = room[i];
     CHECK(memcmp(samples, expected, 2 * LEN) == 0);
 }
 
@@ -202,12 +178,12 @@ static void transforms_in_tiles(void) {
                 for (size_t x = 0; x < 16; x += 4)
                     for (uint8_t mode = 0; mode < 13; mode++) {
                         size_t tile_width = ends % 2 ? 18 : 20;
-                        av1_edge_plane plane = {48, 0, 0, ends % 2 ? 22 : 40, ends / 2 ? 26 : 40, 4, 8, tile_width, 18, 0, 0};
-                        av1_edge_block edge = {x, y, x / 4, y / 4, 0, 0, each[k].block, each[k].size, mode, (int8_t)(mode && mode < 9 ? k % 3 - 1 : 0), 8, 1};
-                        av1_region_8 tile = {samples + 8 * 48 + 4, 48, 36, 36};
+                        tilg_edge_plane plane = {48, 0, 0, ends % 2 ? 22 : 40, ends / 2 ? 26 : 40, 4, 8, tile_width, 18, 0, 0};
+                        tilg_edge_block edge = {x, y, x / 4, y / 4, 0, 0, each[k].block, each[k].size, mode, (int8_t)(mode && mode < 9 ? k % 3 - 1 : 0), 8, 1};
+                        tilg_region_8 tile = {samples + 8 * 48 + 4, 48, 36, 36};
                         memcpy(expected, samples, sizeof samples);
-                        uint32_t status = av1_predict_in_plane_8(expected, sizeof expected, &plane, &edge, 1, NULL, 0, 0);
-                        CHECK(av1_predict_in_tile_8(&tile, room, sizeof room, &plane, &edge, 1, NULL, 0, 0) == status);
+                        uint32_t status = tilg_predict_in_plane_8(expected, sizeof expected, &plane, &edge, 1, NULL, 0, 0);
+                        CHECK(tilg_predict_in_tile_8(&tile, room, sizeof room, &plane, &edge, 1, NULL, 0, 0) == status);
                         CHECK(memcmp(samples, expected, sizeof samples) == 0);
                     }
 }
@@ -215,28 +191,25 @@ static void transforms_in_tiles(void) {
 /* What is refused leaves the region as it was, and what lies beside a rectangle always stays. */
 static void refused_calls(void) {
     uint8_t *samples = before_a_page(LEN), room[64];
-    av1_transform_scratch scratch;
-    av1_region_8 region = {samples, STRIDE, COLUMNS, ROWS};
-    av1_read_region_8 read = {samples, STRIDE, COLUMNS, ROWS};
-    av1_motion_block block = motion_of(0, 0, 0), bad = block;
-    av1_row_8 rows[2] = {{samples, 3}, {samples + 3, 2}};
+    tilg_transform_scratch scratch;
+    tilg_region_8 region = {samples, STRIDE, COLUMNS, ROWS};
+    tilg_read_region_8 read = {samples, STRIDE, COLUMNS, ROWS};
+    tilg_motion_block block = motion_of(0, 0, 0), bad = block;
     bad.filter_y = 4;
-    memset(samples, 77, LEN);
-    CHECK(av1_put_8tap_in_8(&region, 249, 0, room, 64, reference_8, sizeof reference_8, SIDE, 3, 3, &block) == AV1_BAD_AREA);
-    CHECK(av1_put_8tap_in_8(&region, 0, SIZE_MAX, room, 64, reference_8, sizeof reference_8, SIDE, 3, 3, &block) == AV1_BAD_AREA);
-    CHECK(av1_put_8tap_in_8(&region, 0, 0, room, 63, reference_8, sizeof reference_8, SIDE, 3, 3, &block) == AV1_BAD_AREA);
-    CHECK(av1_put_8tap_in_8(&region, 0, 0, room, 64, reference_8, sizeof reference_8, SIDE, 3, 3, &bad) == AV1_BAD_MODE);
-    CHECK(av1_inverse_transform_add_in_8(&region, 0, 57, room, 64, &scratch, few, 3, SIZE_8X8, 0) == AV1_BAD_AREA);
-    CHECK(av1_inverse_transform_add_in_8(&region, 0, 0, room, 63, &scratch, few, 3, SIZE_8X8, 0) == AV1_TOO_SHORT);
-    CHECK(av1_inverse_transform_add_in_8(&region, 0, 0, room, 64, &scratch, few, 3, 19, 0) == AV1_BAD_SIZE);
-    CHECK(av1_store_region_8(&region, 0, 0, 1, AV1_ROWS + 1, room, 64) == AV1_BAD_SIZE);
-    CHECK(av1_load_region_8(&read, 0, 0, 8, 9, room, 64) == AV1_TOO_SHORT);
-    CHECK(av1_store_rows_8(rows, 2, room, 4) == AV1_TOO_SHORT);
+    memset(samples, 77, LEN), memset(room, 5, 64);
+    CHECK(put_in(&region, 249, 0, 3, 3, &block) == TILG_BAD_AREA);
+    CHECK(put_in(&region, 0, SIZE_MAX, 3, 3, &block) == TILG_BAD_AREA);
+    CHECK(put_in(&region, 0, 0, 3, 3, &bad) == TILG_BAD_MODE);
+    CHECK(add_in(&region, 0, 57, &scratch, SIZE_8X8) == TILG_BAD_AREA);
+    CHECK(add_in(&region, 0, 0, &scratch, 19) == TILG_BAD_SIZE);
+    CHECK(tilg_store_region_8(&region, 0, 0, 8, 9, room, 64) == TILG_TOO_SHORT);
+    CHECK(tilg_store_region_8(&region, 0, 0, 1, SIZE_MAX, room, 64) == TILG_BAD_AREA);
+    CHECK(tilg_load_region_8(room, 64, &read, 0, 0, 8, 9) == TILG_TOO_SHORT);
+    CHECK(tilg_load_region_8(room, 64, &read, 256, 64, 1, 0) == TILG_BAD_AREA);
+    CHECK(tilg_load_region_8(NULL, 0, &read, 256, 64, 0, 0) == TILG_DONE);
     for (size_t i = 0; i < LEN; i++) CHECK(samples[i] == 77);
-    memset(room, 5, 64);
-    CHECK(av1_store_rows_8(rows, 2, room, 5) == AV1_DONE);
-    for (size_t i = 0; i < LEN; i++) CHECK(samples[i] == (i < 5 ? 5 : 77));
-    CHECK(rows[0].at == samples && rows[0].len == 3 && rows[1].at == samples + 3 && rows[1].len == 2);
+    CHECK(tilg_store_region_8(&region, 253, 63, 3, 1, room, 3) == TILG_DONE);
+    for (size_t i = 0; i < LEN; i++) CHECK(samples[i] == (i >= LEN - 3 ? 5 : 77));
 }
 
 int main(void) {
@@ -244,8 +217,7 @@ int main(void) {
     tiles_of_one_plane();
     a_plane_upside_down();
     a_reference_upside_down();
-    other_calls_of_8();
-    calls_of_16();
+    samples_of_16_bits();
     transforms_in_tiles();
     refused_calls();
     return 0;

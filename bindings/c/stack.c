@@ -1,6 +1,6 @@
 /* Makes every call with many arguments, and tells how deep each went on the stack, in bytes: a line for each call. stack.py runs it, since what it
  * works out from the code must be at least that. A plan comes from the file that is named. */
-#include "av1_c.h"
+#include "tilgwaren.h"
 
 #include <stdio.h>
 #include <stdlib.h>
@@ -33,7 +33,7 @@ __attribute__((noinline)) static size_t taken(void) {
         paint_below();                                   \
         uint32_t status = (call);                        \
         size_t bytes = taken();                          \
-        CHECK(status == AV1_DONE);                       \
+        CHECK(status == TILG_DONE);                       \
         deepest = bytes > deepest ? bytes : deepest;     \
     } while (0)
 
@@ -42,7 +42,7 @@ static uint16_t plane_16[SIDE * SIDE], other_16[SIDE * SIDE], window_16[135 * 13
 static uint8_t window_8[135 * 135];
 static int16_t first[128 * 128], second[128 * 128], few[1024];
 static int32_t many[1024];
-static av1_transform_scratch scratch;
+static tilg_transform_scratch scratch;
 
 static void tell(const char *name, size_t deepest) { printf("%s %zu\n", name, deepest); }
 
@@ -53,51 +53,39 @@ static void fill(void) {
 
 /* Whether transforms of this size have this type: the call says so of a block that lies nowhere. */
 static int is_transform(uint8_t size, uint8_t type) {
-    return av1_inverse_transform_add_8(&scratch, few, 1024, plane_8, 0, SIDE, 0, 0, size, type) == AV1_BAD_AREA;
+    return tilg_inverse_transform_add_8(plane_8, 0, SIDE, 0, 0, &scratch, few, 1024, size, type) == TILG_BAD_AREA;
 }
 
 enum transform { ADD_8, ADD_16, ADD_RAV1E };
 
 static void transforms(enum transform call) {
-    static const char *names[] = {"av1_inverse_transform_add_8", "av1_inverse_transform_add_16", "av1_inverse_transform_add_rav1e_16"};
+    static const char *names[] = {"tilg_inverse_transform_add_8", "tilg_inverse_transform_add_16", "tilg_inverse_transform_add_rav1e_16"};
     size_t deepest = 0;
     for (uint8_t size = 0; size < 19; size++)
         for (uint8_t type = 0; type < 17; type++) {
             if (!is_transform(size, type)) continue;
             if (call == ADD_16)
-                DEEP(av1_inverse_transform_add_16(&scratch, many, 1024, plane_16, SIDE * SIDE, SIDE, 4, 4, size, type, 10));
+                DEEP(tilg_inverse_transform_add_16(plane_16, SIDE * SIDE, SIDE, 4, 4, &scratch, many, 1024, size, type, 10));
             else if (call == ADD_RAV1E)
-                DEEP(av1_inverse_transform_add_rav1e_16(&scratch, many, 1024, plane_16, SIDE * SIDE, SIDE, 4, 4, size, type, 10));
+                DEEP(tilg_inverse_transform_add_rav1e_16(plane_16, SIDE * SIDE, SIDE, 4, 4, &scratch, many, 1024, size, type, 10));
             else
-                DEEP(av1_inverse_transform_add_8(&scratch, few, 1024, plane_8, SIDE * SIDE, SIDE, 4, 4, size, type));
+                DEEP(tilg_inverse_transform_add_8(plane_8, SIDE * SIDE, SIDE, 4, 4, &scratch, few, 1024, size, type));
         }
     tell(names[call], deepest);
 }
 
-static void clamped(void) {
-    size_t deepest = 0;
-    many[0] = INT32_MAX;
-    for (uint8_t size = 0; size < 19; size++)
-        for (uint8_t type = 0; type < 17; type++)
-            if (is_transform(size, type))
-                DEEP(av1_inverse_transform_add_clamped_16(&scratch, many, 1024, plane_16, SIDE * SIDE, SIDE, 4, 4, size, type, 10));
-    tell("av1_inverse_transform_add_clamped_16", deepest);
-}
-
-enum motion { PUT_8, PUT_16, PREP_8, PREP_16, PUT_TESTED, PREP_TESTED };
+enum motion { PUT_8, PREP_8, PUT_TESTED, PREP_TESTED };
 
 static void motion(enum motion kind, const char *name) {
     size_t deepest = 0, all = SIDE * SIDE, from = MIDDLE, side = 128 * 128;
     for (uint8_t way = 0; way < 4 * 4; way++)
         for (unsigned size = 0; size < 64; size++) {
-            av1_motion_block block = {(size_t)1 << size % 8, (size_t)1 << size / 8, way % 2 * 5, way / 2 % 2 * 5, way / 4, 3 - way / 4};
+            tilg_motion_block block = {(size_t)1 << size % 8, (size_t)1 << size / 8, way % 2 * 5, way / 2 % 2 * 5, way / 4, 3 - way / 4};
             switch (kind) {
-            case PUT_8: DEEP(av1_put_8tap_8(plane_8, all, SIDE, 0, 0, other_8, all, SIDE, from, from, &block)); break;
-            case PUT_16: DEEP(av1_put_8tap_16(plane_16, all, SIDE, 0, 0, other_16, all, SIDE, from, from, &block, 10)); break;
-            case PREP_8: DEEP(av1_prep_8tap_8(first, side, other_8, all, SIDE, from, from, &block)); break;
-            case PREP_16: DEEP(av1_prep_8tap_16(first, side, other_16, all, SIDE, from, from, &block, 10)); break;
-            case PUT_TESTED: DEEP(av1_put_tested_16(plane_16, all, SIDE, 0, 0, other_16, all, SIDE, from, from, &block, 10)); break;
-            case PREP_TESTED: DEEP(av1_prep_tested_16(first, side, other_16, all, SIDE, from, from, &block, 10)); break;
+            case PUT_8: DEEP(tilg_put_8tap_8(plane_8, all, SIDE, 0, 0, other_8, all, SIDE, from, from, &block)); break;
+            case PREP_8: DEEP(tilg_prep_8tap_8(first, side, other_8, all, SIDE, from, from, &block)); break;
+            case PUT_TESTED: DEEP(tilg_put_tested_16(plane_16, all, SIDE, 0, 0, other_16, all, SIDE, from, from, &block, 10)); break;
+            case PREP_TESTED: DEEP(tilg_prep_tested_16(first, side, other_16, all, SIDE, from, from, &block, 10)); break;
             }
         }
     tell(name, deepest);
@@ -105,37 +93,26 @@ static void motion(enum motion kind, const char *name) {
 
 static void tests(void) {
     size_t deepest = 0, all = SIDE * SIDE;
-    for (size_t width = 1; width <= SIDE; width++) DEEP(av1_test_samples_16(plane_16, all, SIDE, 0, 0, width, SIDE, 10));
-    tell("av1_test_samples_16", deepest);
-}
-
-static void place(void) {
-    size_t deepest = 0;
-    for (int far = 0; far < 2; far++) {
-        av1_motion_plane plane = {.width = 64, .height = 64, .halved_columns = far, .halved_rows = far};
-        av1_moved_block block = {8, 8, 8, 8, far ? 9000 : 7, far ? -9000 : 9, 0, 0};
-        av1_moved_place found;
-        DEEP(av1_motion_place(&found, &plane, &block));
-    }
-    tell("av1_motion_place", deepest);
+    for (size_t width = 1; width <= SIDE; width++) DEEP(tilg_test_samples_16(plane_16, all, SIDE, 0, 0, width, SIDE, 10));
+    tell("tilg_test_samples_16", deepest);
 }
 
 static void moved(int is_deep, int is_prepared, const char *name) {
-    static const av1_motion_plane plane = {SIDE, 0, 0, SIDE, SIDE, 0, 0};
+    static const tilg_motion_plane plane = {SIDE, 0, 0, SIDE, SIDE, 0, 0};
     size_t deepest = 0, all = SIDE * SIDE;
     for (uint8_t way = 0; way < 4 * 4 * 2; way++)
         for (unsigned size = 0; size < 64; size++) {
             int16_t off = way / 16 ? -1000 : 40;
-            av1_moved_block block = {MIDDLE, MIDDLE, (size_t)1 << size % 8, (size_t)1 << size / 8, (int16_t)(off + way % 2 * 5),
+            tilg_moved_block block = {MIDDLE, MIDDLE, (size_t)1 << size % 8, (size_t)1 << size / 8, (int16_t)(off + way % 2 * 5),
                                      (int16_t)(off + way / 2 % 2 * 5), way / 4 % 4, 3 - way / 4 % 4};
             if (is_deep && is_prepared)
-                DEEP(av1_prep_moved_16(first, 128 * 128, other_16, all, &plane, &block, window_16, 135 * 135, 10));
+                DEEP(tilg_prep_moved_16(first, 128 * 128, window_16, 135 * 135, other_16, all, &plane, &block, 10));
             else if (is_prepared)
-                DEEP(av1_prep_moved_8(first, 128 * 128, other_8, all, &plane, &block, window_8, 135 * 135));
+                DEEP(tilg_prep_moved_8(first, 128 * 128, window_8, 135 * 135, other_8, all, &plane, &block));
             else if (is_deep)
-                DEEP(av1_put_moved_16(plane_16, all, SIDE, 0, 0, other_16, all, &plane, &block, window_16, 135 * 135, 10));
+                DEEP(tilg_put_moved_16(plane_16, all, SIDE, 0, 0, window_16, 135 * 135, other_16, all, &plane, &block, 10));
             else
-                DEEP(av1_put_moved_8(plane_8, all, SIDE, 0, 0, other_8, all, &plane, &block, window_8, 135 * 135));
+                DEEP(tilg_put_moved_8(plane_8, all, SIDE, 0, 0, window_8, 135 * 135, other_8, all, &plane, &block));
         }
     tell(name, deepest);
 }
@@ -145,36 +122,36 @@ static void averages(int is_deep) {
     for (unsigned size = 0; size < 64; size++) {
         size_t w = (size_t)1 << size % 8, h = (size_t)1 << size / 8;
         if (is_deep)
-            DEEP(av1_mc_avg_16(plane_16, all, SIDE, 0, 0, w, h, first, len, second, len, 10));
+            DEEP(tilg_mc_avg_16(plane_16, all, SIDE, 0, 0, w, h, first, len, second, len, 10));
         else
-            DEEP(av1_mc_avg_8(plane_8, all, SIDE, 0, 0, w, h, first, len, second, len));
+            DEEP(tilg_mc_avg_8(plane_8, all, SIDE, 0, 0, w, h, first, len, second, len));
     }
-    tell(is_deep ? "av1_mc_avg_16" : "av1_mc_avg_8", deepest);
+    tell(is_deep ? "tilg_mc_avg_16" : "tilg_mc_avg_8", deepest);
 }
 
 enum intra { INTRA, CFL, EDGE, PLANE };
 
-static uint32_t predict(enum intra kind, int is_deep, const av1_intra_block *block) {
-    static const av1_edge_plane plane = {.stride = SIDE, .width = SIDE, .height = SIDE, .tile_width = SIDE, .tile_height = SIDE};
+static uint32_t predict(enum intra kind, int is_deep, const tilg_intra_block *block) {
+    static const tilg_edge_plane plane = {.stride = SIDE, .width = SIDE, .height = SIDE, .tile_width = SIDE, .tile_height = SIDE};
     size_t all = SIDE * SIDE, at = MIDDLE;
-    av1_edge_block edge = {at, at, at / 4, at / 4, 0, 0, 12, block->tx_size, block->mode, block->angle_step, block->bit_depth, 1};
+    tilg_edge_block edge = {at, at, at / 4, at / 4, 0, 0, 12, block->tx_size, block->mode, block->angle_step, block->bit_depth, 1};
     size_t deepest = 0;
     if (kind == INTRA && is_deep)
-        DEEP(av1_predict_intra_16(plane_16, all, SIDE, at, at, block, other_16, 128, 9, other_16 + 128, 128));
+        DEEP(tilg_predict_intra_16(plane_16, all, SIDE, at, at, block, other_16, 128, 9, other_16 + 128, 128));
     else if (kind == INTRA)
-        DEEP(av1_predict_intra_8(plane_8, all, SIDE, at, at, block, other_8, 128, 9, other_8 + 128, 128));
+        DEEP(tilg_predict_intra_8(plane_8, all, SIDE, at, at, block, other_8, 128, 9, other_8 + 128, 128));
     else if (kind == CFL && is_deep)
-        DEEP(av1_predict_cfl_16(plane_16, all, SIDE, at, at, block, other_16, 128, other_16 + 128, 128, first, 64 * 64, 3));
+        DEEP(tilg_predict_cfl_16(plane_16, all, SIDE, at, at, block, other_16, 128, other_16 + 128, 128, first, 64 * 64, 3));
     else if (kind == CFL)
-        DEEP(av1_predict_cfl_8(plane_8, all, SIDE, at, at, block, other_8, 128, other_8 + 128, 128, first, 64 * 64, 3));
+        DEEP(tilg_predict_cfl_8(plane_8, all, SIDE, at, at, block, other_8, 128, other_8 + 128, 128, first, 64 * 64, 3));
     else if (kind == PLANE && is_deep)
-        DEEP(av1_predict_in_plane_16(plane_16, all, &plane, &edge, 1, NULL, 0, 0));
+        DEEP(tilg_predict_in_plane_16(plane_16, all, &plane, &edge, 1, NULL, 0, 0));
     else if (kind == PLANE)
-        DEEP(av1_predict_in_plane_8(plane_8, all, &plane, &edge, 1, NULL, 0, 0));
+        DEEP(tilg_predict_in_plane_8(plane_8, all, &plane, &edge, 1, NULL, 0, 0));
     else if (is_deep)
-        DEEP(av1_intra_edge_16(other_16, AV1_EDGE_SAMPLES, plane_16, all, &plane, &edge));
+        DEEP(tilg_intra_edge_16(other_16, TILG_EDGE_SAMPLES, plane_16, all, &plane, &edge));
     else
-        DEEP(av1_intra_edge_8(other_8, AV1_EDGE_SAMPLES, plane_8, all, &plane, &edge));
+        DEEP(tilg_intra_edge_8(other_8, TILG_EDGE_SAMPLES, plane_8, all, &plane, &edge));
     return (uint32_t)deepest;
 }
 
@@ -185,7 +162,7 @@ static void intra(enum intra kind, int is_deep, const char *name) {
             for (int8_t step = -3; step <= 3; step += 3) {
                 if (step != 0 && (mode < 1 || mode > 8 || kind == CFL)) continue;
                 for (uint8_t sides = 0; sides < 8; sides++) {
-                    av1_intra_block block = {mode, size, step, is_deep ? 10 : 8, sides & 1, sides >> 1 & 1, sides >> 2, 1, 100, 100};
+                    tilg_intra_block block = {mode, size, step, is_deep ? 10 : 8, sides & 1, sides >> 1 & 1, sides >> 2, 1, 100, 100};
                     size_t bytes = predict(kind, is_deep, &block);
                     deepest = bytes > deepest ? bytes : deepest;
                 }
@@ -198,67 +175,35 @@ static void luma(int is_deep) {
     size_t deepest = 0, all = SIDE * SIDE;
     for (unsigned i = 0; i < sizeof sizes; i++)
         for (uint8_t sampling = 0; sampling < 3; sampling++) {
-            av1_cfl_block block = {sizes[i], sampling > 0, sampling > 1, 0, 0};
+            tilg_cfl_block block = {sizes[i], sampling > 0, sampling > 1, 0, 0};
             if (is_deep)
-                DEEP(av1_cfl_ac_16(first, 32 * 32, plane_16, all, SIDE, 0, 0, &block, 10));
+                DEEP(tilg_cfl_ac_16(first, 32 * 32, plane_16, all, SIDE, 0, 0, &block, 10));
             else
-                DEEP(av1_cfl_ac_8(first, 32 * 32, plane_8, all, SIDE, 0, 0, &block));
+                DEEP(tilg_cfl_ac_8(first, 32 * 32, plane_8, all, SIDE, 0, 0, &block));
         }
-    tell(is_deep ? "av1_cfl_ac_16" : "av1_cfl_ac_8", deepest);
+    tell(is_deep ? "tilg_cfl_ac_16" : "tilg_cfl_ac_8", deepest);
 }
 
 static void numbers(void) {
-    static const av1_luma_block luma_block = {.block_size = 9, .tx_size = 1, .xdec = 1, .ydec = 1, .visible_columns = 12, .visible_rows = 8};
-    static const av1_neighbours neighbours = {.above_mode = 9, .left_mode = AV1_ANY_MODE};
-    av1_cfl_block block;
-    int8_t step;
-    uint8_t smooth;
+    static const tilg_luma_block luma_block = {.block_size = 9, .tx_size = 1, .halved_columns = 1, .halved_rows = 1, .visible_columns = 12, .visible_rows = 8};
+    tilg_cfl_block block;
     size_t deepest = 0;
-    DEEP(av1_cfl_block_of(&block, &luma_block));
-    tell("av1_cfl_block_of", deepest);
-    deepest = 0;
-    DEEP(av1_angle_step(&step, 3, 54));
-    tell("av1_angle_step", deepest);
-    deepest = 0;
-    DEEP(av1_smooth_neighbour(&smooth, &neighbours));
-    tell("av1_smooth_neighbour", deepest);
-}
-
-static void rows(void) {
-    av1_row_8 stored_8[SIDE];
-    av1_row_16 stored_16[SIDE];
-    av1_read_row_8 loaded_8[SIDE];
-    av1_read_row_16 loaded_16[SIDE];
-    size_t deepest = 0, all = SIDE * SIDE;
-    for (size_t y = 0; y < SIDE; y++) {
-        stored_8[y] = (av1_row_8){plane_8 + y * SIDE, SIDE}, loaded_8[y] = (av1_read_row_8){plane_8 + y * SIDE, SIDE};
-        stored_16[y] = (av1_row_16){plane_16 + y * SIDE, SIDE}, loaded_16[y] = (av1_read_row_16){plane_16 + y * SIDE, SIDE};
-    }
-    DEEP(av1_load_rows_8(other_8, all, loaded_8, SIDE));
-    tell("av1_load_rows_8", deepest);
-    deepest = 0;
-    DEEP(av1_load_rows_16(other_16, all, loaded_16, SIDE));
-    tell("av1_load_rows_16", deepest);
-    deepest = 0;
-    DEEP(av1_store_rows_8(stored_8, SIDE, other_8, all));
-    tell("av1_store_rows_8", deepest);
-    deepest = 0;
-    DEEP(av1_store_rows_16(stored_16, SIDE, other_16, all));
-    tell("av1_store_rows_16", deepest);
+    DEEP(tilg_cfl_block_of(&block, &luma_block));
+    tell("tilg_cfl_block_of", deepest);
 }
 
 static void whole(const uint8_t *plan, size_t len) {
     static uint8_t room[MOST];
     size_t wanted, written, deepest = 0;
-    av1_refusal refusal;
-    DEEP(av1_planes_len(plan, len, &wanted, &refusal));
-    tell("av1_planes_len", deepest);
+    tilg_refusal refusal;
+    DEEP(tilg_planes_len(&wanted, &refusal, plan, len));
+    tell("tilg_planes_len", deepest);
     deepest = 0;
-    DEEP(av1_reconstruct_plan(plan, len, room, sizeof room, &written, &refusal));
-    tell("av1_reconstruct_plan", deepest);
+    DEEP(tilg_reconstruct_plan(room, sizeof room, &written, &refusal, plan, len));
+    tell("tilg_reconstruct_plan", deepest);
     paint_below();
-    CHECK(av1_c_version() == AV1_C_VERSION);
-    tell("av1_c_version", taken());
+    CHECK(tilg_version_0_4() == TILG_VERSION);
+    tell("tilg_version_0_4", taken());
 }
 
 /* A plan without references as a grid of one tile, as a sequence of one frame, and as a trace, whose planes are all 0. */
@@ -267,49 +212,54 @@ static void parts(const uint8_t *plan, size_t len) {
     enum { HEADER = 20 };
     uint8_t leaves[4] = {(uint8_t)(len - HEADER), (uint8_t)((len - HEADER) >> 8), 0, 0}, whole[4] = {(uint8_t)len, (uint8_t)(len >> 8), 0, 0};
     size_t wanted, written, found, deepest = 0;
-    av1_difference list[4];
-    av1_part_refusal told;
-    av1_refusal refusal;
+    tilg_difference list[4];
+    tilg_part_refusal told;
+    tilg_refusal refusal;
     memcpy(text + 4, plan + 4, HEADER - 4), memcpy(text + HEADER, "\1\1", 2);
     memcpy(text + HEADER + 2, leaves, 4), memcpy(text + HEADER + 6, plan + HEADER, len - HEADER);
     for (int third = 0; third < 2; third++) {
         memcpy(text, third ? "RTL2" : "RTL1", 4);
-        DEEP(av1_reconstruct_tiles(text, len + 6, room, sizeof room, &written, &told));
+        DEEP(tilg_reconstruct_tiles(room, sizeof room, &written, &told, text, len + 6));
     }
-    tell("av1_reconstruct_tiles", deepest);
+    tell("tilg_reconstruct_tiles", deepest);
     deepest = 0;
     memcpy(text, "RSQ1", 4), memcpy(text + 4, plan + 4, 6), memcpy(text + 10, "\1\0\0\0\0\0\0\0\0\0\0\0", 12);
     memcpy(text + 22, leaves, 4), memcpy(text + 26, plan + HEADER, len - HEADER);
-    DEEP(av1_reconstruct_sequence(text, len + 6, room, sizeof room, &written, &told));
-    tell("av1_reconstruct_sequence", deepest);
+    DEEP(tilg_reconstruct_sequence(room, sizeof room, &written, &told, text, len + 6));
+    tell("tilg_reconstruct_sequence", deepest);
     deepest = 0;
-    CHECK(av1_planes_len(plan, len, &wanted, &refusal) == AV1_DONE && 8 + len + wanted <= sizeof text);
+    CHECK(tilg_planes_len(&wanted, &refusal, plan, len) == TILG_DONE && 8 + len + wanted <= sizeof text);
     memcpy(text, "RTR1", 4), memcpy(text + 4, whole, 4), memcpy(text + 8, plan, len), memset(text + 8 + len, 0, wanted);
-    DEEP(av1_trace_differences(text, 8 + len + wanted, list, 4, &found, &told));
-    tell("av1_trace_differences", deepest);
+    DEEP(tilg_trace_differences(list, 4, &found, &told, text, 8 + len + wanted));
+    tell("tilg_trace_differences", deepest);
 }
 
 static void builder(void) {
     static uint8_t room[MOST];
-    static const av1_plan_header header = {.width = 8, .height = 8, .version = 1, .depth = 8, .sampling = 2, .mask = 1};
-    static const av1_leaf leaf = {.chroma = 1};
-    static const av1_coefficient lifted = {.value = 100};
-    av1_builder builder;
+    static const tilg_plan_header header = {.width = 8, .height = 8, .version = 1, .bit_depth = 8, .sampling = 2, .mask = 1};
+    static const tilg_leaf leaf = {.has_chroma = 1};
+    static const tilg_coefficient lifted = {.value = 100};
+    tilg_builder builder;
+    tilg_next_field next;
+    uint32_t field;
     size_t deepest = 0, len;
-    DEEP(av1_builder_begin(&header, &builder, room, MOST));
-    tell("av1_builder_begin", deepest);
+    DEEP(tilg_builder_begin(&builder, room, MOST, &header));
+    tell("tilg_builder_begin", deepest);
     deepest = 0;
-    DEEP(av1_builder_reference(&builder, room, MOST, plane_16, 64, plane_16, 64, plane_16, 64));
-    tell("av1_builder_reference", deepest);
+    DEEP(tilg_builder_reference(&builder, room, MOST, plane_16, 64, plane_16, 64, plane_16, 64));
+    tell("tilg_builder_reference", deepest);
     deepest = 0;
-    DEEP(av1_builder_mark(&builder, room, MOST, 0));
-    tell("av1_builder_mark", deepest);
+    DEEP(tilg_builder_mark(&builder, room, MOST, 0));
+    tell("tilg_builder_mark", deepest);
     deepest = 0;
-    DEEP(av1_builder_leaf(&builder, room, MOST, &leaf, &lifted, 1, NULL, 0, NULL, 0));
-    tell("av1_builder_leaf", deepest);
+    DEEP(tilg_builder_leaf(&builder, room, MOST, &field, &leaf, &lifted, 1, NULL, 0, NULL, 0));
+    tell("tilg_builder_leaf", deepest);
     deepest = 0;
-    DEEP(av1_builder_finish(&builder, room, MOST, &len));
-    tell("av1_builder_finish", deepest);
+    DEEP(tilg_builder_next(&next, &builder));
+    tell("tilg_builder_next", deepest);
+    deepest = 0;
+    DEEP(tilg_builder_finish(&len, &builder, room, MOST));
+    tell("tilg_builder_finish", deepest);
 }
 
 int main(int count, char **words) {
@@ -326,25 +276,20 @@ int main(int count, char **words) {
     for (int is_deep = 0; is_deep < 2; is_deep++) {
         transforms(is_deep ? ADD_16 : ADD_8);
         averages(is_deep);
-        moved(is_deep, 0, is_deep ? "av1_put_moved_16" : "av1_put_moved_8");
-        moved(is_deep, 1, is_deep ? "av1_prep_moved_16" : "av1_prep_moved_8");
+        moved(is_deep, 0, is_deep ? "tilg_put_moved_16" : "tilg_put_moved_8");
+        moved(is_deep, 1, is_deep ? "tilg_prep_moved_16" : "tilg_prep_moved_8");
         luma(is_deep);
-        intra(INTRA, is_deep, is_deep ? "av1_predict_intra_16" : "av1_predict_intra_8");
-        intra(CFL, is_deep, is_deep ? "av1_predict_cfl_16" : "av1_predict_cfl_8");
-        intra(EDGE, is_deep, is_deep ? "av1_intra_edge_16" : "av1_intra_edge_8");
-        intra(PLANE, is_deep, is_deep ? "av1_predict_in_plane_16" : "av1_predict_in_plane_8");
+        intra(INTRA, is_deep, is_deep ? "tilg_predict_intra_16" : "tilg_predict_intra_8");
+        intra(CFL, is_deep, is_deep ? "tilg_predict_cfl_16" : "tilg_predict_cfl_8");
+        intra(EDGE, is_deep, is_deep ? "tilg_intra_edge_16" : "tilg_intra_edge_8");
+        intra(PLANE, is_deep, is_deep ? "tilg_predict_in_plane_16" : "tilg_predict_in_plane_8");
     }
     transforms(ADD_RAV1E);
-    clamped();
     numbers();
-    rows();
-    place();
     tests();
-    motion(PUT_8, "av1_put_8tap_8");
-    motion(PUT_16, "av1_put_8tap_16");
-    motion(PREP_8, "av1_prep_8tap_8");
-    motion(PREP_16, "av1_prep_8tap_16");
-    motion(PUT_TESTED, "av1_put_tested_16");
-    motion(PREP_TESTED, "av1_prep_tested_16");
+    motion(PUT_8, "tilg_put_8tap_8");
+    motion(PREP_8, "tilg_prep_8tap_8");
+    motion(PUT_TESTED, "tilg_put_tested_16");
+    motion(PREP_TESTED, "tilg_prep_tested_16");
     return 0;
 }

@@ -1,6 +1,6 @@
-/* Refuses each allocation of a call in turn, alone and with all behind it: the call answers AV1_OUT_OF_MEMORY and writes nothing, or does it
- * all, and gives all memory back. These functions stand in place of those of the archive, as a program's own heap may. */
-#include "av1_c.h"
+/* Refuses each allocation of a call in turn, alone and with all behind it: the call answers TILG_OUT_OF_MEMORY and writes nothing, or does it
+ * all, and gives all memory back. The library's own heap (heap.c) stands here over functions that refuse, in place of that of the archive. */
+#include "tilgwaren.h"
 
 #include <stdbool.h>
 #include <stdio.h>
@@ -9,10 +9,7 @@
 
 #define CHECK(e) do { if (!(e)) { fprintf(stderr, "%s:%d: %s\n", __FILE__, __LINE__, #e); exit(1); } } while (0)
 
-struct tried { bool ok; void *p; };
-
-static char nothing;
-static long asked, kept;     /* how many allocations were asked for, and how many are not given back */
+static long asked, unfreed;  /* how many allocations were asked for, and how many are not given back */
 static long first, last;     /* which of them are refused */
 
 static bool is_refused(void) {
@@ -20,21 +17,42 @@ static bool is_refused(void) {
     return first <= asked && asked <= last;
 }
 
-struct tried rattle_alloc(size_t n, size_t align) {
-    void *p = is_refused() ? NULL : malloc(n ? n : align);
-    kept += p != NULL;
-    return (struct tried){p != NULL, p ? p : &nothing};
+void *starved_malloc(size_t size) {
+    void *p = is_refused() ? NULL : malloc(size);
+    unfreed += p != NULL;
+    return p;
 }
 
-struct tried rattle_realloc(void *old, size_t used, size_t n, size_t align) {
-    (void)used;
-    void *p = is_refused() ? NULL : realloc(old, n ? n : align);
-    return (struct tried){p != NULL, p ? p : &nothing};
+void *starved_realloc(void *old, size_t size) {
+    return is_refused() ? NULL : realloc(old, size);
 }
 
-void rattle_dealloc(void *p) {
-    kept--;
+void starved_free(void *p) {
+    unfreed--;
     free(p);
+}
+
+#define malloc starved_malloc
+#define realloc starved_realloc
+#define free starved_free
+#include "heap.c"
+#undef malloc
+#undef realloc
+#undef free
+
+/* What the heap answers is never NULL, of no bytes too, and a block keeps its bytes where it can't be made longer. */
+static void heap(void) {
+    asked = unfreed = 0, first = 3, last = 3;
+    struct tried none = rattle_alloc(0, 8), block = rattle_alloc(16, 16);
+    CHECK(none.ok && none.p && block.ok && block.p && unfreed == 2);
+    memset(block.p, 7, 16);
+    struct tried refused = rattle_realloc(block.p, 16, 1 << 20, 16);
+    CHECK(!refused.ok && refused.p && unfreed == 2);
+    struct tried longer = rattle_realloc(block.p, 16, 1 << 20, 16);
+    CHECK(longer.ok);
+    for (int i = 0; i < 16; i++) CHECK(((uint8_t *)longer.p)[i] == 7);
+    rattle_dealloc(none.p), rattle_dealloc(longer.p);
+    CHECK(unfreed == 0);
 }
 
 enum { PLAN, TILES, THIRD_TILES, SEQUENCE, TRACE, KINDS, HEADER = 20, MOST = 4096 };
@@ -69,13 +87,13 @@ static void give(given *to, int kind, const uint8_t *plan, size_t len, const uin
 }
 
 static uint32_t call(const given *it, uint8_t *room, size_t *written) {
-    av1_refusal refusal = {7, 8, 9};
-    av1_part_refusal told = {7, 8, 9, 10};
-    av1_difference list[1];
-    uint32_t status = it->kind == PLAN ? av1_reconstruct_plan(it->bytes, it->len, room, MOST, written, &refusal)
-        : it->kind == TILES || it->kind == THIRD_TILES ? av1_reconstruct_tiles(it->bytes, it->len, room, MOST, written, &told)
-        : it->kind == SEQUENCE ? av1_reconstruct_sequence(it->bytes, it->len, room, MOST, written, &told)
-        : av1_trace_differences(it->bytes, it->len, list, 1, written, &told);
+    tilg_refusal refusal = {7, 8, 9};
+    tilg_part_refusal told = {7, 8, 9, 10};
+    tilg_difference list[1];
+    uint32_t status = it->kind == PLAN ? tilg_reconstruct_plan(room, MOST, written, &refusal, it->bytes, it->len)
+        : it->kind == TILES || it->kind == THIRD_TILES ? tilg_reconstruct_tiles(room, MOST, written, &told, it->bytes, it->len)
+        : it->kind == SEQUENCE ? tilg_reconstruct_sequence(room, MOST, written, &told, it->bytes, it->len)
+        : tilg_trace_differences(list, 1, written, &told, it->bytes, it->len);
     CHECK(refusal.at == 7 && refusal.leaf == 8 && refusal.kind == 9);
     CHECK(told.part == 7 && told.at == 8 && told.leaf == 9 && told.kind == 10);
     return status;
@@ -87,13 +105,13 @@ static uint32_t starve(const given *it, const uint8_t *planes, size_t wanted, lo
     memset(room, 0xA5, sizeof room);
     asked = 0, first = from, last = to;
     uint32_t status = call(it, room, &written);
-    CHECK(kept == 0);
-    if (status == AV1_DONE && it->kind == TRACE) {
+    CHECK(unfreed == 0);
+    if (status == TILG_DONE && it->kind == TRACE) {
         CHECK(written == 0 && room[0] == 0xA5);
-    } else if (status == AV1_DONE) {
+    } else if (status == TILG_DONE) {
         CHECK(written == wanted && !memcmp(room, planes, wanted));
     } else {
-        CHECK(status == AV1_OUT_OF_MEMORY && written == 77);
+        CHECK(status == TILG_OUT_OF_MEMORY && written == 77);
         for (size_t i = 0; i < sizeof room; i++) CHECK(room[i] == 0xA5);
     }
     return status;
@@ -108,11 +126,11 @@ static size_t read_file(const char *name, uint8_t *bytes, size_t most) {
 }
 
 static void starve_each(const given *it, const uint8_t *planes, size_t wanted) {
-    CHECK(starve(it, planes, wanted, 1, 0) == AV1_DONE);
+    CHECK(starve(it, planes, wanted, 1, 0) == TILG_DONE);
     long all = asked, refused = 0;
     for (long i = 1; i <= all; i++) {
-        CHECK(starve(it, planes, wanted, i, 1000000) == AV1_OUT_OF_MEMORY);
-        refused += starve(it, planes, wanted, i, i) == AV1_OUT_OF_MEMORY;
+        CHECK(starve(it, planes, wanted, i, 1000000) == TILG_OUT_OF_MEMORY);
+        refused += starve(it, planes, wanted, i, i) == TILG_OUT_OF_MEMORY;
     }
     CHECK(refused > 0);
     printf("each of %ld allocations refused: %ld alone ended the call\n", all, refused);
@@ -122,6 +140,7 @@ int main(int count, char **words) {
     static uint8_t plan[MOST], planes[MOST];
     static given it;
     CHECK(count == 3);
+    heap();
     size_t len = read_file(words[1], plan, sizeof plan), wanted = read_file(words[2], planes, sizeof planes);
     for (int kind = 0; kind < KINDS; kind++) {
         give(&it, kind, plan, len, planes, wanted);

@@ -1,13 +1,14 @@
-/* av1_mc_avg_8 and _16. */
+/* tilg_mc_avg_8 and _16. */
 #include "fuzz.h"
 
 static area to;
-static size_t width, height, bits;
+static size_t width, height;
+static uint8_t bits;
 
 static uint32_t average(numbers samples, numbers first, numbers second) {
     return samples.width == 1
-        ? av1_mc_avg_8(samples.at, samples.count, to.stride, to.x, to.y, width, height, first.at, first.count, second.at, second.count)
-        : av1_mc_avg_16(samples.at, samples.count, to.stride, to.x, to.y, width, height, first.at, first.count, second.at, second.count, bits);
+        ? tilg_mc_avg_8(samples.at, samples.count, to.stride, to.x, to.y, width, height, first.at, first.count, second.at, second.count)
+        : tilg_mc_avg_16(samples.at, samples.count, to.stride, to.x, to.y, width, height, first.at, first.count, second.at, second.count, bits);
 }
 
 static numbers lay_values(size_t needed) {
@@ -15,10 +16,10 @@ static numbers lay_values(size_t needed) {
 }
 
 static uint32_t expected(numbers samples, numbers first, numbers second) {
-    if (width < 1 || width > 128 || height < 1 || height > 128) return AV1_BAD_SIZE;
-    if (!is_inside(samples, to)) return AV1_BAD_AREA;
-    if (first.count < width * height || second.count < width * height) return AV1_TOO_SHORT;
-    return samples.width == 1 || is_depth(bits) ? AV1_DONE : AV1_BAD_DEPTH;
+    if (width < 1 || width > 128 || height < 1 || height > 128) return TILG_BAD_SIZE;
+    if (!is_inside(samples, to)) return TILG_BAD_AREA;
+    if (first.count < width * height || second.count < width * height) return TILG_TOO_SHORT;
+    return samples.width == 1 || is_depth(bits) ? TILG_DONE : TILG_BAD_DEPTH;
 }
 
 int LLVMFuzzerTestOneInput(const uint8_t *data, size_t length) {
@@ -36,7 +37,7 @@ int LLVMFuzzerTestOneInput(const uint8_t *data, size_t length) {
     answered(status, 0 OR(DONE) OR(BAD_SIZE) OR(BAD_AREA) OR(TOO_SHORT) | (wide ? 0 OR(BAD_DEPTH) : 0));
     CHECK(status == expected(samples, first, second));
     all_kept(first), all_kept(second);
-    if (status != AV1_DONE) {
+    if (status != TILG_DONE) {
         all_kept(samples);
         return 0;
     }
@@ -45,7 +46,7 @@ int LLVMFuzzerTestOneInput(const uint8_t *data, size_t length) {
     /* Samples of 16 bits become the same at a depth of 8. */
     numbers other = lay(samples.count, 2);
     bits = 8;
-    CHECK(average(other, first, second) == AV1_DONE);
+    CHECK(average(other, first, second) == TILG_DONE);
     same_inside(samples, to, other, to);
     return 0;
 }

@@ -5,7 +5,7 @@
 #ifndef FUZZ_H
 #define FUZZ_H
 
-#include "av1_c.h"
+#include "tilgwaren.h"
 
 #include <stdbool.h>
 #include <stdio.h>

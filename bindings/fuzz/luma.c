@@ -1,8 +1,8 @@
-/* Chroma from luma: av1_cfl_ac_8, av1_predict_cfl_8 and _16. */
+/* Chroma from luma: tilg_cfl_ac_8, tilg_predict_cfl_8 and _16. */
 #include "fuzz.h"
 
 static bool wide;
-static size_t bits;
+static uint8_t bits;
 
 static uint32_t most(void) {
     return wide ? (1u << (is_depth(bits) ? bits : 8)) - 1 : 255;
@@ -19,20 +19,20 @@ static bool is_chroma(uint8_t size) {
     return size < 22 && block_sides[size][0] <= 32 && block_sides[size][1] <= 32;
 }
 
-static uint32_t expected_differences(numbers ac, numbers luma, area a, const av1_cfl_block *b) {
-    if (!is_chroma(b->block_size)) return AV1_BAD_SIZE;
-    if (b->xdec > 1 || b->ydec > b->xdec) return AV1_BAD_SAMPLING;
+static uint32_t expected_differences(numbers ac, numbers luma, area a, const tilg_cfl_block *b) {
+    if (!is_chroma(b->block_size)) return TILG_BAD_SIZE;
+    if (b->halved_columns > 1 || b->halved_rows > b->halved_columns) return TILG_BAD_SAMPLING;
     size_t w = block_sides[b->block_size][0], h = block_sides[b->block_size][1];
-    if (b->w_pad >= w / 4 || b->h_pad >= h / 4) return AV1_BAD_PAD;
-    a.width = read_for(w, b->w_pad, b->xdec), a.height = read_for(h, b->h_pad, b->ydec);
-    if (!is_inside(luma, a)) return AV1_BAD_AREA;
-    if (ac.count < w * h) return AV1_TOO_SHORT;
-    if (!wide) return AV1_DONE;
-    if (!is_depth(bits)) return AV1_BAD_DEPTH;
+    if (b->w_pad >= w / 4 || b->h_pad >= h / 4) return TILG_BAD_PAD;
+    a.width = read_for(w, b->w_pad, b->halved_columns), a.height = read_for(h, b->h_pad, b->halved_rows);
+    if (!is_inside(luma, a)) return TILG_BAD_AREA;
+    if (ac.count < w * h) return TILG_TOO_SHORT;
+    if (!wide) return TILG_DONE;
+    if (!is_depth(bits)) return TILG_BAD_DEPTH;
     for (size_t y = 0; y < a.height; y++)
         for (size_t x = 0; x < a.width; x++)
-            if (get(luma, (a.y + y) * a.stride + a.x + x) >> bits) return AV1_BAD_SAMPLE;
-    return AV1_DONE;
+            if (get(luma, (a.y + y) * a.stride + a.x + x) >> bits) return TILG_BAD_SAMPLE;
+    return TILG_DONE;
 }
 
 static void differences(void) {
@@ -40,8 +40,8 @@ static void differences(void) {
     uint8_t named = sizes[below(sizeof sizes)];
     size_t w = block_sides[named][0], h = block_sides[named][1];
     uint8_t sampling = below(3);
-    av1_cfl_block b = {one_in(24) ? byte() : named, sampling > 0, sampling == 2, near(w / 4), near(h / 4)}, told;
-    if (one_in(24)) b.xdec = byte(), b.ydec = byte();
+    tilg_cfl_block b = {one_in(24) ? byte() : named, sampling > 0, sampling == 2, near(w / 4), near(h / 4)}, told;
+    if (one_in(24)) b.halved_columns = byte(), b.halved_rows = byte();
     memcpy(&told, &b, sizeof b);
     area a;
     numbers luma = lay_area(&a, read_for(w, b.w_pad < w / 4 ? b.w_pad : 0, sampling > 0), read_for(h, b.h_pad < h / 4 ? b.h_pad : 0, sampling == 2),
@@ -49,15 +49,15 @@ static void differences(void) {
     fill(luma, most());
     if (wide && luma.count && one_in(8)) set(luma, below(luma.count), bytes(2)), keep(luma);
     numbers ac = lay_filled(one_in(8) ? w * h + below(64) : one_in(24) ? w * h - below(w * h + 1) : w * h, 2, 65535);
-    uint32_t status = wide ? av1_cfl_ac_16(ac.at, ac.count, luma.at, luma.count, a.stride, a.x, a.y, &b, bits)
-                           : av1_cfl_ac_8(ac.at, ac.count, luma.at, luma.count, a.stride, a.x, a.y, &b);
+    uint32_t status = wide ? tilg_cfl_ac_16(ac.at, ac.count, luma.at, luma.count, a.stride, a.x, a.y, &b, bits)
+                           : tilg_cfl_ac_8(ac.at, ac.count, luma.at, luma.count, a.stride, a.x, a.y, &b);
     came_up(wide, b.block_size, sampling * 64 + b.w_pad * 8 + b.h_pad, status);
     answered(status, 0 OR(DONE) OR(BAD_SIZE) OR(BAD_SAMPLING) OR(BAD_PAD) OR(BAD_AREA) OR(TOO_SHORT)
                          | (wide ? 0 OR(BAD_DEPTH) OR(BAD_SAMPLE) : 0));
     CHECK(status == expected_differences(ac, luma, a, &b));
     all_kept(luma);
     CHECK(!memcmp(&b, &told, sizeof b));
-    if (status != AV1_DONE) {
+    if (status != TILG_DONE) {
         all_kept(ac);
         return;
     }
@@ -68,17 +68,17 @@ static void differences(void) {
     CHECK(-(long)(w * h) <= 2 * sum && 2 * sum <= (long)(w * h));
 }
 
-static uint32_t expected_chroma(const av1_intra_block *b, numbers samples, area a, numbers left, numbers above, numbers ac) {
-    if (b->tx_size >= 19) return AV1_BAD_SIZE;
-    if (b->angle_step) return AV1_BAD_ANGLE;
-    if (b->bit_depth != 8 && !(wide && is_depth(b->bit_depth))) return AV1_BAD_DEPTH;
-    if (!is_inside(samples, a)) return AV1_BAD_AREA;
+static uint32_t expected_chroma(const tilg_intra_block *b, numbers samples, area a, numbers left, numbers above, numbers ac) {
+    if (b->tx_size >= 19) return TILG_BAD_SIZE;
+    if (b->angle_step) return TILG_BAD_ANGLE;
+    if (b->bit_depth != 8 && !(wide && is_depth(b->bit_depth))) return TILG_BAD_DEPTH;
+    if (!is_inside(samples, a)) return TILG_BAD_AREA;
     size_t rows = b->has_left ? a.height : 0, columns = b->has_above ? a.width : 0;
-    return left.count < rows || above.count < columns || ac.count < a.width * a.height ? AV1_TOO_SHORT : AV1_DONE;
+    return left.count < rows || above.count < columns || ac.count < a.width * a.height ? TILG_TOO_SHORT : TILG_DONE;
 }
 
 static void chroma(void) {
-    av1_intra_block b = {byte(), number(19), one_in(24) ? byte() : 0, wide ? depth() : one_in(24) ? byte() : 8, one_in(4) ? 0 : byte(),
+    tilg_intra_block b = {byte(), number(19), one_in(24) ? byte() : 0, wide ? depth() : one_in(24) ? byte() : 8, one_in(4) ? 0 : byte(),
                          one_in(4) ? 0 : byte(), byte(), byte(), wild(), wild()}, told;
     memcpy(&told, &b, sizeof b);
     const uint8_t *sides = transform_sides[b.tx_size % 19];
@@ -91,16 +91,16 @@ static void chroma(void) {
     size_t needed = (size_t)sides[0] * sides[1];
     numbers ac = lay_filled(one_in(24) ? needed - below(needed + 1) : needed, 2, 65535);
     int16_t alpha = one_in(4) ? (int16_t)bytes(2) : (int16_t)below(33) - 16;
-    uint32_t status = wide ? av1_predict_cfl_16(samples.at, samples.count, a.stride, a.x, a.y, &b, left.at, left.count, above.at, above.count, ac.at,
+    uint32_t status = wide ? tilg_predict_cfl_16(samples.at, samples.count, a.stride, a.x, a.y, &b, left.at, left.count, above.at, above.count, ac.at,
                                                 ac.count, alpha)
-                           : av1_predict_cfl_8(samples.at, samples.count, a.stride, a.x, a.y, &b, left.at, left.count, above.at, above.count, ac.at,
+                           : tilg_predict_cfl_8(samples.at, samples.count, a.stride, a.x, a.y, &b, left.at, left.count, above.at, above.count, ac.at,
                                                ac.count, alpha);
     came_up(2 + wide, b.tx_size, (b.has_left != 0) * 2 + (b.has_above != 0) + 4 * (alpha < 0), status);
     answered(status, 0 OR(DONE) OR(BAD_SIZE) OR(BAD_ANGLE) OR(BAD_DEPTH) OR(BAD_AREA) OR(TOO_SHORT));
     CHECK(status == expected_chroma(&b, samples, a, left, above, ac));
     all_kept(left), all_kept(above), all_kept(ac);
     CHECK(!memcmp(&b, &told, sizeof b));
-    if (status == AV1_DONE) only_inside(samples, a, most());
+    if (status == TILG_DONE) only_inside(samples, a, most());
     else all_kept(samples);
 }
 

@@ -1,22 +1,22 @@
-/* Blocks from references: av1_put_8tap_8, av1_prep_8tap_8 and _16, those on tested samples, av1_test_samples_16, av1_motion_place, and
- * av1_put_moved_8, av1_prep_moved_8 and _16. */
+/* Blocks from references: tilg_put_8tap_8, tilg_prep_8tap_8, those on tested samples, tilg_test_samples_16, and tilg_put_moved_8,
+ * tilg_prep_moved_8 and _16. */
 #include "fuzz.h"
 
 /* How a block is asked for. */
 typedef struct {
-    bool wide, prepared, tested;
-    size_t bits;
+    bool wide, prepared;
+    uint8_t bits;
     area to, from;
     numbers written, read;
 } call;
 
 static uint8_t filter(void) {
-    static const uint8_t named[] = {0, 1, AV1_SHARP, 3, AV1_RAV1E_SHARP};
+    static const uint8_t named[] = {0, 1, TILG_FILTER_SHARP, 3, TILG_FILTER_RAV1E_SHARP};
     return one_in(24) ? byte() : named[below(5)];
 }
 
 static bool is_filter(uint8_t number) {
-    return number <= 3 || number == AV1_RAV1E_SHARP;
+    return number <= 3 || number == TILG_FILTER_RAV1E_SHARP;
 }
 
 static size_t side(void) {
@@ -35,17 +35,15 @@ static uint32_t most_of(const call *c) {
     return c->wide ? (1u << (is_depth(c->bits) ? c->bits : 8)) - 1 : 255;
 }
 
-static uint32_t block(const call *c, numbers written, const av1_motion_block *b) {
+static uint32_t block(const call *c, numbers written, const tilg_motion_block *b) {
     const area *to = &c->to, *from = &c->from;
     numbers read = c->read;
-    if (!c->wide && c->prepared) return av1_prep_8tap_8(written.at, written.count, read.at, read.count, from->stride, from->x, from->y, b);
+    if (!c->wide && c->prepared) return tilg_prep_8tap_8(written.at, written.count, read.at, read.count, from->stride, from->x, from->y, b);
     if (!c->wide)
-        return av1_put_8tap_8(written.at, written.count, to->stride, to->x, to->y, read.at, read.count, from->stride, from->x, from->y, b);
+        return tilg_put_8tap_8(written.at, written.count, to->stride, to->x, to->y, read.at, read.count, from->stride, from->x, from->y, b);
     if (c->prepared)
-        return (c->tested ? av1_prep_tested_16 : av1_prep_8tap_16)(written.at, written.count, read.at, read.count, from->stride, from->x, from->y, b,
-                                                                    c->bits);
-    return (c->tested ? av1_put_tested_16 : av1_put_8tap_16)(written.at, written.count, to->stride, to->x, to->y, read.at, read.count, from->stride,
-                                                             from->x, from->y, b, c->bits);
+        return tilg_prep_tested_16(written.at, written.count, read.at, read.count, from->stride, from->x, from->y, b, c->bits);
+    return tilg_put_tested_16(written.at, written.count, to->stride, to->x, to->y, read.at, read.count, from->stride, from->x, from->y, b, c->bits);
 }
 
 /* What is written for a block of these sides: its rectangle, or values row by row. */
@@ -75,39 +73,33 @@ static void same_written(const call *c, numbers other, area at, size_t width, si
     else same_inside(c->written, (area){c->to.stride, c->to.x, c->to.y, width, height}, other, at);
 }
 
-static uint32_t expected_block(const call *c, const av1_motion_block *b, area whole) {
-    if (!is_side(b->width) || !is_side(b->height)) return AV1_BAD_SIZE;
-    if (!is_filter(b->filter_x) || !is_filter(b->filter_y)) return AV1_BAD_MODE;
-    if (b->col_frac >= 16 || b->row_frac >= 16) return AV1_BAD_FRACTION;
-    if (!is_written_inside(c, b->width, b->height) || c->from.x < 3 || c->from.y < 3 || !is_inside(c->read, whole)) return AV1_BAD_AREA;
-    if (c->prepared && c->written.count < b->width * b->height) return AV1_TOO_SHORT;
-    if (!c->wide) return AV1_DONE;
-    if (!is_depth(c->bits)) return AV1_BAD_DEPTH;
-    for (size_t y = 0; y < whole.height && !c->tested; y++)
-        for (size_t x = 0; x < whole.width; x++)
-            if (get(c->read, (whole.y + y) * whole.stride + whole.x + x) >> c->bits) return AV1_BAD_SAMPLE;
-    return AV1_DONE;
+static uint32_t expected_block(const call *c, const tilg_motion_block *b, area whole) {
+    if (!is_side(b->width) || !is_side(b->height)) return TILG_BAD_SIZE;
+    if (!is_filter(b->filter_x) || !is_filter(b->filter_y)) return TILG_BAD_MODE;
+    if (b->fraction_x >= 16 || b->fraction_y >= 16) return TILG_BAD_FRACTION;
+    if (!is_written_inside(c, b->width, b->height) || c->from.x < 3 || c->from.y < 3 || !is_inside(c->read, whole)) return TILG_BAD_AREA;
+    if (c->prepared && c->written.count < b->width * b->height) return TILG_TOO_SHORT;
+    return !c->wide || is_depth(c->bits) ? TILG_DONE : TILG_BAD_DEPTH;
 }
 
 /* A block from a reference with pads. */
 static void by_place(call *c) {
-    av1_motion_block b = {side(), side(), number(16), number(16), filter(), filter()}, told = b;
+    tilg_motion_block b = {side(), side(), number(16), number(16), filter(), filter()}, told = b;
     size_t width = small(b.width), height = small(b.height);
     lay_written(c, width, height);
     area whole;
     c->read = lay_area(&whole, width + 7, height + 7, c->wide ? 2 : 1);
     fill(c->read, most_of(c));
-    if (c->wide && !c->tested && c->read.count && one_in(8)) set(c->read, below(c->read.count), bytes(2)), keep(c->read);
     c->from = (area){whole.stride, whole.x + 3, whole.y + 3, width, height};
     whole.x = c->from.x - 3, whole.y = c->from.y - 3, whole.width = b.width + 7, whole.height = b.height + 7;
     uint32_t status = block(c, c->written, &b);
-    came_up(c->wide * 4 + c->prepared * 2 + c->tested, b.filter_x * 8 + b.filter_y, (b.col_frac != 0) * 2 + (b.row_frac != 0), status);
+    came_up(c->wide * 2 + c->prepared, b.filter_x * 8 + b.filter_y, (b.fraction_x != 0) * 2 + (b.fraction_y != 0), status);
     answered(status, 0 OR(DONE) OR(BAD_SIZE) OR(BAD_MODE) OR(BAD_FRACTION) OR(BAD_AREA) | (c->prepared ? 0 OR(TOO_SHORT) : 0)
-                         | (c->wide ? 0 OR(BAD_DEPTH) : 0) | (c->wide && !c->tested ? 0 OR(BAD_SAMPLE) : 0));
+                         | (c->wide ? 0 OR(BAD_DEPTH) : 0));
     CHECK(status == expected_block(c, &b, whole));
     all_kept(c->read);
     CHECK(!memcmp(&b, &told, sizeof b));
-    if (status == AV1_DONE) written_alone(c, width, height);
+    if (status == TILG_DONE) written_alone(c, width, height);
     else all_kept(c->written);
 }
 
@@ -115,59 +107,63 @@ static size_t nearest(ptrdiff_t at, size_t count) {
     return at < 0 ? 0 : (size_t)at < count ? (size_t)at : count - 1;
 }
 
+/* Where a vector leads along one dimension: a whole sample, and sixteenths beyond it. */
+static ptrdiff_t place(size_t at, int vector, bool is_halved, uint8_t *fraction) {
+    ptrdiff_t sixteenths = 16 * (ptrdiff_t)at + (is_halved ? 1 : 2) * vector;
+    *fraction = sixteenths & 15;
+    return sixteenths >> 4;
+}
+
 /* The block of a vector once more, by its place, from a window of the nearest visible samples. */
-static void once_more(call *c, const av1_motion_plane *plane, const av1_moved_block *m) {
-    av1_moved_place place = {0, 0, 99, 99};
-    CHECK(av1_motion_place(&place, plane, m) == AV1_DONE);
-    ptrdiff_t left = m->width + 7, top = m->height + 7;
-    CHECK(-left <= place.x - 3 && place.x + 4 <= (ptrdiff_t)plane->width + left && -top <= place.y - 3 && place.y + 4 <= (ptrdiff_t)plane->height + top);
+static void once_more(call *c, const tilg_motion_plane *plane, const tilg_moved_block *m) {
+    tilg_motion_block b = {m->width, m->height, 0, 0, m->filter_x, m->filter_y};
+    ptrdiff_t left = place(m->x, m->mv_x, plane->halved_columns, &b.fraction_x), top = place(m->y, m->mv_y, plane->halved_rows, &b.fraction_y);
     numbers window = lay((m->width + 7) * (m->height + 7), c->read.width);
     for (size_t y = 0; y < m->height + 7; y++)
         for (size_t x = 0; x < m->width + 7; x++) {
-            size_t row = plane->y + nearest(place.y - 3 + (ptrdiff_t)y, plane->height), col = plane->x + nearest(place.x - 3 + (ptrdiff_t)x, plane->width);
+            size_t row = plane->y + nearest(top - 3 + (ptrdiff_t)y, plane->height), col = plane->x + nearest(left - 3 + (ptrdiff_t)x, plane->width);
             set(window, y * (m->width + 7) + x, get(c->read, row * plane->stride + col));
         }
     numbers other = lay(m->width * m->height, c->prepared ? 2 : c->read.width);
     call again = *c;
     again.read = window, again.from = (area){m->width + 7, 3, 3, m->width, m->height}, again.to = (area){m->width, 0, 0, m->width, m->height};
-    av1_motion_block b = {m->width, m->height, place.col_frac, place.row_frac, m->filter_x, m->filter_y};
-    CHECK(block(&again, other, &b) == AV1_DONE);
+    CHECK(block(&again, other, &b) == TILG_DONE);
     same_written(c, other, again.to, m->width, m->height);
 }
 
-static uint32_t expected_moved(const call *c, const av1_motion_plane *plane, const av1_moved_block *m, size_t window) {
-    if (!is_side(m->width) || !is_side(m->height)) return AV1_BAD_SIZE;
-    if (!is_filter(m->filter_x) || !is_filter(m->filter_y)) return AV1_BAD_MODE;
+static uint32_t expected_moved(const call *c, const tilg_motion_plane *plane, const tilg_moved_block *m, size_t window) {
+    if (!is_side(m->width) || !is_side(m->height)) return TILG_BAD_SIZE;
+    if (!is_filter(m->filter_x) || !is_filter(m->filter_y)) return TILG_BAD_MODE;
     bool some = 1 <= plane->width && plane->width <= 65536 && 1 <= plane->height && plane->height <= 65536 && m->x <= 65536 && m->y <= 65536;
-    if (!some || !is_inside(c->read, (area){plane->stride, plane->x, plane->y, plane->width, plane->height})) return AV1_BAD_AREA;
-    if (!is_written_inside(c, m->width, m->height)) return AV1_BAD_AREA;
-    if ((c->prepared && c->written.count < m->width * m->height) || window < (m->width + 7) * (m->height + 7)) return AV1_TOO_SHORT;
-    return !c->wide || is_depth(c->bits) ? AV1_DONE : AV1_BAD_DEPTH;
+    if (!some || !is_inside(c->read, (area){plane->stride, plane->x, plane->y, plane->width, plane->height})) return TILG_BAD_AREA;
+    if (!is_written_inside(c, m->width, m->height)) return TILG_BAD_AREA;
+    if ((c->prepared && c->written.count < m->width * m->height) || window < (m->width + 7) * (m->height + 7)) return TILG_TOO_SHORT;
+    return !c->wide || is_depth(c->bits) ? TILG_DONE : TILG_BAD_DEPTH;
 }
 
-static uint32_t moved(const call *c, const av1_motion_plane *plane, const av1_moved_block *m, numbers window) {
+static uint32_t moved(const call *c, const tilg_motion_plane *plane, const tilg_moved_block *m, numbers window) {
     numbers to = c->written, from = c->read;
-    if (!c->wide && c->prepared) return av1_prep_moved_8(to.at, to.count, from.at, from.count, plane, m, window.at, window.count);
+    if (!c->wide && c->prepared) return tilg_prep_moved_8(to.at, to.count, window.at, window.count, from.at, from.count, plane, m);
     if (!c->wide)
-        return av1_put_moved_8(to.at, to.count, c->to.stride, c->to.x, c->to.y, from.at, from.count, plane, m, window.at, window.count);
-    if (c->prepared) return av1_prep_moved_16(to.at, to.count, from.at, from.count, plane, m, window.at, window.count, c->bits);
-    return av1_put_moved_16(to.at, to.count, c->to.stride, c->to.x, c->to.y, from.at, from.count, plane, m, window.at, window.count, c->bits);
+        return tilg_put_moved_8(to.at, to.count, c->to.stride, c->to.x, c->to.y, window.at, window.count, from.at, from.count, plane, m);
+    if (c->prepared) return tilg_prep_moved_16(to.at, to.count, window.at, window.count, from.at, from.count, plane, m, c->bits);
+    return tilg_put_moved_16(to.at, to.count, c->to.stride, c->to.x, c->to.y, window.at, window.count, from.at, from.count, plane, m, c->bits);
 }
 
 /* A block that a vector moves, from a plane without pads. */
 static void by_vector(call *c) {
-    av1_moved_block m = {.width = side(), .height = side(), .row = bytes(2), .col = bytes(2), .filter_x = filter(), .filter_y = filter()};
-    if (one_in(2)) m.row %= 256, m.col %= 256;
+    tilg_moved_block m = {.width = side(), .height = side(), .mv_y = bytes(2), .mv_x = bytes(2), .filter_x = filter(), .filter_y = filter()};
+    if (one_in(2)) m.mv_y %= 256, m.mv_x %= 256;
     size_t width = small(m.width), height = small(m.height);
     lay_written(c, width, height);
     area whole;
     c->read = lay_area(&whole, 1 + below(one_in(2) ? 200 : 12), 1 + below(one_in(2) ? 200 : 12), c->wide ? 2 : 1);
     fill(c->read, most_of(c));
-    av1_motion_plane plane = {whole.stride, whole.x, whole.y, whole.width, whole.height, one_in(2), one_in(2)}, told_plane = plane;
+    tilg_motion_plane plane = {whole.stride, whole.x, whole.y, whole.width, whole.height, one_in(2), one_in(2)}, told_plane = plane;
     if (one_in(24)) plane.width = near(300), told_plane = plane;
     if (one_in(24)) plane.height = near(300), told_plane = plane;
     m.x = near(whole.width + 9), m.y = near(whole.height + 9);
-    av1_moved_block told = m;
+    tilg_moved_block told = m;
     size_t needed = (width + 7) * (height + 7);
     numbers window = lay(one_in(24) ? needed - below(needed + 1) : needed + (one_in(8) ? below(64) : 0), c->wide ? 2 : 1);
     if (window.count) memset(window.at, byte(), window.count * window.width);
@@ -177,7 +173,7 @@ static void by_vector(call *c) {
     CHECK(status == expected_moved(c, &plane, &m, window.count));
     all_kept(c->read);
     CHECK(!memcmp(&m, &told, sizeof m) && !memcmp(&plane, &told_plane, sizeof plane));
-    if (status != AV1_DONE) {
+    if (status != TILG_DONE) {
         all_kept(c->written);
         return;
     }
@@ -185,49 +181,32 @@ static void by_vector(call *c) {
     once_more(c, &plane, &m);
 }
 
-/* Where a vector leads, in a plane of any size. */
-static void place_alone(void) {
-    av1_motion_plane plane = {wild(), wild(), wild(), near(65540), near(65540), byte(), byte()};
-    av1_moved_block m = {near(65540), near(65540), side(), side(), bytes(2), bytes(2), byte(), byte()};
-    av1_moved_place place, before;
-    memset(&place, KEPT, sizeof place);
-    before = place;
-    uint32_t status = av1_motion_place(&place, &plane, &m);
-    came_up(12, 0, 0, status);
-    answered(status, 0 OR(DONE) OR(BAD_SIZE) OR(BAD_AREA));
-    bool some = 1 <= plane.width && plane.width <= 65536 && 1 <= plane.height && plane.height <= 65536 && m.x <= 65536 && m.y <= 65536;
-    CHECK(status == (!is_side(m.width) || !is_side(m.height) ? AV1_BAD_SIZE : some ? AV1_DONE : AV1_BAD_AREA));
-    if (status != AV1_DONE) CHECK(place.x == before.x && place.y == before.y && place.col_frac == KEPT && place.row_frac == KEPT);
-    else CHECK(place.col_frac < 16 && place.row_frac < 16);
-}
-
 /* Whether samples are tested right. */
 static void test_samples(void) {
     area a;
-    size_t bits = one_in(40) ? wild() : depth();
+    uint8_t bits = one_in(40) ? wild() : depth();
     numbers samples = lay_area(&a, below(70), below(70), 2);
     fill(samples, one_in(8) ? 65535 : (1u << (is_depth(bits) ? bits : 8)) - 1);
     if (samples.count && one_in(4)) set(samples, below(samples.count), bytes(2)), keep(samples);
-    uint32_t status = av1_test_samples_16(samples.at, samples.count, a.stride, a.x, a.y, a.width, a.height, bits);
+    uint32_t status = tilg_test_samples_16(samples.at, samples.count, a.stride, a.x, a.y, a.width, a.height, bits);
     came_up(13, bits, 0, status);
     answered(status, 0 OR(DONE) OR(BAD_AREA) OR(BAD_DEPTH) OR(BAD_SAMPLE));
     all_kept(samples);
-    if (status != AV1_DONE && status != AV1_BAD_SAMPLE) return;
+    if (status != TILG_DONE && status != TILG_BAD_SAMPLE) return;
     CHECK(is_inside(samples, a) && is_depth(bits));
     bool past = false;
     for (size_t y = 0; y < a.height; y++)
         for (size_t x = 0; x < a.width; x++) past |= get(samples, (a.y + y) * a.stride + a.x + x) >> bits != 0;
-    CHECK(past == (status == AV1_BAD_SAMPLE));
+    CHECK(past == (status == TILG_BAD_SAMPLE));
 }
 
 int LLVMFuzzerTestOneInput(const uint8_t *data, size_t length) {
     begin(data, length);
-    call c = {.wide = one_in(2), .prepared = one_in(2), .tested = one_in(2)};
+    call c = {.wide = one_in(2), .prepared = one_in(2)};
     c.bits = c.wide ? one_in(40) ? wild() : depth() : 8;
     switch (below(8)) {
-    case 0: place_alone(); break;
-    case 1: test_samples(); break;
-    case 2: case 3: case 4: by_place(&c); break;
+    case 0: test_samples(); break;
+    case 1: case 2: case 3: case 4: by_place(&c); break;
     default: by_vector(&c);
     }
     return 0;

@@ -1,5 +1,5 @@
-/* Whole plans: av1_planes_len and av1_reconstruct_plan, on the fuzzer's bytes, and on plans that a builder made and some of whose bytes were changed.
- * The same plans as grids of one tile, as sequences of one frame and as traces: av1_reconstruct_tiles, av1_reconstruct_sequence, av1_trace_differences. */
+/* Whole plans: tilg_planes_len and tilg_reconstruct_plan, on the fuzzer's bytes, and on plans that a builder made and some of whose bytes were changed.
+ * The same plans as grids of one tile, as sequences of one frame and as traces: tilg_reconstruct_tiles, tilg_reconstruct_sequence, tilg_trace_differences. */
 #include "heap.h"
 #include "plans.h"
 
@@ -10,7 +10,7 @@ static numbers drawn_plan(void) {
         for (size_t i = 0; i < raw.count; i++) set(raw, i, byte());
         return keep(raw), raw;
     }
-    av1_plan_header header = drawn_header();
+    tilg_plan_header header = drawn_header();
     size_t len = build(&header, room, sizeof room), changed = one_in(2) ? 0 : 1 + below(3);
     while (changed-- && len) room[below(one_in(2) && len > 40 ? 40 : len)] = byte();
     if (one_in(16)) len -= below(len < 30 ? len + 1 : 30);
@@ -23,71 +23,71 @@ static numbers drawn_plan(void) {
 /* How many bytes a plan's planes have, or SIZE_MAX where its header is refused. */
 static size_t planes_of(numbers plan) {
     size_t wanted = SIZE_MAX;
-    av1_refusal refusal = {7, 8, 9};
+    tilg_refusal refusal = {7, 8, 9};
     left_to_give = -1, kept = 0;
-    uint32_t status = av1_planes_len(plan.at, plan.count, &wanted, &refusal);
+    uint32_t status = tilg_planes_len(&wanted, &refusal, plan.at, plan.count);
     came_up(0, 0, 0, status);
     answered(status, 0 OR(DONE) OR(TOO_LONG) OR(MALFORMED));
     CHECK(kept == 0);
-    CHECK(status == AV1_DONE ? refusal.at == 7 : wanted == SIZE_MAX && refusal.at < 20 && refusal.leaf == 0 && refusal.kind == 0);
-    if (status == AV1_DONE) CHECK(plan.count >= HEADER && wanted == frame_bytes((uint8_t *)plan.at + 4));
+    CHECK(status == TILG_DONE ? refusal.at == 7 : wanted == SIZE_MAX && refusal.at < 20 && refusal.leaf == 0 && refusal.kind == 0);
+    if (status == TILG_DONE) CHECK(plan.count >= HEADER && wanted == frame_bytes((uint8_t *)plan.at + 4));
     all_kept(plan);
     return wanted;
 }
 
 /* What a refused plan is told of. */
-static void told(uint32_t status, av1_refusal refusal, size_t len) {
-    if (status == AV1_MALFORMED) CHECK(refusal.at <= len && refusal.leaf == 0 && refusal.kind == 0);
-    else if (status == AV1_INVALID) CHECK(refusal.at == 0 && 1 <= refusal.kind && refusal.kind <= 6);
+static void told(uint32_t status, tilg_refusal refusal, size_t len) {
+    if (status == TILG_MALFORMED) CHECK(refusal.at <= len && refusal.leaf == 0 && refusal.kind == 0);
+    else if (status == TILG_INVALID) CHECK(refusal.at == 0 && 1 <= refusal.kind && refusal.kind <= 6);
     else CHECK(refusal.at == 7 && refusal.leaf == 8 && refusal.kind == 9);
 }
 
 /* ---- a plan as the part of something else ---- */
 
 /* What a part is refused for is what the plan is refused for, but that marks 8 and 9 are admitted in every part. `front` bytes are not in it. */
-static void told_alike(uint32_t status, av1_part_refusal told, uint32_t plan_status, av1_refusal plan_told, size_t front) {
-    if (status == AV1_MALFORMED_PART && plan_status == AV1_MALFORMED) CHECK(told.at + front == plan_told.at);
-    if (status == AV1_INVALID_PART && plan_status == AV1_INVALID) CHECK(told.leaf == plan_told.leaf && told.kind == plan_told.kind);
-    if (plan_status == AV1_DONE) CHECK(status == AV1_DONE || status == AV1_OUT_OF_MEMORY);
-    if (status == AV1_MALFORMED_PART || status == AV1_INVALID_PART) CHECK(plan_status == AV1_MALFORMED || plan_status == AV1_INVALID);
+static void told_alike(uint32_t status, tilg_part_refusal told, uint32_t plan_status, tilg_refusal plan_told, size_t front) {
+    if (status == TILG_MALFORMED_PART && plan_status == TILG_MALFORMED) CHECK(told.at + front == plan_told.at);
+    if (status == TILG_INVALID_PART && plan_status == TILG_INVALID) CHECK(told.leaf == plan_told.leaf && told.kind == plan_told.kind);
+    if (plan_status == TILG_DONE) CHECK(status == TILG_DONE || status == TILG_OUT_OF_MEMORY);
+    if (status == TILG_MALFORMED_PART || status == TILG_INVALID_PART) CHECK(plan_status == TILG_MALFORMED || plan_status == TILG_INVALID);
 }
 
 /* The text comes to the planes that the plan came to. */
-static void comes_to(bool sequence, numbers planes, size_t wanted, uint32_t plan_status, av1_refusal plan_told, size_t front) {
+static void comes_to(bool sequence, numbers planes, size_t wanted, uint32_t plan_status, tilg_refusal plan_told, size_t front) {
     numbers bytes = lay(text_len, 1), room = lay_filled(planes.count, 1, 255);
     memcpy(bytes.at, text, text_len), keep(bytes);
-    av1_part_refusal refusal = {7, 8, 9, 10};
+    tilg_part_refusal refusal = {7, 8, 9, 10};
     size_t written = 77;
     kept = 0;
-    uint32_t status = (sequence ? av1_reconstruct_sequence : av1_reconstruct_tiles)(bytes.at, bytes.count, room.at, room.count, &written, &refusal);
+    uint32_t status = (sequence ? tilg_reconstruct_sequence : tilg_reconstruct_tiles)(room.at, room.count, &written, &refusal, bytes.at, bytes.count);
     came_up(2 + sequence, refusal.kind, refusal.leaf, status);
     answered(status, 0 OR(DONE) OR(OUT_OF_MEMORY) OR(MALFORMED) OR(MALFORMED_PART) OR(INVALID_PART));
     CHECK(kept == 0);
     told_alike(status, refusal, plan_status, plan_told, front);
     all_kept(bytes);
-    if (status != AV1_DONE) {
-        CHECK(written == 77);
+    if (status != TILG_DONE) {
+        CHECK(status == TILG_ROOM_TOO_SMALL ? written > room.count : written == 77);
         all_kept(room);
         return;
     }
     CHECK(written == wanted);
     kept_behind(room, written);
-    if (plan_status == AV1_DONE) CHECK(!memcmp(room.at, planes.at, written));
+    if (plan_status == TILG_DONE) CHECK(!memcmp(room.at, planes.at, written));
 }
 
 /* The plan and the planes that it came to, of which a sample may be changed, as a trace. */
 static void as_trace(numbers plan, numbers planes, size_t wanted) {
-    av1_part_refusal refusal = {7, 8, 9, 10};
-    av1_difference list[4];
+    tilg_part_refusal refusal = {7, 8, 9, 10};
+    tilg_difference list[4];
     size_t found = 77, changed = one_in(2) ? below(wanted) : wanted;
     text_len = 0;
     put("RTR1", 4), put_part(plan.at, plan.count), put(planes.at, wanted);
     if (changed < wanted) text[text_len - wanted + changed] ^= 1;
     kept = 0;
-    uint32_t status = av1_trace_differences(text, text_len, list, 4, &found, &refusal);
-    CHECK(status == AV1_DONE || status == AV1_OUT_OF_MEMORY);
+    uint32_t status = tilg_trace_differences(list, 4, &found, &refusal, text, text_len);
+    CHECK(status == TILG_DONE || status == TILG_OUT_OF_MEMORY);
     CHECK(kept == 0 && refusal.at == 8);
-    CHECK(found == (status != AV1_DONE ? 77 : changed < wanted ? 1 : 0));
+    CHECK(found == (status != TILG_DONE ? 77 : changed < wanted ? 1 : 0));
 }
 
 /* The text is the plan's frame as a grid of one tile. */
@@ -106,7 +106,7 @@ static void put_sequence(const uint8_t *plan, size_t len) {
 }
 
 /* All three, where all of the references are there. */
-static void as_parts(numbers plan, numbers planes, size_t wanted, uint32_t status, av1_refusal refusal) {
+static void as_parts(numbers plan, numbers planes, size_t wanted, uint32_t status, tilg_refusal refusal) {
     const uint8_t *bytes = plan.at;
     size_t front = HEADER + (size_t)__builtin_popcount(bytes[19]) * wanted;
     if (plan.count < front || plan.count + wanted > SLOT / 4) return;
@@ -116,7 +116,7 @@ static void as_parts(numbers plan, numbers planes, size_t wanted, uint32_t statu
         put_sequence(bytes, plan.count);
         comes_to(true, planes, wanted, status, refusal, front);
     }
-    if (status == AV1_DONE) as_trace(plan, planes, wanted);
+    if (status == TILG_DONE) as_trace(plan, planes, wanted);
 }
 
 int LLVMFuzzerTestOneInput(const uint8_t *data, size_t length) {
@@ -127,24 +127,24 @@ int LLVMFuzzerTestOneInput(const uint8_t *data, size_t length) {
     size_t wanted = planes_of(plan), written = 77, enough = wanted == SIZE_MAX ? 100 : wanted;
     if (enough > SLOT / 2) return 0; /* a large frame takes too long to be tried often */
     numbers room = lay_filled(one_in(8) ? below(enough + 1) : enough + (one_in(4) ? below(40) : 0), 1, 255);
-    av1_refusal refusal = {7, 8, 9};
+    tilg_refusal refusal = {7, 8, 9};
     left_to_give = give;
-    uint32_t status = av1_reconstruct_plan(plan.at, plan.count, room.at, room.count, &written, &refusal);
+    uint32_t status = tilg_reconstruct_plan(room.at, room.count, &written, &refusal, plan.at, plan.count);
     came_up(1, refusal.kind, refusal.leaf, status);
     answered(status, 0 OR(DONE) OR(OUT_OF_MEMORY) OR(ROOM_TOO_SMALL) OR(TOO_LONG) OR(MALFORMED) OR(INVALID));
     CHECK(kept == 0);
     all_kept(plan), told(status, refusal, plan.count);
-    if (wanted == SIZE_MAX) CHECK(status == AV1_MALFORMED || status == AV1_OUT_OF_MEMORY);
-    if (status == AV1_OUT_OF_MEMORY) CHECK(give >= 0);
-    if (status == AV1_ROOM_TOO_SMALL) CHECK(room.count < wanted);
-    if (status == AV1_DONE) {
+    if (wanted == SIZE_MAX) CHECK(status == TILG_MALFORMED || status == TILG_OUT_OF_MEMORY);
+    if (status == TILG_OUT_OF_MEMORY) CHECK(give >= 0);
+    if (status == TILG_ROOM_TOO_SMALL) CHECK(room.count < wanted && written == wanted);
+    if (status == TILG_DONE) {
         CHECK(written == wanted);
         kept_behind(room, written);
     } else {
-        CHECK(written == 77);
+        CHECK(status == TILG_ROOM_TOO_SMALL || written == 77);
         all_kept(room);
     }
-    if (wanted != SIZE_MAX && room.count >= wanted && (status == AV1_DONE || status == AV1_MALFORMED || status == AV1_INVALID)) {
+    if (wanted != SIZE_MAX && room.count >= wanted && (status == TILG_DONE || status == TILG_MALFORMED || status == TILG_INVALID)) {
         left_to_give = give;
         as_parts(plan, room, wanted, status, refusal);
     }

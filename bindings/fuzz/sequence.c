@@ -1,4 +1,4 @@
-/* Sequences of frames: av1_reconstruct_sequence, on the fuzzer's bytes, and on entries over parts that a builder made, some of whose bytes were changed.
+/* Sequences of frames: tilg_reconstruct_sequence, on the fuzzer's bytes, and on entries over parts that a builder made, some of whose bytes were changed.
  * Another reader finds the entries, and what each frame comes to is told by its plan, which is reconstructed by itself. */
 #include "heap.h"
 #include "plans.h"
@@ -8,7 +8,7 @@ enum { MOST_ENTRIES = 8, MOST_PLANES = 6 * MOST_SIDE * MOST_SIDE };
 /* ---- a sequence that is drawn ---- */
 
 /* The leaves of frames: those of the first part read no references. */
-static numbers drawn_part(av1_plan_header header, bool plain) {
+static numbers drawn_part(tilg_plan_header header, bool plain) {
     static uint8_t rooms[2][SLOT / 4];
     uint8_t *room = rooms[plain];
     header.mask = plain ? 0 : 1;
@@ -42,14 +42,14 @@ static void put_entry(bool has_kinds, drawn_entry made, numbers part) {
 }
 
 static void draw_entries(void) {
-    av1_plan_header header = drawn_header();
+    tilg_plan_header header = drawn_header();
     drawn_entry made[MOST_ENTRIES];
     bool has_kinds = header.version == 3;
     uint8_t count = below(MOST_ENTRIES);
     for (int i = 0; i < count; i++) made[i] = draw_entry(has_kinds);
     numbers plain = drawn_part(header, true), other = drawn_part(header, false);
     put(has_kinds ? "RSQ2" : "RSQ1", 4);
-    put(&header.width, 2), put(&header.height, 2), put_byte(header.depth), put_byte(header.sampling);
+    put(&header.width, 2), put(&header.height, 2), put_byte(header.bit_depth), put_byte(header.sampling);
     put_byte(count), put_byte(0);
     for (int i = 0; i < count; i++) put_entry(has_kinds, made[i], i == 0 || made[i].plain ? plain : other);
 }
@@ -123,11 +123,11 @@ static bool take_entry(uint32_t version, entry *to) {
 /* What is answered where there is memory and room, and what is written then. */
 typedef struct {
     uint32_t status;
-    av1_part_refusal told;
+    tilg_part_refusal told;
     size_t written;
 } outcome;
 
-static const av1_part_refusal untold = {7, 8, 9, 10};
+static const tilg_part_refusal untold = {7, 8, 9, 10};
 
 static uint8_t held[8][MOST_PLANES], frame[MOST_PLANES], shown[SLOT / 2];
 static uint8_t filled; /* the slots that hold a frame: bit s is slot s */
@@ -136,19 +136,19 @@ static uint8_t filled; /* the slots that hold a frame: bit s is slot s */
 static outcome frame_of(const uint8_t *front, uint32_t version, const entry *of, uint32_t number, size_t planes) {
     static uint8_t plan[SLOT];
     size_t len = HEADER, written = 0;
-    av1_refusal refusal = {0, 0, 0};
+    tilg_refusal refusal = {0, 0, 0};
     memcpy(plan, version == 3 ? "RPL3" : "RPL2", 4), memcpy(plan + 4, front + 4, 6), memcpy(plan + 10, of->head, 9);
     plan[19] = 0;
     for (int i = 2; i < 9; i++) plan[19] |= filled & 1u << of->head[i];
     for (int slot = 0; slot < 8; slot++)
         if (plan[19] >> slot & 1) memcpy(plan + len, held[slot], planes), len += planes;
     memcpy(plan + len, of->part, of->len);
-    uint32_t status = av1_reconstruct_plan(plan, len + of->len, frame, sizeof frame, &written, &refusal);
+    uint32_t status = tilg_reconstruct_plan(frame, sizeof frame, &written, &refusal, plan, len + of->len);
     came_up(2 + version, plan[19], refusal.kind, status);
-    if (status == AV1_MALFORMED) return (outcome){AV1_MALFORMED_PART, {number, refusal.at - (uint32_t)len, 0, 0}, 0};
-    if (status == AV1_INVALID) return (outcome){AV1_INVALID_PART, {number, 0, refusal.leaf, refusal.kind}, 0};
-    CHECK(status == AV1_DONE && written == planes);
-    return (outcome){AV1_DONE, untold, 0};
+    if (status == TILG_MALFORMED) return (outcome){TILG_MALFORMED_PART, {number, refusal.at - (uint32_t)len, 0, 0}, 0};
+    if (status == TILG_INVALID) return (outcome){TILG_INVALID_PART, {number, 0, refusal.leaf, refusal.kind}, 0};
+    CHECK(status == TILG_DONE && written == planes);
+    return (outcome){TILG_DONE, untold, 0};
 }
 
 /* Writes the frame where it is shown, as far as `shown` has room, and keeps it. */
@@ -162,9 +162,9 @@ static void show_and_keep(const entry *of, size_t planes, size_t *written) {
 
 /* The frame of a slot is shown again, where the slot holds one. */
 static outcome again(const entry *of, uint32_t number, size_t planes) {
-    if (!(filled >> of->slot & 1)) return (outcome){AV1_EMPTY_SLOT, {number, 0, 0, 0}, 0};
+    if (!(filled >> of->slot & 1)) return (outcome){TILG_EMPTY_SLOT, {number, 0, 0, 0}, 0};
     memcpy(frame, held[of->slot], planes);
-    return (outcome){AV1_DONE, untold, 0};
+    return (outcome){TILG_DONE, untold, 0};
 }
 
 /* What the entries behind the front come to, all of which can be read. */
@@ -176,10 +176,10 @@ static outcome entries_outcome(const uint8_t *front, uint32_t version, uint32_t 
         CHECK(take_entry(version, &next));
         outcome found = next.kind == 2 ? again(&next, number, planes) : frame_of(front, version, &next, number, planes);
         came_up(version, 16 * next.kind + number % 16, filled ? 16 * next.kind + (uint32_t)__builtin_popcount(filled) : 0, found.status);
-        if (found.status != AV1_DONE) return found;
+        if (found.status != TILG_DONE) return found;
         show_and_keep(&next, planes, &written);
     }
-    return (outcome){AV1_DONE, untold, written};
+    return (outcome){TILG_DONE, untold, written};
 }
 
 /* Whether all can be read, to the last byte; else `rest` stays at the first field that can't. */
@@ -197,7 +197,7 @@ static bool known(numbers sequence, outcome *to) {
     uint32_t version, count;
     const uint8_t *front = sequence.count ? sequence.at : text;
     if (!reads(front, sequence.count, &version, &count)) {
-        *to = (outcome){AV1_MALFORMED, {0, (uint32_t)(rest - front), 0, 0}, 0};
+        *to = (outcome){TILG_MALFORMED, {0, (uint32_t)(rest - front), 0, 0}, 0};
         return true;
     }
     size_t planes = frame_bytes(front + 4);
@@ -208,13 +208,13 @@ static bool known(numbers sequence, outcome *to) {
 }
 
 /* What the call answered, where memory may have run out. */
-static void comes_to(outcome wanted, uint32_t status, bool may_fail, numbers room, size_t written, av1_part_refusal told) {
-    if (status != AV1_OUT_OF_MEMORY || !may_fail)
-        CHECK(status == (wanted.status == AV1_DONE && wanted.written > room.count ? AV1_ROOM_TOO_SMALL : wanted.status));
-    bool tells = status == AV1_MALFORMED || (AV1_TOO_LONG_PART <= status && status <= AV1_EMPTY_SLOT);
+static void comes_to(outcome wanted, uint32_t status, bool may_fail, numbers room, size_t written, tilg_part_refusal told) {
+    if (status != TILG_OUT_OF_MEMORY || !may_fail)
+        CHECK(status == (wanted.status == TILG_DONE && wanted.written > room.count ? TILG_ROOM_TOO_SMALL : wanted.status));
+    bool tells = status == TILG_MALFORMED || (TILG_TOO_LONG_PART <= status && status <= TILG_EMPTY_SLOT);
     CHECK(!memcmp(&told, tells ? &wanted.told : &untold, sizeof told));
-    if (status != AV1_DONE) {
-        CHECK(written == 77);
+    if (status != TILG_DONE) {
+        CHECK(written == (status == TILG_ROOM_TOO_SMALL ? wanted.written : 77));
         all_kept(room);
         return;
     }
@@ -231,10 +231,10 @@ int LLVMFuzzerTestOneInput(const uint8_t *data, size_t length) {
     left_to_give = -1, kept = 0;
     if (!known(sequence, &wanted) || wanted.written > sizeof shown) return 0;
     numbers room = lay_filled(one_in(8) ? below(wanted.written + 1) : wanted.written + (one_in(4) ? below(40) : 0), 1, 255);
-    av1_part_refusal told = untold;
+    tilg_part_refusal told = untold;
     size_t written = 77;
     left_to_give = give;
-    uint32_t status = av1_reconstruct_sequence(sequence.at, sequence.count, room.at, room.count, &written, &told);
+    uint32_t status = tilg_reconstruct_sequence(room.at, room.count, &written, &told, sequence.at, sequence.count);
     came_up(0, told.kind, told.part, status);
     answered(status, 0 OR(DONE) OR(OUT_OF_MEMORY) OR(ROOM_TOO_SMALL) OR(MALFORMED) OR(MALFORMED_PART) OR(INVALID_PART) OR(EMPTY_SLOT));
     CHECK(kept == 0);

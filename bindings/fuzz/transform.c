@@ -1,17 +1,17 @@
-/* av1_inverse_transform_add_8, _16 and _rav1e_16. */
+/* tilg_inverse_transform_add_8, _16 and _rav1e_16. */
 #include "fuzz.h"
 
 static area to;
 static uint8_t size, type;
-static size_t bits;
+static uint8_t bits;
 static bool as_rav1e;
 
 static uint32_t add(numbers scratch, const void *coefficients, size_t count, numbers samples) {
     return samples.width == 1
-        ? av1_inverse_transform_add_8(scratch.at, coefficients, count, samples.at, samples.count, to.stride, to.x, to.y, size, type)
+        ? tilg_inverse_transform_add_8(samples.at, samples.count, to.stride, to.x, to.y, scratch.at, coefficients, count, size, type)
         : as_rav1e
-        ? av1_inverse_transform_add_rav1e_16(scratch.at, coefficients, count, samples.at, samples.count, to.stride, to.x, to.y, size, type, bits)
-        : av1_inverse_transform_add_16(scratch.at, coefficients, count, samples.at, samples.count, to.stride, to.x, to.y, size, type, bits);
+        ? tilg_inverse_transform_add_rav1e_16(samples.at, samples.count, to.stride, to.x, to.y, scratch.at, coefficients, count, size, type, bits)
+        : tilg_inverse_transform_add_16(samples.at, samples.count, to.stride, to.x, to.y, scratch.at, coefficients, count, size, type, bits);
 }
 
 /* Coefficients of at most so many bits, most of them 0 or none; now and then one is past that. */
@@ -42,12 +42,12 @@ static bool is_type(const uint8_t *sides) {
 }
 
 static uint32_t expected(numbers coefficients, numbers samples, size_t needed) {
-    if (size >= 19) return AV1_BAD_SIZE;
-    if (!is_type(transform_sides[size])) return AV1_BAD_TYPE;
-    if (!is_inside(samples, to)) return AV1_BAD_AREA;
-    if (samples.width == 1) return AV1_DONE;
-    if (!is_depth(bits)) return AV1_BAD_DEPTH;
-    return has_bits(coefficients, coefficients.count < needed ? coefficients.count : needed, bits + 8) ? AV1_DONE : AV1_BAD_COEFFICIENT;
+    if (size >= 19) return TILG_BAD_SIZE;
+    if (!is_type(transform_sides[size])) return TILG_BAD_TYPE;
+    if (!is_inside(samples, to)) return TILG_BAD_AREA;
+    if (samples.width == 1) return TILG_DONE;
+    if (!is_depth(bits)) return TILG_BAD_DEPTH;
+    return has_bits(coefficients, coefficients.count < needed ? coefficients.count : needed, bits + 8) ? TILG_DONE : TILG_BAD_COEFFICIENT;
 }
 
 int LLVMFuzzerTestOneInput(const uint8_t *data, size_t length) {
@@ -69,7 +69,7 @@ int LLVMFuzzerTestOneInput(const uint8_t *data, size_t length) {
     answered(status, 0 OR(DONE) OR(BAD_SIZE) OR(BAD_TYPE) OR(BAD_AREA) | (wide ? 0 OR(BAD_DEPTH) OR(BAD_COEFFICIENT) : 0));
     CHECK(status == expected(coefficients, samples, needed));
     all_kept(coefficients);
-    if (status != AV1_DONE) {
+    if (status != TILG_DONE) {
         all_kept(samples);
         return 0;
     }
@@ -82,7 +82,7 @@ int LLVMFuzzerTestOneInput(const uint8_t *data, size_t length) {
     numbers again = lay(samples.count, samples.width);
     memcpy(again.at, samples.copy, samples.count * samples.width);
     memset(scratch.at, byte() + 77, 6144 * 4);
-    CHECK(add(scratch, filled, needed, again) == AV1_DONE);
+    CHECK(add(scratch, filled, needed, again) == TILG_DONE);
     CHECK(!memcmp(again.at, samples.at, samples.count * samples.width));
     return 0;
 }

@@ -51,7 +51,7 @@ static struct {
     Dav1dInvTxfmDSPContext itx;
 } tables[OWN];
 
-/* The library's calls: the name here, and the name in av1_c.h. */
+/* The library's calls: the name here, and the name in tilgwaren.h. */
 #define LIBRARY_CALLS(X) X(put, MOTION_CALL(put)) X(prep, MOTION_CALL(prep)) X(avg, CALL(mc_avg)) X(intra, CALL(predict_intra)) \
     X(cfl_ac, CALL(cfl_ac)) X(cfl_pred, CALL(predict_cfl)) X(itx, CALL(inverse_transform_add))
 #define POINTER(name, function) __typeof__(&function) name;
@@ -170,7 +170,7 @@ static const uint8_t filters[4][4] = { FILTERS(FILTER) };
 
 static uint64_t make_put(const call *const c, const int by, const int times) {
     const int w = c->w, h = c->h, mx = c->more[0] & 1 ? 5 : 0, my = c->more[0] & 2 ? 9 : 0;
-    const av1_motion_block b = { (size_t) w, (size_t) h, (uint8_t) mx, (uint8_t) my, (uint8_t) c->more[1], (uint8_t) c->more[2] };
+    const tilg_motion_block b = { (size_t) w, (size_t) h, (uint8_t) mx, (uint8_t) my, (uint8_t) c->more[1], (uint8_t) c->more[2] };
     if (by >= OWN) {
         READY(library, libraries[by - OWN].put);
         MEASURED(status |= library(LIBRARY_ROWS, LIBRARY_REFERENCE, &b DEPTH_ARG));
@@ -181,7 +181,7 @@ static uint64_t make_put(const call *const c, const int by, const int times) {
 
 static uint64_t make_prep(const call *const c, const int by, const int times) {
     const int w = c->w, h = c->h, mx = c->more[0] & 1 ? 5 : 0, my = c->more[0] & 2 ? 9 : 0;
-    const av1_motion_block b = { (size_t) w, (size_t) h, (uint8_t) mx, (uint8_t) my, (uint8_t) c->more[1], (uint8_t) c->more[2] };
+    const tilg_motion_block b = { (size_t) w, (size_t) h, (uint8_t) mx, (uint8_t) my, (uint8_t) c->more[1], (uint8_t) c->more[2] };
     if (by >= OWN) {
         READY(library, libraries[by - OWN].prep);
         MEASURED(status |= library(written.values, 128 * 128, LIBRARY_REFERENCE, &b DEPTH_ARG));
@@ -217,7 +217,7 @@ static uint64_t make_intra(const call *const c, const int by, const int times) {
     const int own_kind = own_mode(mode, angle, edges);
     const size_t left_len = (size_t) (own_kind == Z3_PRED ? w + h : h), above_len = (size_t) (own_kind == Z1_PRED ? w + h : w);
     const pixel *const corner = edge + 256;
-    av1_intra_block b = intra_block(w, h, edges & 1, edges >> 1 HIGHBD_TAIL_SUFFIX);
+    tilg_intra_block b = intra_block(w, h, edges & 1, edges >> 1 HIGHBD_TAIL_SUFFIX);
     b.mode = (uint8_t) mode;
     b.angle_step = (int8_t) c->more[1];
     b.edge_filter = c->more[2] >> 2 & 1;
@@ -234,7 +234,7 @@ static uint64_t make_intra(const call *const c, const int by, const int times) {
 static uint64_t make_cfl_ac(const call *const c, const int by, const int times) {
     static const uint8_t layouts[4] = { DAV1D_PIXEL_LAYOUT_I444, DAV1D_PIXEL_LAYOUT_I422, 0, DAV1D_PIXEL_LAYOUT_I420 };
     const int w = c->w, h = c->h, halved = c->more[0], w_pad = c->more[1], h_pad = c->more[2];
-    const av1_cfl_block b = { cfl_sizes[ctz(w) - 2][ctz(h) - 2], halved & 1, halved >> 1 & 1, (size_t) w_pad, (size_t) h_pad };
+    const tilg_cfl_block b = { cfl_sizes[ctz(w) - 2][ctz(h) - 2], halved & 1, halved >> 1 & 1, (size_t) w_pad, (size_t) h_pad };
     if (by >= OWN) {
         READY(library, libraries[by - OWN].cfl_ac);
         MEASURED(status |= library(written.values, (size_t) (w * h), samples, ROWS * STRIDE, STRIDE, 0, 0, &b ANY_DEPTH_ARG));
@@ -247,7 +247,7 @@ static uint64_t make_cfl_pred(const call *const c, const int by, const int times
     const int w = c->w, h = c->h, edges = c->more[2], alpha = -7;
     const size_t len = (size_t) (w * h);
     const pixel *const corner = edge + 256;
-    const av1_intra_block b = intra_block(w, h, edges & 1, edges >> 1 HIGHBD_TAIL_SUFFIX);
+    const tilg_intra_block b = intra_block(w, h, edges & 1, edges >> 1 HIGHBD_TAIL_SUFFIX);
     if (by >= OWN) {
         READY(library, libraries[by - OWN].cfl_pred);
         MEASURED(status |= library(LIBRARY_ROWS, &b, corner - h, (size_t) h, corner + 1, (size_t) w, ac, len, alpha));

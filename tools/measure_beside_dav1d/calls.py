@@ -1,9 +1,9 @@
 #!/usr/bin/env python3
-"""Measures the block calls of libav1_c.a beside dav1d's own functions: instructions and cycles of each call.
+"""Measures the block calls of libtilgwaren.a beside dav1d's own functions: instructions and cycles of each call.
 
 usage: calls.py [--out FILE] NAME=ARCHIVE..
 
-For example `calls.py v2=V2/libav1_c.a v3=V3/libav1_c.a`.  One program (calls.c) makes each call by dav1d's C, its assembly up to
+For example `calls.py v2=V2/libtilgwaren.a v3=V3/libtilgwaren.a`.  One program (calls.c) makes each call by dav1d's C, its assembly up to
 SSE4.1 and up to AVX2, and by the library.  If a result differs from plain C, the program ends.  Instructions are those of
 callgrind; cycles are ticks of the time stamp counter, a median.  Both are without what an empty call takes.
 
@@ -122,7 +122,7 @@ def compiled(folder, source, archives):
                    check=True)
     words = [program]
     for name, archive in archives.items():
-        words.append(os.path.join(folder, name, "libav1_c.so"))
+        words.append(os.path.join(folder, name, "libtilgwaren.so"))
         os.mkdir(os.path.dirname(words[-1]))
         subprocess.run([os.path.join(TOP, "bindings/shared.sh"), archive, os.path.dirname(words[-1])], check=True)
     return words

@@ -7,7 +7,7 @@ FOLDER gets the streams: three of each of rav1e, aomenc and SVT-AV1, encoded by 
 them on the library (integrations/dav1d/on_library), which writes a line for each call.  A line of mix.tsv has the kind of a
 call, the depth, width and height, three numbers (add_call in library.c says which), and how many calls are counted by it.
 Calls that differ only in the angle of a direction, or in the end of block within a factor of 2, are counted by one of them,
-the median.  FILE is libav1_c.a; without it the archive of bindings/out is used.
+the median.  FILE is libtilgwaren.a; without it the archive of bindings/out is used.
 """
 import argparse
 import collections

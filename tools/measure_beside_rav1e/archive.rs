@@ -10,18 +10,18 @@
 
 use std::fmt::Debug;
 
-/// `av1_motion_block`.
+/// `tilg_motion_block`.
 #[repr(C)]
 struct MotionBlock {
     width: usize,
     height: usize,
-    col_frac: u8,
-    row_frac: u8,
+    fraction_x: u8,
+    fraction_y: u8,
     filter_x: u8,
     filter_y: u8,
 }
 
-/// `av1_intra_block`.
+/// `tilg_intra_block`.
 #[repr(C)]
 struct IntraBlock {
     mode: u8,
@@ -36,7 +36,7 @@ struct IntraBlock {
     visible_rows: usize,
 }
 
-/// `av1_edge_plane`.
+/// `tilg_edge_plane`.
 #[repr(C)]
 struct EdgePlane {
     stride: usize,
@@ -52,7 +52,7 @@ struct EdgePlane {
     halved_rows: u8,
 }
 
-/// `av1_edge_block`.
+/// `tilg_edge_block`.
 #[repr(C)]
 struct EdgeBlock {
     x: usize,
@@ -69,17 +69,17 @@ struct EdgeBlock {
     edge_filter: u8,
 }
 
-/// `av1_cfl_block`.
+/// `tilg_cfl_block`.
 #[repr(C)]
 struct CflBlock {
     block_size: u8,
-    xdec: u8,
-    ydec: u8,
+    halved_columns: u8,
+    halved_rows: u8,
     w_pad: usize,
     h_pad: usize,
 }
 
-/// `av1_transform_scratch`.
+/// `tilg_transform_scratch`.
 #[repr(C, align(64))]
 struct Scratch([i32; 6144]);
 
@@ -93,24 +93,24 @@ const FILTER: u8 = 0;
 /// The weight of luma in eighths.
 const ALPHA: i16 = 5;
 
-#[link(name = "av1_c", kind = "static")]
+#[link(name = "tilgwaren", kind = "static")]
 unsafe extern "C" {
-    fn av1_inverse_transform_add_8(room: &mut Scratch, i: *const i16, n: usize, s: *mut u8, m: usize, stride: usize, x: usize, y: usize, size: u8, kind: u8) -> u32;
-    fn av1_inverse_transform_add_16(room: &mut Scratch, i: *const i32, n: usize, s: *mut u16, m: usize, stride: usize, x: usize, y: usize, size: u8, kind: u8, depth: usize) -> u32;
-    fn av1_put_8tap_8(s: *mut u8, m: usize, stride: usize, x: usize, y: usize, from: *const u8, n: usize, from_stride: usize, from_x: usize, from_y: usize, block: &MotionBlock) -> u32;
-    fn av1_put_8tap_16(s: *mut u16, m: usize, stride: usize, x: usize, y: usize, from: *const u16, n: usize, from_stride: usize, from_x: usize, from_y: usize, block: &MotionBlock, depth: usize) -> u32;
-    fn av1_prep_8tap_8(t: *mut i16, m: usize, from: *const u8, n: usize, from_stride: usize, from_x: usize, from_y: usize, block: &MotionBlock) -> u32;
-    fn av1_prep_8tap_16(t: *mut i16, m: usize, from: *const u16, n: usize, from_stride: usize, from_x: usize, from_y: usize, block: &MotionBlock, depth: usize) -> u32;
-    fn av1_mc_avg_8(s: *mut u8, m: usize, stride: usize, x: usize, y: usize, w: usize, h: usize, a: *const i16, n: usize, b: *const i16, k: usize) -> u32;
-    fn av1_mc_avg_16(s: *mut u16, m: usize, stride: usize, x: usize, y: usize, w: usize, h: usize, a: *const i16, n: usize, b: *const i16, k: usize, depth: usize) -> u32;
-    fn av1_predict_intra_8(s: *mut u8, m: usize, stride: usize, x: usize, y: usize, block: &IntraBlock, l: *const u8, n: usize, corner: u8, a: *const u8, k: usize) -> u32;
-    fn av1_predict_intra_16(s: *mut u16, m: usize, stride: usize, x: usize, y: usize, block: &IntraBlock, l: *const u16, n: usize, corner: u16, a: *const u16, k: usize) -> u32;
-    fn av1_predict_cfl_8(s: *mut u8, m: usize, stride: usize, x: usize, y: usize, block: &IntraBlock, l: *const u8, n: usize, a: *const u8, k: usize, ac: *const i16, c: usize, alpha: i16) -> u32;
-    fn av1_predict_cfl_16(s: *mut u16, m: usize, stride: usize, x: usize, y: usize, block: &IntraBlock, l: *const u16, n: usize, a: *const u16, k: usize, ac: *const i16, c: usize, alpha: i16) -> u32;
-    fn av1_cfl_ac_8(ac: *mut i16, m: usize, luma: *const u8, n: usize, stride: usize, x: usize, y: usize, block: &CflBlock) -> u32;
-    fn av1_cfl_ac_16(ac: *mut i16, m: usize, luma: *const u16, n: usize, stride: usize, x: usize, y: usize, block: &CflBlock, depth: usize) -> u32;
-    fn av1_intra_edge_8(edge: *mut u8, m: usize, s: *const u8, n: usize, plane: &EdgePlane, block: &EdgeBlock) -> u32;
-    fn av1_intra_edge_16(edge: *mut u16, m: usize, s: *const u16, n: usize, plane: &EdgePlane, block: &EdgeBlock) -> u32;
+    fn tilg_inverse_transform_add_8(s: *mut u8, m: usize, stride: usize, x: usize, y: usize, room: &mut Scratch, i: *const i16, n: usize, size: u8, kind: u8) -> u32;
+    fn tilg_inverse_transform_add_16(s: *mut u16, m: usize, stride: usize, x: usize, y: usize, room: &mut Scratch, i: *const i32, n: usize, size: u8, kind: u8, depth: u8) -> u32;
+    fn tilg_put_8tap_8(s: *mut u8, m: usize, stride: usize, x: usize, y: usize, from: *const u8, n: usize, from_stride: usize, from_x: usize, from_y: usize, block: &MotionBlock) -> u32;
+    fn tilg_put_tested_16(s: *mut u16, m: usize, stride: usize, x: usize, y: usize, from: *const u16, n: usize, from_stride: usize, from_x: usize, from_y: usize, block: &MotionBlock, depth: u8) -> u32;
+    fn tilg_prep_8tap_8(t: *mut i16, m: usize, from: *const u8, n: usize, from_stride: usize, from_x: usize, from_y: usize, block: &MotionBlock) -> u32;
+    fn tilg_prep_tested_16(t: *mut i16, m: usize, from: *const u16, n: usize, from_stride: usize, from_x: usize, from_y: usize, block: &MotionBlock, depth: u8) -> u32;
+    fn tilg_mc_avg_8(s: *mut u8, m: usize, stride: usize, x: usize, y: usize, w: usize, h: usize, a: *const i16, n: usize, b: *const i16, k: usize) -> u32;
+    fn tilg_mc_avg_16(s: *mut u16, m: usize, stride: usize, x: usize, y: usize, w: usize, h: usize, a: *const i16, n: usize, b: *const i16, k: usize, depth: u8) -> u32;
+    fn tilg_predict_intra_8(s: *mut u8, m: usize, stride: usize, x: usize, y: usize, block: &IntraBlock, l: *const u8, n: usize, corner: u8, a: *const u8, k: usize) -> u32;
+    fn tilg_predict_intra_16(s: *mut u16, m: usize, stride: usize, x: usize, y: usize, block: &IntraBlock, l: *const u16, n: usize, corner: u16, a: *const u16, k: usize) -> u32;
+    fn tilg_predict_cfl_8(s: *mut u8, m: usize, stride: usize, x: usize, y: usize, block: &IntraBlock, l: *const u8, n: usize, a: *const u8, k: usize, ac: *const i16, c: usize, alpha: i16) -> u32;
+    fn tilg_predict_cfl_16(s: *mut u16, m: usize, stride: usize, x: usize, y: usize, block: &IntraBlock, l: *const u16, n: usize, a: *const u16, k: usize, ac: *const i16, c: usize, alpha: i16) -> u32;
+    fn tilg_cfl_ac_8(ac: *mut i16, m: usize, luma: *const u8, n: usize, stride: usize, x: usize, y: usize, block: &CflBlock) -> u32;
+    fn tilg_cfl_ac_16(ac: *mut i16, m: usize, luma: *const u16, n: usize, stride: usize, x: usize, y: usize, block: &CflBlock, depth: u8) -> u32;
+    fn tilg_intra_edge_8(edge: *mut u8, m: usize, s: *const u8, n: usize, plane: &EdgePlane, block: &EdgeBlock) -> u32;
+    fn tilg_intra_edge_16(edge: *mut u16, m: usize, s: *const u16, n: usize, plane: &EdgePlane, block: &EdgeBlock) -> u32;
 }
 
 #[link(name = "bare_calls", kind = "static")]
@@ -194,7 +194,7 @@ fn digest<T: Copy + Into<i64>>(written: &[T]) -> u64 {
 }
 
 fn motion_block(call: &Call) -> MotionBlock {
-    MotionBlock { width: call.side, height: call.side, col_frac: call.option, row_frac: call.option, filter_x: FILTER, filter_y: FILTER }
+    MotionBlock { width: call.side, height: call.side, fraction_x: call.option, fraction_y: call.option, filter_x: FILTER, filter_y: FILTER }
 }
 
 fn intra_block(call: &Call) -> IntraBlock {
@@ -248,7 +248,7 @@ macro_rules! calls {
                 let mut room = Box::new(Scratch([0; 6144]));
                 let (i, n, s, m) = (coefficients.as_ptr(), coefficients.len(), written.as_mut_ptr(), written.len());
                 if call.archive {
-                    call.repeat(|| unsafe { $transform(&mut room, i, n, s, m, STRIDE, AT, AT, size, call.option $(, call.$depth)?) });
+                    call.repeat(|| unsafe { $transform(s, m, STRIDE, AT, AT, &mut room, i, n, size, call.option $(, call.$depth as u8)?) });
                 } else {
                     unsafe { $bare_transform(&mut room, i, n, s, m, STRIDE, AT, size, call.option, call.depth, call.rounds) };
                 }
@@ -261,7 +261,7 @@ macro_rules! calls {
                 let (i, n, s, m) = (source.as_ptr(), source.len(), written.as_mut_ptr(), written.len());
                 if call.archive {
                     let block = motion_block(call);
-                    call.repeat(|| unsafe { $put(s, m, STRIDE, AT, AT, i, n, STRIDE, AT, AT, &block $(, call.$depth)?) });
+                    call.repeat(|| unsafe { $put(s, m, STRIDE, AT, AT, i, n, STRIDE, AT, AT, &block $(, call.$depth as u8)?) });
                 } else {
                     let rows = STRIDE * (AT + call.side + 4);
                     unsafe { $bare_put(s, m, i, rows, STRIDE, AT, call.side, call.option, call.option, FILTER, call.depth, call.rounds) };
@@ -275,7 +275,7 @@ macro_rules! calls {
                 let (i, n, s, m) = (source.as_ptr(), source.len(), written.as_mut_ptr(), written.len());
                 if call.archive {
                     let block = motion_block(call);
-                    call.repeat(|| unsafe { $prepare(s, m, i, n, STRIDE, AT, AT, &block $(, call.$depth)?) });
+                    call.repeat(|| unsafe { $prepare(s, m, i, n, STRIDE, AT, AT, &block $(, call.$depth as u8)?) });
                 } else {
                     let rows = STRIDE * (AT + call.side + 4);
                     unsafe { $bare_prepare(s, m, i, rows, STRIDE, AT, call.side, call.option, call.option, FILTER, call.depth, call.rounds) };
@@ -289,7 +289,7 @@ macro_rules! calls {
                 let mut written: Vec<$T> = vec![0; STRIDE * ROWS];
                 let (a, b, s, m) = (first.as_ptr(), second.as_ptr(), written.as_mut_ptr(), written.len());
                 if call.archive {
-                    call.repeat(|| unsafe { $average(s, m, STRIDE, AT, AT, call.side, call.side, a, count, b, count $(, call.$depth)?) });
+                    call.repeat(|| unsafe { $average(s, m, STRIDE, AT, AT, call.side, call.side, a, count, b, count $(, call.$depth as u8)?) });
                 } else {
                     unsafe { $bare_average(s, m, a, count, b, count, STRIDE, AT, call.side, call.depth, call.rounds) };
                 }
@@ -332,8 +332,8 @@ macro_rules! calls {
                 let (i, n, s, m) = (source.as_ptr(), source.len(), written.as_mut_ptr(), written.len());
                 let block_size = call.size().1;
                 if call.archive {
-                    let block = CflBlock { block_size, xdec: 1, ydec: 1, w_pad: 0, h_pad: 0 };
-                    call.repeat(|| unsafe { $luma(s, m, i, n, STRIDE, AT, AT, &block $(, call.$depth)?) });
+                    let block = CflBlock { block_size, halved_columns: 1, halved_rows: 1, w_pad: 0, h_pad: 0 };
+                    call.repeat(|| unsafe { $luma(s, m, i, n, STRIDE, AT, AT, &block $(, call.$depth as u8)?) });
                 } else {
                     unsafe { $bare_luma(s, m, i, n, STRIDE, ROWS, AT, block_size, call.rounds) };
                 }
@@ -357,9 +357,9 @@ macro_rules! calls {
     };
 }
 
-calls!(narrow, u8, i16, (), av1_inverse_transform_add_8 av1_put_8tap_8 av1_prep_8tap_8 av1_mc_avg_8 av1_predict_intra_8 av1_predict_cfl_8 av1_cfl_ac_8 av1_intra_edge_8,
+calls!(narrow, u8, i16, (), tilg_inverse_transform_add_8 tilg_put_8tap_8 tilg_prep_8tap_8 tilg_mc_avg_8 tilg_predict_intra_8 tilg_predict_cfl_8 tilg_cfl_ac_8 tilg_intra_edge_8,
     bare_transform_8 bare_put_8 bare_prepare_8 bare_average_8 bare_predict_8 bare_luma_8 bare_edge_8);
-calls!(wide, u16, i32, (depth), av1_inverse_transform_add_16 av1_put_8tap_16 av1_prep_8tap_16 av1_mc_avg_16 av1_predict_intra_16 av1_predict_cfl_16 av1_cfl_ac_16 av1_intra_edge_16,
+calls!(wide, u16, i32, (depth), tilg_inverse_transform_add_16 tilg_put_tested_16 tilg_prep_tested_16 tilg_mc_avg_16 tilg_predict_intra_16 tilg_predict_cfl_16 tilg_cfl_ac_16 tilg_intra_edge_16,
     bare_transform_16 bare_put_16 bare_prepare_16 bare_average_16 bare_predict_16 bare_luma_16 bare_edge_16);
 
 fn main() {

@@ -200,7 +200,7 @@ def main():
     parser.add_argument("--sparse", action="store_true", help="ten coefficients in a corner")
     parser.add_argument("--filter", type=int, choices=(0, 1, 2), default=0)
     parser.add_argument("--time", action="store_true", help="nanoseconds in place of instructions")
-    parser.add_argument("--folder", type=pathlib.Path, default=REPOSITORY / "bindings" / "out", help="the folder of libav1_c.a")
+    parser.add_argument("--folder", type=pathlib.Path, default=REPOSITORY / "bindings" / "out", help="the folder of libtilgwaren.a")
     options = parser.parse_args()
     options.work.mkdir(parents=True, exist_ok=True)
     if options.what == "archive":

@@ -65,6 +65,12 @@ class Library(unittest.TestCase):
     def test_planes_of_a_grid(self):
         self.assertEqual(bytes(tilgwaren.reconstruct(GRID)), bytes([128]) * 3 * 128 * 8)
 
+    def test_frames_of_a_sequence(self):
+        leaves = WORKED[20:]
+        entry = bytes([1]) + bytes(11) + len(leaves).to_bytes(4, "little") + leaves
+        sequence = b"RSQ1" + WORKED[4:10] + entry
+        self.assertEqual(tilgwaren.reconstruct_sequence(sequence), (ROOT / "crates/av1_vectors/stdout").read_bytes())
+
     def test_a_difference_is_found_where_it_is(self):
         planes = tilgwaren.reconstruct(WORKED)
         self.assertEqual(tilgwaren.differences(tilgwaren.trace(WORKED, planes)), [])

@@ -1,4 +1,4 @@
-"""The calls of the proved library, libav1_c.so, on plans and traces."""
+"""The calls of the proved library, libtilgwaren.so, on plans and traces."""
 import ctypes
 import ctypes.util
 import os
@@ -6,6 +6,7 @@ from typing import NamedTuple
 
 from .planes import Planes
 
+ROOM_TOO_SMALL = 2
 STATUSES = {1: "out of memory", 2: "the buffer is too short", 3: "too long", 4: "malformed", 5: "invalid",
             30: "the plan of a part would be too long", 31: "a part is malformed", 32: "a leaf of a part is invalid",
             33: "a part shows the frame of an empty slot"}
@@ -22,16 +23,16 @@ class PartRefusal(ctypes.Structure):
 
 
 class Found(ctypes.Structure):
-    _fields_ = [("leaf", ctypes.c_uint32), ("row", ctypes.c_uint16), ("column", ctypes.c_uint16), ("given", ctypes.c_uint16),
+    _fields_ = [("leaf", ctypes.c_uint32), ("y", ctypes.c_uint16), ("x", ctypes.c_uint16), ("given", ctypes.c_uint16),
                 ("defined", ctypes.c_uint16), ("plane", ctypes.c_uint8)]
 
 
 class Difference(NamedTuple):
-    """The first sample of a leaf in one plane (0 to 2) that differs: its place in the plane, what was given, what the plan defines."""
+    """The first sample of a leaf in one plane (0 to 2) that differs: its row and column there, what was given, what the plan defines."""
     leaf: int
     plane: int
-    row: int
-    column: int
+    y: int
+    x: int
     given: int
     defined: int
 
@@ -49,28 +50,41 @@ class RefusedError(ValueError):
 def library():
     """The library, loaded once: the file that $TILGWAREN_LIBRARY names, or the installed one."""
     if not hasattr(library, "loaded"):
-        path = os.environ.get("TILGWAREN_LIBRARY") or ctypes.util.find_library("av1_c")
+        path = os.environ.get("TILGWAREN_LIBRARY") or ctypes.util.find_library("tilgwaren")
         if not path:
-            raise OSError("libav1_c.so is not installed: install a release, or set TILGWAREN_LIBRARY to its path")
+            raise OSError("libtilgwaren.so is not installed: install a release, or set TILGWAREN_LIBRARY to its path")
         loaded = ctypes.CDLL(path)
-        version = loaded.av1_c_version()
-        if version >> 8 != VERSION >> 8:
-            raise OSError(f"{path} is version {version >> 16}.{version >> 8 & 255}, and this module needs 0.{VERSION >> 8 & 255}")
+        if not hasattr(loaded, f"tilg_version_0_{VERSION >> 8 & 255}"):
+            raise OSError(f"{path} is of another version: this module needs 0.{VERSION >> 8 & 255}")
         library.loaded = loaded
     return library.loaded
 
 
-def call(name, data, refusal, *arguments):
+def call(name, data, refusal, *written):
+    """A call with what it writes, its refusal, and what it reads."""
     data = bytes(data)
-    status = getattr(library(), name)(data, ctypes.c_size_t(len(data)), *arguments, ctypes.byref(refusal))
+    status = getattr(library(), name)(*written, ctypes.byref(refusal), data, ctypes.c_size_t(len(data)))
     if status:
         raise RefusedError(status, refusal)
+
+
+def planes_of(name, data, refusal, length):
+    """The bytes of planes that a call writes. If they are longer than `length`, the call says how long they are, and is made again."""
+    while True:
+        room, written = ctypes.create_string_buffer(length), ctypes.c_size_t()
+        try:
+            call(name, data, refusal, room, ctypes.c_size_t(length), ctypes.byref(written))
+            return room.raw[:written.value]
+        except RefusedError as error:
+            if error.status != ROOM_TOO_SMALL or written.value <= length:
+                raise
+            length = written.value
 
 
 def planes_length(plan):
     """How many bytes the planes of a plan have. Only its header is read."""
     length = ctypes.c_size_t()
-    call("av1_planes_len", plan, Refusal(), ctypes.byref(length))
+    call("tilg_planes_len", plan, Refusal(), ctypes.byref(length))
     return length.value
 
 
@@ -79,14 +93,17 @@ def reconstruct(plan):
     from .plan import Plan, read_header
     from .fields import Reader
     header = plan if isinstance(plan, Plan) else read_header(Reader(bytes(plan)))
-    room, written = ctypes.create_string_buffer(header.planes_length()), ctypes.c_size_t()
-    name, refusal = ("av1_reconstruct_tiles", PartRefusal()) if header.is_grid else ("av1_reconstruct_plan", Refusal())
-    call(name, plan, refusal, room, ctypes.c_size_t(len(room)), ctypes.byref(written))
-    return Planes.read(room.raw[:written.value], header.dimensions(), header.depth)
+    name, refusal = ("tilg_reconstruct_tiles", PartRefusal()) if header.is_grid else ("tilg_reconstruct_plan", Refusal())
+    return Planes.read(planes_of(name, plan, refusal, header.planes_length()), header.dimensions(), header.depth)
+
+
+def reconstruct_sequence(data):
+    """The planes of all frames that a sequence shows, as bytes, one frame after the other."""
+    return planes_of("tilg_reconstruct_sequence", data, PartRefusal(), 0)
 
 
 def differences(trace, most=65536):
     """The leaves whose samples differ in a trace (`tilgwaren.trace`), in coding order, at most so many."""
     room, found = (Found * most)(), ctypes.c_size_t()
-    call("av1_trace_differences", trace, PartRefusal(), room, ctypes.c_size_t(most), ctypes.byref(found))
-    return [Difference(it.leaf, it.plane, it.row, it.column, it.given, it.defined) for it in room[:min(most, found.value)]]
+    call("tilg_trace_differences", trace, PartRefusal(), room, ctypes.c_size_t(most), ctypes.byref(found))
+    return [Difference(it.leaf, it.plane, it.y, it.x, it.given, it.defined) for it in room[:min(most, found.value)]]

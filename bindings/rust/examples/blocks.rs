@@ -1,11 +1,11 @@
 //! Reconstructs one block in a plane of 64x64: predicts it from a reference, or from its edges if
 //! the argument is `intra`, and adds a residual.
 
-use av1_c::{
+use std::env;
+use tilgwaren::{
     BlockSize, EdgeBlock, EdgePlane, MotionPlane, MotionWindow, MovedBlock, Place, PredictionMode,
     TransformBlock, TransformScratch, TxSize,
 };
-use std::env;
 
 const SIDE: usize = 64;
 
@@ -14,7 +14,7 @@ const X: usize = 24;
 const Y: usize = 16;
 
 // Predicts the block from a reference, 3 samples to the left and a quarter of a sample down.
-fn predict_from(reference: &[u8], plane: &mut [u8]) -> Result<(), av1_c::Error> {
+fn predict_from(reference: &[u8], plane: &mut [u8]) -> Result<(), tilgwaren::Error> {
     let visible = MotionPlane {
         stride: SIDE,
         width: SIDE,
@@ -26,8 +26,8 @@ fn predict_from(reference: &[u8], plane: &mut [u8]) -> Result<(), av1_c::Error> 
         y: Y,
         width: 8,
         height: 8,
-        row: 2,
-        col: -24,
+        mv_y: 2,
+        mv_x: -24,
         ..MovedBlock::default()
     };
     let to = Place {
@@ -35,7 +35,7 @@ fn predict_from(reference: &[u8], plane: &mut [u8]) -> Result<(), av1_c::Error> 
         x: X,
         y: Y,
     };
-    av1_c::put_moved_8(
+    tilgwaren::put_moved_8(
         plane,
         to,
         reference,
@@ -46,12 +46,12 @@ fn predict_from(reference: &[u8], plane: &mut [u8]) -> Result<(), av1_c::Error> 
 }
 
 // Predicts the block by a smooth mode from the samples around it.
-fn predict_within(plane: &mut [u8]) -> Result<(), av1_c::Error> {
+fn predict_within(plane: &mut [u8]) -> Result<(), tilgwaren::Error> {
     let block = EdgeBlock {
         mode: Some(PredictionMode::Smooth),
         ..EdgeBlock::of_luma(X, Y, BlockSize::B8x8, TxSize::T8x8)
     };
-    av1_c::predict_in_plane_8(
+    tilgwaren::predict_in_plane_8(
         plane,
         &EdgePlane::of_luma(SIDE, SIDE),
         &block,
@@ -61,7 +61,7 @@ fn predict_within(plane: &mut [u8]) -> Result<(), av1_c::Error> {
     )
 }
 
-fn main() -> Result<(), av1_c::Error> {
+fn main() -> Result<(), tilgwaren::Error> {
     let mut plane: Vec<u8> = (0..SIDE * SIDE).map(|i| (2 * (i % SIDE)) as u8).collect();
     if env::args().nth(1).as_deref() == Some("intra") {
         predict_within(&mut plane)?;
@@ -77,7 +77,7 @@ fn main() -> Result<(), av1_c::Error> {
         ..TransformBlock::default()
     };
     let mut scratch = TransformScratch::new(); // one for each thread
-    av1_c::inverse_transform_add_8(&mut scratch, &[160], &mut plane, SIDE, transform)?;
+    tilgwaren::inverse_transform_add_8(&mut scratch, &[160], &mut plane, SIDE, transform)?;
     println!("reconstructed: {:?}", &plane[SIDE * Y + X..][..8]);
     Ok(())
 }

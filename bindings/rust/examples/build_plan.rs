@@ -1,9 +1,9 @@
 //! Builds a plan field by field, and reconstructs it: an 8x8 frame, darker from left to right.
 
-use av1_c::{
+use std::error::Error;
+use tilgwaren::{
     BlockSize, Chroma, Coefficient, Field, Header, Leaf, Partition, PlanBuilder, Sampling, TxSize,
 };
-use std::error::Error;
 
 fn main() -> Result<(), Box<dyn Error>> {
     let header = Header {
@@ -15,7 +15,10 @@ fn main() -> Result<(), Box<dyn Error>> {
     let mut builder = PlanBuilder::new(&header)?;
     loop {
         match builder.next_field() {
-            Field::Mark { side: 8, .. } => builder.mark(Partition::None)?,
+            Field::Mark {
+                size: BlockSize::B8x8,
+                ..
+            } => builder.mark(Partition::None)?,
             Field::Mark { .. } => builder.mark(Partition::Split)?,
             Field::Leaf { size, .. } => {
                 assert_eq!(size, BlockSize::B8x8);
@@ -36,8 +39,8 @@ fn main() -> Result<(), Box<dyn Error>> {
         }
     }
     let plan = builder.finish()?;
-    let mut planes = vec![0; av1_c::planes_len(&plan)?];
-    av1_c::reconstruct_plan(&plan, &mut planes)?;
+    let mut planes = vec![0; tilgwaren::planes_len(&plan)?];
+    tilgwaren::reconstruct_plan(&plan, &mut planes)?;
     println!(
         "a plan of {} bytes; first row of Y: {:?}",
         plan.len(),

@@ -9,8 +9,8 @@ fn main() -> Result<(), Box<dyn Error>> {
         .nth(1)
         .ok_or("usage: reconstruct_plan FILE")?;
     let plan = fs::read(name)?;
-    let mut planes = vec![0; av1_c::planes_len(&plan)?];
-    av1_c::reconstruct_plan(&plan, &mut planes)?;
+    let mut planes = vec![0; tilgwaren::planes_len(&plan)?];
+    tilgwaren::reconstruct_plan(&plan, &mut planes)?;
     io::stdout().write_all(&planes)?;
     Ok(())
 }

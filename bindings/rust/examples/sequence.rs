@@ -1,22 +1,18 @@
 //! Reads the sequence of frames in FILE, and writes the planes of its shown frames to standard
 //! output, one frame after the other.
 
-use av1_c::{Error, reconstruct_sequence};
 use std::io::Write;
 use std::{env, fs, io};
+use tilgwaren::{Error, reconstruct_sequence};
 
-// The planes, in a buffer that is doubled until they fit.
+// The planes. The first call only asks how long they are.
 fn planes_of(sequence: &[u8]) -> Result<Vec<u8>, Error> {
-    let mut planes = vec![0; 1 << 20];
-    loop {
-        match reconstruct_sequence(sequence, &mut planes) {
-            Err(Error::RoomTooSmall) => planes.resize(2 * planes.len(), 0),
-            written => {
-                planes.truncate(written?);
-                return Ok(planes);
-            }
-        }
+    let mut planes = Vec::new();
+    if let Err(Error::RoomTooSmall { needed }) = reconstruct_sequence(sequence, &mut planes) {
+        planes.resize(needed, 0);
     }
+    reconstruct_sequence(sequence, &mut planes)?;
+    Ok(planes)
 }
 
 fn main() -> Result<(), Box<dyn std::error::Error>> {

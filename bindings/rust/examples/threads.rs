@@ -1,7 +1,7 @@
 //! Two threads predict blocks in two tiles of one plane.
 
-use av1_c::{BlockRoom, Error, MotionBlock, Place, RegionMut, put_8tap_8};
 use std::thread;
+use tilgwaren::{BlockRoom, Error, MotionBlock, Place, RegionMut, put_8tap_8};
 
 const SIDE: usize = 64;
 
@@ -10,7 +10,7 @@ fn predict(mut tile: RegionMut<'_, u8>, reference: &[u8]) -> Result<(), Error> {
     let block = MotionBlock {
         width: 16,
         height: 16,
-        col_frac: 8,
+        fraction_x: 8,
         ..MotionBlock::default()
     };
     let from = Place {

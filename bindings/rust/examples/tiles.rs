@@ -10,7 +10,7 @@ fn main() -> Result<(), Box<dyn Error>> {
     let name = words.next().ok_or("usage: tiles FILE [BYTES]")?;
     let most = words.next().map_or(Ok(1 << 24), |word| word.parse())?;
     let mut planes = vec![0; most];
-    let written = av1_c::reconstruct_tiles(&fs::read(name)?, &mut planes)?;
+    let written = tilgwaren::reconstruct_tiles(&fs::read(name)?, &mut planes)?;
     io::stdout().write_all(&planes[..written])?;
     Ok(())
 }

@@ -1,9 +1,9 @@
 //! Compares the planes of another encoder with those that its plan defines: PLAN is the plan, and
 //! PLANES the encoder's planes before loop filters, in the layout of `reconstruct_plan`.
 
-use av1_c::{Difference, trace_differences};
 use std::error::Error;
 use std::{env, fs};
+use tilgwaren::{Difference, trace_differences};
 
 fn main() -> Result<(), Box<dyn Error>> {
     let mut names = env::args_os().skip(1);
@@ -19,7 +19,7 @@ fn main() -> Result<(), Box<dyn Error>> {
     for it in first.iter().take(found) {
         println!(
             "leaf {}: plane {}, row {}, column {}: {} in place of {}",
-            it.leaf, it.plane, it.row, it.column, it.given, it.defined
+            it.leaf, it.plane, it.y, it.x, it.given, it.defined
         );
     }
     println!("{found} differ");

@@ -3,9 +3,10 @@
 use crate::{
     BitDepth, BlockSize, Filter, Partition, PredictionMode, Reference, Sampling, TxSize, TxType,
 };
-use av1_c_sys as sys;
+use std::cell::Cell;
 use std::fmt;
 use std::mem::size_of;
+use tilgwaren_sys as sys;
 
 /// The frame of a plan, and what holds for all its leaves. `..Header::default()` gives the rest: a
 /// plan of version 3 at depth 8 in 4:2:0, without references, edge filter and visible samples.
@@ -20,7 +21,7 @@ pub struct Header {
     /// (`docs/PLAN_FORMAT.md`).
     pub version: u8,
     /// Bits of a sample.
-    pub depth: BitDepth,
+    pub bit_depth: BitDepth,
     /// How many samples chroma has.
     pub sampling: Sampling,
     /// The interpolation filter of motion compensation: any except [`Filter::Rav1eSharp`].
@@ -39,7 +40,7 @@ impl Default for Header {
             width: 0,
             height: 0,
             version: 3,
-            depth: BitDepth::default(),
+            bit_depth: BitDepth::default(),
             sampling: Sampling::default(),
             filter: Filter::default(),
             edge_filter: false,
@@ -68,9 +69,9 @@ const _: () = assert!(size_of::<Coefficient>() == size_of::<sys::Coefficient>())
 #[derive(Clone, Copy, Debug, Default, PartialEq, Eq)]
 pub struct Motion {
     /// How far down.
-    pub row: i16,
+    pub mv_y: i16,
     /// How far to the right.
-    pub col: i16,
+    pub mv_x: i16,
     /// The reference.
     pub reference: Reference,
 }
@@ -116,7 +117,7 @@ impl From<&Header> for sys::PlanHeader {
             width: of.width,
             height: of.height,
             version: of.version,
-            depth: of.depth.into(),
+            bit_depth: of.bit_depth.into(),
             sampling: of.sampling.into(),
             filter: of.filter.into(),
             edge_filter: of.edge_filter.into(),
@@ -129,8 +130,8 @@ impl From<&Header> for sys::PlanHeader {
 impl From<Motion> for sys::Motion {
     fn from(of: Motion) -> sys::Motion {
         sys::Motion {
-            row: of.row,
-            col: of.col,
+            mv_y: of.mv_y,
+            mv_x: of.mv_x,
             reference: of.reference.into(),
         }
     }
@@ -143,16 +144,62 @@ impl From<&Leaf> for sys::Leaf {
             first: of.first.map(Into::into).unwrap_or_default(),
             second: of.second.map(Into::into).unwrap_or_default(),
             mode: of.mode.into(),
-            step: of.angle_step,
-            chroma: of.chroma.is_some().into(),
+            angle_step: of.angle_step,
+            has_chroma: of.chroma.is_some().into(),
             chroma_mode: chroma.mode.into(),
-            chroma_step: chroma.angle_step,
+            chroma_angle_step: chroma.angle_step,
             alpha_u: chroma.alpha_u,
             alpha_v: chroma.alpha_v,
             tx_size: of.tx_size.into(),
             tx_type: of.tx_type.into(),
-            uv_type: chroma.tx_type.into(),
+            chroma_tx_type: chroma.tx_type.into(),
         }
+    }
+}
+
+/// A field of a leaf that can be rejected, in the order in which they are tested.
+#[derive(Clone, Copy, Debug, PartialEq, Eq)]
+#[non_exhaustive]
+pub enum LeafField {
+    /// [`Leaf::chroma`] is there though the leaf carries none, or missing though it carries chroma.
+    HasChroma,
+    /// [`Leaf::mode`].
+    Mode,
+    /// [`Chroma::mode`].
+    ChromaMode,
+    /// [`Leaf::first`].
+    First,
+    /// [`Leaf::second`].
+    Second,
+    /// A plane has more than 65,535 coefficients, or chroma has some that the leaf does not carry.
+    Coefficients,
+}
+
+impl LeafField {
+    // The field of a number. Numbers of transforms come from enumerations, so they are in range.
+    fn of(number: u32) -> Option<LeafField> {
+        Some(match number {
+            sys::FIELD_HAS_CHROMA => LeafField::HasChroma,
+            sys::FIELD_MODE => LeafField::Mode,
+            sys::FIELD_CHROMA_MODE => LeafField::ChromaMode,
+            sys::FIELD_FIRST => LeafField::First,
+            sys::FIELD_SECOND => LeafField::Second,
+            sys::FIELD_COEFFICIENTS => LeafField::Coefficients,
+            _ => return None,
+        })
+    }
+}
+
+impl fmt::Display for LeafField {
+    fn fmt(&self, f: &mut fmt::Formatter<'_>) -> fmt::Result {
+        f.write_str(match self {
+            LeafField::HasChroma => "presence of chroma",
+            LeafField::Mode => "mode",
+            LeafField::ChromaMode => "mode of chroma",
+            LeafField::First => "first reference",
+            LeafField::Second => "second reference",
+            LeafField::Coefficients => "number of coefficients",
+        })
     }
 }
 
@@ -164,6 +211,11 @@ pub enum BuildError {
     NotNow,
     /// An argument has a value that is not valid here.
     NotAdmitted,
+    /// A field of the leaf has a value that is not valid here.
+    BadField {
+        /// The first such field.
+        field: LeafField,
+    },
     /// The plan would have more than 2^26 bytes.
     TooLong,
     /// An allocation failed.
@@ -183,6 +235,7 @@ impl fmt::Display for BuildError {
             BuildError::NotAdmitted => {
                 f.write_str("an argument has a value that is not valid here")
             }
+            BuildError::BadField { field } => write!(f, "the leaf cannot have this {field}"),
             BuildError::TooLong => f.write_str("too long"),
             BuildError::OutOfMemory => f.write_str("out of memory"),
             BuildError::Unknown { status } => write!(f, "the library returned status {status}"),
@@ -218,8 +271,8 @@ pub enum Field {
         x: u16,
         /// The row.
         y: u16,
-        /// How many columns and rows it has: 64, 32, 16 or 8.
-        side: u16,
+        /// Its size: 64x64, 32x32, 16x16 or 8x8.
+        size: BlockSize,
     },
     /// A leaf: [`PlanBuilder::leaf`].
     Leaf {
@@ -237,7 +290,7 @@ pub enum Field {
 /// Writes a plan field by field.
 ///
 /// ```
-/// use av1_c::{Chroma, Header, Leaf, Partition, PlanBuilder, Sampling, TxSize};
+/// use tilgwaren::{Chroma, Header, Leaf, Partition, PlanBuilder, Sampling, TxSize};
 /// let header = Header { width: 8, height: 8, sampling: Sampling::Yuv444, ..Header::default() };
 /// let mut builder = PlanBuilder::new(&header)?;
 /// builder.mark(Partition::Split)?; // of the superblock: 64x64, then its first node of 32x32, ..
@@ -247,7 +300,7 @@ pub enum Field {
 /// let leaf = Leaf { tx_size: TxSize::T8x8, chroma: Some(Chroma::default()), ..Leaf::default() };
 /// builder.leaf(&leaf, &[], &[], &[])?;
 /// let plan = builder.finish()?;
-/// # Ok::<(), av1_c::BuildError>(())
+/// # Ok::<(), tilgwaren::BuildError>(())
 /// ```
 ///
 /// 1. [`PlanBuilder::new`] gives the header.
@@ -278,7 +331,7 @@ impl PlanBuilder {
         // SAFETY: pointer and length come from one mutably borrowed slice; header and builder are
         // two values.
         empty.append(|builder, room, len| unsafe {
-            sys::builder_begin(&header.into(), builder, room, len)
+            sys::builder_begin(builder, room, len, &header.into())
         })?;
         Ok(empty)
     }
@@ -304,27 +357,17 @@ impl PlanBuilder {
     /// The field that the plan expects next.
     #[must_use]
     pub fn next_field(&self) -> Field {
-        let builder = &self.builder;
-        if builder.slot < 8 {
-            return Field::Reference { slot: builder.slot };
-        }
-        let count = builder.count.min(builder.parts.len());
-        if let Some(part) = builder.parts[..count].last() {
-            let (x, y) = (part.x, part.y);
-            return match BlockSize::try_from(part.number) {
-                Ok(size) if part.kind == 0 => Field::Leaf { x, y, size },
-                _ => Field::Mark {
-                    x,
-                    y,
-                    side: 4 << part.number.min(4),
-                },
-            };
-        }
-        let (x, y) = (64 * builder.col, 64 * builder.row);
-        if x < builder.header.width {
-            Field::Mark { x, y, side: 64 }
-        } else {
-            Field::End
+        let mut next = sys::NextField::default();
+        // SAFETY: each pointer leads to one value, `next` borrowed mutably.
+        let status = unsafe { sys::builder_next(&mut next, &self.builder) };
+        debug_assert_eq!(status, sys::DONE);
+        let (x, y) = (next.x, next.y);
+        let size = BlockSize::try_from(next.size).unwrap_or_default();
+        match next.kind {
+            sys::NEXT_REFERENCE => Field::Reference { slot: next.slot },
+            sys::NEXT_MARK => Field::Mark { x, y, size },
+            sys::NEXT_LEAF => Field::Leaf { x, y, size },
+            _ => Field::End,
         }
     }
 
@@ -375,14 +418,8 @@ impl PlanBuilder {
     ///
     /// # Errors
     ///
-    /// `NotNow` if the plan does not expect a leaf. `NotAdmitted` for one of these reasons:
-    ///
-    /// - a mode, an angle step, a weight or a size is not valid here;
-    /// - `chroma` is there though the leaf carries none, or is missing though it carries chroma;
-    /// - there are coefficients of chroma that the leaf does not carry;
-    /// - a plane has more than 65,535 coefficients.
-    ///
-    /// Then `TooLong`, then `OutOfMemory`.
+    /// `NotNow` if the plan does not expect a leaf. `BadField` if a field of the leaf is not valid
+    /// here. Then `TooLong`, then `OutOfMemory`.
     pub fn leaf(
         &mut self,
         leaf: &Leaf,
@@ -391,13 +428,15 @@ impl PlanBuilder {
         v: &[Coefficient],
     ) -> Result<(), BuildError> {
         let leaf = sys::Leaf::from(leaf);
-        // SAFETY: pointers and lengths come from borrowed slices, the buffer borrowed mutably.
-        // Coefficients are laid out as the call's.
-        self.append(|builder, room, len| unsafe {
+        let field = Cell::new(0);
+        // SAFETY: pointers and lengths come from borrowed slices, the buffer borrowed mutably; the
+        // field is a local. Coefficients are laid out as the call's.
+        let given = self.append(|builder, room, len| unsafe {
             sys::builder_leaf(
                 builder,
                 room,
                 len,
+                field.as_ptr(),
                 &leaf,
                 y.as_ptr().cast(),
                 y.len(),
@@ -406,6 +445,10 @@ impl PlanBuilder {
                 v.as_ptr().cast(),
                 v.len(),
             )
+        });
+        given.map_err(|error| match (error, LeafField::of(field.get())) {
+            (BuildError::NotAdmitted, Some(field)) => BuildError::BadField { field },
+            _ => error,
         })
     }
 
@@ -418,7 +461,7 @@ impl PlanBuilder {
         let mut len = 0;
         // SAFETY: pointer and length come from one slice; the call writes only a local.
         told(unsafe {
-            sys::builder_finish(&self.builder, self.room.as_ptr(), self.room.len(), &mut len)
+            sys::builder_finish(&mut len, &self.builder, self.room.as_ptr(), self.room.len())
         })?;
         self.room.truncate(len);
         Ok(self.room)

@@ -1,7 +1,7 @@
 //! Why a call failed.
 
-use av1_c_sys as sys;
 use std::fmt;
+use tilgwaren_sys as sys;
 
 /// Why a call failed. What it should have written is then unchanged.
 #[derive(Clone, Copy, Debug, PartialEq, Eq)]
@@ -10,7 +10,10 @@ pub enum Error {
     /// An allocation failed.
     OutOfMemory,
     /// The buffer to write is too short.
-    RoomTooSmall,
+    RoomTooSmall {
+        /// How many elements it needs.
+        needed: usize,
+    },
     /// The input is longer than any plan (2^26 bytes) or any trace (2^27).
     TooLong,
     /// The input is not a well-formed plan. Its first bad field is truncated, not valid, or left
@@ -120,7 +123,7 @@ impl fmt::Display for Error {
     fn fmt(&self, f: &mut fmt::Formatter<'_>) -> fmt::Result {
         match self {
             Error::OutOfMemory => f.write_str("out of memory"),
-            Error::RoomTooSmall => f.write_str("buffer too small"),
+            Error::RoomTooSmall { needed } => write!(f, "buffer too small: it needs {needed}"),
             Error::TooLong => f.write_str("too long"),
             Error::Malformed { at } => write!(f, "malformed at {at}"),
             Error::Invalid { leaf, kind } => write!(f, "invalid leaf {leaf}: {kind}"),
@@ -199,7 +202,10 @@ pub(crate) fn told(status: u32) -> Result<(), Error> {
     Err(match status {
         sys::DONE => return Ok(()),
         sys::OUT_OF_MEMORY => Error::OutOfMemory,
-        sys::ROOM_TOO_SMALL => Error::RoomTooSmall,
+        // Calls on plans say how long their buffer must be; the others write an edge.
+        sys::ROOM_TOO_SMALL => Error::RoomTooSmall {
+            needed: sys::EDGE_SAMPLES,
+        },
         sys::TOO_LONG => Error::TooLong,
         sys::BAD_SIZE => Error::BadSize,
         sys::BAD_TYPE => Error::BadType,

@@ -1,65 +1,8 @@
-//! Intra prediction of a block in the caller's memory, and numbers that it needs.
+//! Intra prediction of a block in the caller's memory.
 
 use crate::error::told;
 use crate::{BitDepth, EdgeBlock, EdgePlane, Error, Place, PredictionMode, TxSize};
-use av1_c_sys as sys;
-
-/// The blocks above and to the left of a block that an intra mode predicts.
-#[derive(Clone, Copy, Debug, Default, PartialEq, Eq)]
-pub struct Neighbours {
-    /// Whether the plane is one of chroma.
-    pub chroma: bool,
-    /// The block above, or `None` if the tile has no block there.
-    pub above: Option<Neighbour>,
-    /// The block to the left, or `None` if the tile has no block there.
-    pub left: Option<Neighbour>,
-}
-
-/// A neighbour of a block.
-#[derive(Clone, Copy, Debug, Default, PartialEq, Eq)]
-pub struct Neighbour {
-    /// Its mode in this plane.
-    pub mode: PredictionMode,
-    /// Whether it is predicted from another frame. It is read only for chroma.
-    pub inter: bool,
-}
-
-/// Finds out if a neighbour of a block has a smooth mode, which the edge filter needs. In a plane
-/// of chroma, only a neighbour that is predicted from its own frame counts.
-///
-/// # Errors
-///
-/// None, with a library of this version.
-pub fn smooth_neighbour(neighbours: &Neighbours) -> Result<bool, Error> {
-    let mode = |of: Option<Neighbour>| of.map_or(sys::ANY_MODE, |it| it.mode.into());
-    let inter = |of: Option<Neighbour>| of.map_or(0, |it| it.inter.into());
-    let given = sys::Neighbours {
-        chroma: neighbours.chroma.into(),
-        above_mode: mode(neighbours.above),
-        above_inter: inter(neighbours.above),
-        left_mode: mode(neighbours.left),
-        left_inter: inter(neighbours.left),
-    };
-    let mut smooth = 0;
-    // SAFETY: each pointer leads to one value, `smooth` borrowed mutably.
-    told(unsafe { sys::smooth_neighbour(&mut smooth, &given) })?;
-    Ok(smooth != 0)
-}
-
-/// Converts an angle in degrees to steps of 3 degrees from a mode's own angle: `angle_step` of a
-/// block. 90 is from above, 180 from the left. A mode without a direction has only the angle 0, and
-/// turns no steps.
-///
-/// # Errors
-///
-/// `BadMode`: it is not an intra mode, or is chroma from luma. Then `BadAngle`: the mode does not
-/// turn to this angle.
-pub fn angle_step(mode: PredictionMode, angle: usize) -> Result<i8, Error> {
-    let mut step = 0;
-    // SAFETY: the pointer leads to one value, borrowed mutably.
-    told(unsafe { sys::angle_step(&mut step, mode.into(), angle) })?;
-    Ok(step)
-}
+use tilgwaren_sys as sys;
 
 /// A block that an intra mode predicts.
 #[derive(Clone, Copy, Debug, Default, PartialEq, Eq)]
@@ -78,8 +21,7 @@ pub struct IntraBlock {
     pub has_above: bool,
     /// Whether the edge filter is on.
     pub edge_filter: bool,
-    /// Whether a neighbour has a smooth mode ([`smooth_neighbour`]). It is not read if the filter
-    /// is off.
+    /// Whether a neighbour has a smooth mode. It is not read if the filter is off.
     pub smooth_neighbour: bool,
     /// How many visible columns the plane has from the block's first one on. The filter smooths
     /// none past them.

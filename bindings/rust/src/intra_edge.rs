@@ -7,8 +7,8 @@ use crate::{
     BitDepth, BlockRoom, BlockSize, Error, IntraBlock, Place, PredictionMode, Region, TxSize,
     predict_cfl_8, predict_cfl_16, predict_intra_8, predict_intra_16,
 };
-use av1_c_sys as sys;
 use std::fmt;
+use tilgwaren_sys as sys;
 
 /// How many samples a prepared edge has: 128 to the left, the corner, and 128 above.
 pub const EDGE_SAMPLES: usize = sys::EDGE_SAMPLES;
@@ -180,7 +180,7 @@ edge_calls!(u16, intra_edge_16);
 /// not fill, and what is known about its two sides. Make one once and use it again.
 ///
 /// ```
-/// use av1_c::{BlockSize, EdgeBlock, EdgePlane, IntraEdge, Place, PredictionMode, TxSize};
+/// use tilgwaren::{BlockSize, EdgeBlock, EdgePlane, IntraEdge, Place, PredictionMode, TxSize};
 /// let mut samples = [7u8; 16 * 16];
 /// let plane = EdgePlane::of_luma(16, 16);
 /// let block = EdgeBlock::of_luma(8, 8, BlockSize::B8x8, TxSize::T8x8);
@@ -189,7 +189,7 @@ edge_calls!(u16, intra_edge_16);
 /// for mode in [PredictionMode::Dc, PredictionMode::V, PredictionMode::Paeth] {
 ///     edge.predict(&mut samples, Place { stride: 16, x: 8, y: 8 }, mode, 0, false)?;
 /// }
-/// # Ok::<(), av1_c::Error>(())
+/// # Ok::<(), tilgwaren::Error>(())
 /// ```
 #[derive(Clone)]
 pub struct IntraEdge<T> {

@@ -1,11 +1,11 @@
-//! AV1 block reconstruction by the library `libav1_c.a`, whose calls are proved. `docs/LIBRARY.md`
+//! AV1 block reconstruction by the library `libtilgwaren.a`, whose calls are proved. `docs/LIBRARY.md`
 //! of the repository says how to build or install it, and `docs/PROVED.md` what is proved of its
 //! calls.
 //!
 //! ```no_run
 //! let plan = std::fs::read("frame.plan")?;
-//! let mut planes = vec![0; av1_c::planes_len(&plan)?];
-//! let written = av1_c::reconstruct_plan(&plan, &mut planes)?;
+//! let mut planes = vec![0; tilgwaren::planes_len(&plan)?];
+//! let written = tilgwaren::reconstruct_plan(&plan, &mut planes)?;
 //! # Ok::<(), Box<dyn std::error::Error>>(())
 //! ```
 //!
@@ -25,18 +25,16 @@
 //! samples of 16 bits.
 //!
 //! - Residual: [`inverse_transform_add_8`] and [`inverse_transform_add_16`].
-//!   [`inverse_transform_add_clamped_16`] clamps coefficients that are too large.
 //!   [`inverse_transform_add_rav1e_16`] follows rav1e if it differs from AV1.
 //! - Motion: [`put_8tap_8`] predicts a block from one reference. [`prep_8tap_8`] prepares each
-//!   block of two references, and [`mc_avg_8`] averages them. [`motion_place`] computes where a
-//!   vector points. [`put_moved_8`] and [`prep_moved_8`] follow a vector in a plane without
-//!   padding. A reference of 16 bits is checked once by [`Tested`]; [`put_tested_16`] and
-//!   [`prep_tested_16`] then read it without another check.
+//!   block of two references, and [`mc_avg_8`] averages them. [`put_moved_8`] and [`prep_moved_8`]
+//!   follow a vector in a plane without padding. A reference of 16 bits is checked once by
+//!   [`Tested`]; [`put_tested_16`] and [`prep_tested_16`] then read it without another check.
 //! - Intra modes: [`predict_intra_8`] and [`predict_cfl_8`] predict a block from edges that you
 //!   pass. [`intra_edge_8`] prepares the edges from a plane. [`predict_in_plane_8`] does both. An
 //!   [`IntraEdge`] keeps the edges, to try several modes from them. [`cfl_ac_8`] computes the
 //!   differences of luma from its mean that predict chroma.
-//! - Arguments of these calls: [`angle_step`], [`smooth_neighbour`] and [`cfl_block_of`].
+//!   [`cfl_block_of`] finds its arguments.
 //!
 //! Widths, heights, `x` and `y` are in samples of the plane, and vectors in eighths of a luma
 //! sample, unless a field says otherwise. Structs of arguments have a `Default`: write
@@ -57,18 +55,19 @@ mod tested;
 mod tile;
 mod transform;
 
-pub use builder::{BuildError, Chroma, Coefficient, Field, Header, Leaf, Motion, PlanBuilder};
+pub use builder::{
+    BuildError, Chroma, Coefficient, Field, Header, Leaf, LeafField, Motion, PlanBuilder,
+};
 pub use error::{Error, InvalidKind};
 pub use intra::{
-    IntraBlock, Neighbour, Neighbours, angle_step, predict_cfl_8, predict_cfl_16,
-    predict_in_plane_8, predict_in_plane_16, predict_intra_8, predict_intra_16, smooth_neighbour,
+    IntraBlock, predict_cfl_8, predict_cfl_16, predict_in_plane_8, predict_in_plane_16,
+    predict_intra_8, predict_intra_16,
 };
 pub use intra_edge::{EDGE_SAMPLES, EdgeBlock, EdgePlane, IntraEdge, intra_edge_8, intra_edge_16};
 pub use luma::{CflBlock, LumaBlock, cfl_ac_8, cfl_ac_16, cfl_block_of};
 pub use motion::{
-    MotionBlock, MotionPlane, MotionWindow, MovedBlock, MovedPlace, mc_avg_8, mc_avg_16,
-    motion_place, prep_8tap_8, prep_8tap_16, prep_moved_8, prep_moved_16, put_8tap_8, put_8tap_16,
-    put_moved_8, put_moved_16,
+    MotionBlock, MotionPlane, MotionWindow, MovedBlock, mc_avg_8, mc_avg_16, prep_8tap_8,
+    prep_moved_8, prep_moved_16, put_8tap_8, put_moved_8, put_moved_16,
 };
 pub use numbers::{
     BitDepth, BlockSize, Filter, Partition, PredictionMode, Reference, Sampling, TxSize, TxType,
@@ -83,16 +82,16 @@ pub use tested::{Tested, prep_tested_16, put_tested_16};
 pub use tile::{predict_in_tile_8, predict_in_tile_16};
 pub use transform::{
     TransformBlock, TransformScratch, inverse_transform_add_8, inverse_transform_add_16,
-    inverse_transform_add_clamped_16, inverse_transform_add_rav1e_16,
+    inverse_transform_add_rav1e_16,
 };
 
 /// The version of this crate: major times 65,536, minor times 256, patch.
-pub const VERSION: u32 = av1_c_sys::VERSION;
+pub const VERSION: u32 = tilgwaren_sys::VERSION;
 
-/// The version of the linked library, in the form of [`VERSION`]. The two are equal if the crate
-/// was built with its own archive.
+/// The version of the linked library, in the form of [`VERSION`]. A library of another minor
+/// version does not link.
 #[must_use]
 pub fn version() -> u32 {
     // SAFETY: the call takes nothing and writes nothing.
-    unsafe { av1_c_sys::c_version() }
+    unsafe { tilgwaren_sys::version_0_4() }
 }

@@ -2,7 +2,7 @@
 
 use crate::error::told;
 use crate::{BitDepth, BlockSize, Error, Place, Sampling, TxSize};
-use av1_c_sys as sys;
+use tilgwaren_sys as sys;
 
 /// A block of chroma that is predicted from luma.
 #[derive(Clone, Copy, Debug, Default, PartialEq, Eq)]
@@ -23,8 +23,8 @@ impl From<&CflBlock> for sys::CflBlock {
     fn from(of: &CflBlock) -> sys::CflBlock {
         sys::CflBlock {
             block_size: of.block_size.into(),
-            xdec: of.sampling.halves_columns().into(),
-            ydec: of.sampling.halves_rows().into(),
+            halved_columns: of.sampling.halves_columns().into(),
+            halved_rows: of.sampling.halves_rows().into(),
             w_pad: of.w_pad,
             h_pad: of.h_pad,
         }
@@ -60,8 +60,8 @@ pub fn cfl_block_of(luma: &LumaBlock) -> Result<CflBlock, Error> {
     let given = sys::LumaBlock {
         block_size: luma.block_size.into(),
         tx_size: luma.tx_size.into(),
-        xdec: luma.sampling.halves_columns().into(),
-        ydec: luma.sampling.halves_rows().into(),
+        halved_columns: luma.sampling.halves_columns().into(),
+        halved_rows: luma.sampling.halves_rows().into(),
         visible_columns: luma.visible_columns,
         visible_rows: luma.visible_rows,
     };
@@ -97,7 +97,7 @@ macro_rules! luma_calls {
                     place.x,
                     place.y,
                     &block.into(),
-                    $($depth as usize,)?
+                    $($depth.into(),)?
                 )
             })
         }

@@ -2,8 +2,8 @@
 
 use crate::error::told;
 use crate::{BitDepth, Error, Filter, Place, Tested};
-use av1_c_sys as sys;
 use std::fmt;
+use tilgwaren_sys as sys;
 
 /// A block, and how far it is moved between the samples of its reference.
 #[derive(Clone, Copy, Debug, Default, PartialEq, Eq)]
@@ -13,9 +13,9 @@ pub struct MotionBlock {
     /// How many rows it has: from 1 to 128.
     pub height: usize,
     /// How far it is moved right, in sixteenths of a sample: below 16.
-    pub col_frac: u8,
+    pub fraction_x: u8,
     /// How far it is moved down, in sixteenths of a sample: below 16.
-    pub row_frac: u8,
+    pub fraction_y: u8,
     /// The filter along rows.
     pub filter_x: Filter,
     /// The filter down columns.
@@ -27,122 +27,74 @@ impl From<&MotionBlock> for sys::MotionBlock {
         sys::MotionBlock {
             width: of.width,
             height: of.height,
-            col_frac: of.col_frac,
-            row_frac: of.row_frac,
+            fraction_x: of.fraction_x,
+            fraction_y: of.fraction_y,
             filter_x: of.filter_x.into(),
             filter_y: of.filter_y.into(),
         }
     }
 }
 
-macro_rules! put_calls {
-    ($call:ident, $sample:ident, $($depth:ident,)? $(#[$doc:meta])+) => {
-        $(#[$doc])+
-        pub fn $call(
-            dst: &mut [$sample],
-            to: Place,
-            src: &[$sample],
-            from: Place,
-            block: &MotionBlock,
-            $($depth: BitDepth,)?
-        ) -> Result<(), Error> {
-            // SAFETY: pointers and lengths come from borrowed slices, `dst` borrowed mutably.
-            told(unsafe {
-                sys::$call(
-                    dst.as_mut_ptr(),
-                    dst.len(),
-                    to.stride,
-                    to.x,
-                    to.y,
-                    src.as_ptr(),
-                    src.len(),
-                    from.stride,
-                    from.x,
-                    from.y,
-                    &block.into(),
-                    $($depth as usize,)?
-                )
-            })
-        }
-    };
+/// Predicts a block of samples of 8 bits from one reference. `to` is the place of its first
+/// sample in `dst`, and `from` that in the reference `src`, before the fractions. If the fraction
+/// of the columns is not 0, the call also reads 3 columns before the block and 4 after it. The
+/// same holds for rows.
+///
+/// # Errors
+///
+/// `BadSize`, then `BadFraction`, then `BadArea`. The samples are then unchanged.
+pub fn put_8tap_8(
+    dst: &mut [u8],
+    to: Place,
+    src: &[u8],
+    from: Place,
+    block: &MotionBlock,
+) -> Result<(), Error> {
+    // SAFETY: pointers and lengths come from borrowed slices, `dst` borrowed mutably.
+    told(unsafe {
+        sys::put_8tap_8(
+            dst.as_mut_ptr(),
+            dst.len(),
+            to.stride,
+            to.x,
+            to.y,
+            src.as_ptr(),
+            src.len(),
+            from.stride,
+            from.x,
+            from.y,
+            &block.into(),
+        )
+    })
 }
-
-put_calls!(
-    put_8tap_8,
-    u8,
-    /// Predicts a block of samples of 8 bits from one reference. `to` is the place of its first
-    /// sample in `dst`, and `from` that in the reference `src`, before the fractions. At every
-    /// fraction, the call reads 3 columns and rows before the block and 4 after it.
-    ///
-    /// # Errors
-    ///
-    /// `BadSize`, then `BadFraction`, then `BadArea`. The samples are then unchanged.
-);
-put_calls!(
-    put_8tap_16,
-    u16,
-    bit_depth,
-    /// [`put_8tap_8`] for samples of 16 bits.
-    ///
-    /// # Errors
-    ///
-    /// `BadSize`, then `BadFraction`, then `BadArea`, then `BadSample`: a sample that the call
-    /// reads is past the depth. The samples are then unchanged.
-);
-
-macro_rules! prep_calls {
-    ($call:ident, $sample:ident, $($depth:ident,)? $(#[$doc:meta])+) => {
-        $(#[$doc])+
-        pub fn $call(
-            values: &mut [i16],
-            src: &[$sample],
-            from: Place,
-            block: &MotionBlock,
-            $($depth: BitDepth,)?
-        ) -> Result<(), Error> {
-            // SAFETY: pointers and lengths come from borrowed slices, `values` borrowed mutably.
-            told(unsafe {
-                sys::$call(
-                    values.as_mut_ptr(),
-                    values.len(),
-                    src.as_ptr(),
-                    src.len(),
-                    from.stride,
-                    from.x,
-                    from.y,
-                    &block.into(),
-                    $($depth as usize,)?
-                )
-            })
-        }
-    };
+/// Prepares a block of a reference of 8 bits for the average with another block. The call
+/// writes the first `height * width` of `values`, row by row. A value is 16 times a sample.
+/// Everything else is as in [`put_8tap_8`].
+///
+/// # Errors
+///
+/// `BadSize`, then `BadFraction`, then `BadArea`, then `TooShort`. The values are then
+/// unchanged.
+pub fn prep_8tap_8(
+    values: &mut [i16],
+    src: &[u8],
+    from: Place,
+    block: &MotionBlock,
+) -> Result<(), Error> {
+    // SAFETY: pointers and lengths come from borrowed slices, `values` borrowed mutably.
+    told(unsafe {
+        sys::prep_8tap_8(
+            values.as_mut_ptr(),
+            values.len(),
+            src.as_ptr(),
+            src.len(),
+            from.stride,
+            from.x,
+            from.y,
+            &block.into(),
+        )
+    })
 }
-
-prep_calls!(
-    prep_8tap_8,
-    u8,
-    /// Prepares a block of a reference of 8 bits for the average with another block. The call
-    /// writes the first `height * width` of `values`, row by row. A value is 16 times a sample.
-    /// Everything else is as in [`put_8tap_8`].
-    ///
-    /// # Errors
-    ///
-    /// `BadSize`, then `BadFraction`, then `BadArea`, then `TooShort`. The values are then
-    /// unchanged.
-);
-prep_calls!(
-    prep_8tap_16,
-    u16,
-    bit_depth,
-    /// [`prep_8tap_8`] for samples of 16 bits. A value is 16 times a sample, 4 times at depth 12,
-    /// and from depth 10 on less by 8192.
-    ///
-    /// # Errors
-    ///
-    /// `BadSize`, then `BadFraction`, then `BadArea`, then `TooShort`, then `BadSample`. The values
-    /// are then unchanged.
-);
-
 macro_rules! average_calls {
     ($call:ident, $sample:ident, $($depth:ident,)? $(#[$doc:meta])+) => {
         $(#[$doc])+
@@ -169,7 +121,7 @@ macro_rules! average_calls {
                     first.len(),
                     second.as_ptr(),
                     second.len(),
-                    $($depth as usize,)?
+                    $($depth.into(),)?
                 )
             })
         }
@@ -243,9 +195,9 @@ pub struct MovedBlock {
     /// How many rows it has: from 1 to 128.
     pub height: usize,
     /// How far the vector points down, in eighths of a luma sample.
-    pub row: i16,
+    pub mv_y: i16,
     /// How far it points to the right, in eighths of a luma sample.
-    pub col: i16,
+    pub mv_x: i16,
     /// The filter along rows.
     pub filter_x: Filter,
     /// The filter down columns.
@@ -259,47 +211,12 @@ impl From<&MovedBlock> for sys::MovedBlock {
             y: of.y,
             width: of.width,
             height: of.height,
-            row: of.row,
-            col: of.col,
+            mv_y: of.mv_y,
+            mv_x: of.mv_x,
             filter_x: of.filter_x.into(),
             filter_y: of.filter_y.into(),
         }
     }
-}
-
-/// The place in its reference at which such a block is read.
-#[derive(Clone, Copy, Debug, Default, PartialEq, Eq)]
-pub struct MovedPlace {
-    /// The column of its first sample in the reference, counted from the first visible one.
-    pub x: isize,
-    /// The row of its first sample, counted from the first visible one.
-    pub y: isize,
-    /// How far it is moved right beyond that, in sixteenths of a sample.
-    pub col_frac: u8,
-    /// How far it is moved down beyond that, in sixteenths of a sample.
-    pub row_frac: u8,
-}
-
-/// Computes where a block that a vector moves is read in its reference. Outside the plane, every
-/// sample equals the nearest edge sample. So for a vector that points far outside, the call returns
-/// an equivalent place closer to the plane: padding of `width + 7` columns and `height + 7` rows on
-/// each side is always enough. The plane's `stride`, `x` and `y`, and the block's filters, are not
-/// read.
-///
-/// # Errors
-///
-/// `BadSize`, then `BadArea`: the plane has no samples, or is wider or higher than 65,536, or the
-/// block's `x` or `y` is past 65,536.
-pub fn motion_place(plane: &MotionPlane, block: &MovedBlock) -> Result<MovedPlace, Error> {
-    let mut place = sys::MovedPlace::default();
-    // SAFETY: each pointer leads to one value, `place` borrowed mutably.
-    told(unsafe { sys::motion_place(&mut place, &plane.into(), &block.into()) })?;
-    Ok(MovedPlace {
-        x: place.x,
-        y: place.y,
-        col_frac: place.col_frac,
-        row_frac: place.row_frac,
-    })
 }
 
 /// Scratch memory for what is read for a block. Its contents before a call don't matter. Threads
@@ -350,12 +267,12 @@ pub fn put_moved_8(
             to.stride,
             to.x,
             to.y,
+            window.0.as_mut_ptr(),
+            window.0.len(),
             src.as_ptr(),
             src.len(),
             &plane.into(),
             &block.into(),
-            window.0.as_mut_ptr(),
-            window.0.len(),
         )
     })
 }
@@ -382,13 +299,13 @@ pub fn put_moved_16<S>(
             to.stride,
             to.x,
             to.y,
+            window.0.as_mut_ptr(),
+            window.0.len(),
             src.samples().as_ptr(),
             src.samples().len(),
             &plane.into(),
             &block.into(),
-            window.0.as_mut_ptr(),
-            window.0.len(),
-            src.bit_depth() as usize,
+            src.bit_depth().into(),
         )
     })
 }
@@ -413,18 +330,18 @@ pub fn prep_moved_8(
         sys::prep_moved_8(
             values.as_mut_ptr(),
             values.len(),
+            window.0.as_mut_ptr(),
+            window.0.len(),
             src.as_ptr(),
             src.len(),
             &plane.into(),
             &block.into(),
-            window.0.as_mut_ptr(),
-            window.0.len(),
         )
     })
 }
 
 /// [`prep_moved_8`] for samples of 16 bits at the depth of the reference, with the values of
-/// [`prep_8tap_16`].
+/// [`prep_tested_16`](crate::prep_tested_16).
 ///
 /// # Errors
 ///
@@ -442,13 +359,13 @@ pub fn prep_moved_16<S>(
         sys::prep_moved_16(
             values.as_mut_ptr(),
             values.len(),
+            window.0.as_mut_ptr(),
+            window.0.len(),
             src.samples().as_ptr(),
             src.samples().len(),
             &plane.into(),
             &block.into(),
-            window.0.as_mut_ptr(),
-            window.0.len(),
-            src.bit_depth() as usize,
+            src.bit_depth().into(),
         )
     })
 }

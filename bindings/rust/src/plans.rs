@@ -2,8 +2,8 @@
 
 use crate::Error;
 use crate::error::{of_parts, of_plan};
-use av1_c_sys as sys;
 use std::mem::size_of;
+use tilgwaren_sys as sys;
 
 /// Computes how many bytes the planes of a plan have, which is how many [`reconstruct_plan`] writes.
 /// It reads only the 20 bytes of the header at the front of `bytes`.
@@ -15,7 +15,7 @@ pub fn planes_len(bytes: &[u8]) -> Result<usize, Error> {
     let mut len = 0;
     let mut refusal = sys::Refusal::default();
     // SAFETY: pointer and length come from one borrowed slice; the call writes only two locals.
-    let status = unsafe { sys::planes_len(bytes.as_ptr(), bytes.len(), &mut len, &mut refusal) };
+    let status = unsafe { sys::planes_len(&mut len, &mut refusal, bytes.as_ptr(), bytes.len()) };
     of_plan(status, &refusal)?;
     Ok(len)
 }
@@ -30,15 +30,18 @@ macro_rules! plane_calls {
             // call writes only `room` and two locals.
             let status = unsafe {
                 sys::$call(
-                    bytes.as_ptr(),
-                    bytes.len(),
                     room.as_mut_ptr(),
                     room.len(),
                     &mut written,
                     &mut refusal,
+                    bytes.as_ptr(),
+                    bytes.len(),
                 )
             };
-            $told(status, &refusal)?;
+            $told(status, &refusal).map_err(|error| match error {
+                Error::RoomTooSmall { .. } => Error::RoomTooSmall { needed: written },
+                _ => error,
+            })?;
             Ok(written)
         }
     };
@@ -54,8 +57,8 @@ plane_calls!(
     ///
     /// ```no_run
     /// let plan = std::fs::read("frame.plan")?;
-    /// let mut planes = vec![0; av1_c::planes_len(&plan)?];
-    /// av1_c::reconstruct_plan(&plan, &mut planes)?;
+    /// let mut planes = vec![0; tilgwaren::planes_len(&plan)?];
+    /// tilgwaren::reconstruct_plan(&plan, &mut planes)?;
     /// # Ok::<(), Box<dyn std::error::Error>>(())
     /// ```
     ///
@@ -101,9 +104,9 @@ pub struct Difference {
     /// The leaf, counted from 0 in coding order.
     pub leaf: u32,
     /// The row of the sample in its plane.
-    pub row: u16,
+    pub y: u16,
     /// The column of the sample in its plane.
-    pub column: u16,
+    pub x: u16,
     /// The sample that was given: up to 16 bits at every depth.
     pub given: u16,
     /// The sample that the plan defines.
@@ -133,12 +136,12 @@ pub fn trace_differences(bytes: &[u8], room: &mut [Difference]) -> Result<usize,
     // elements are laid out as the call's; the call writes only `room` and two locals.
     let status = unsafe {
         sys::trace_differences(
-            bytes.as_ptr(),
-            bytes.len(),
             room.as_mut_ptr().cast(),
             room.len(),
             &mut found,
             &mut refusal,
+            bytes.as_ptr(),
+            bytes.len(),
         )
     };
     of_parts(status, &refusal)?;

@@ -450,7 +450,7 @@ impl<T: Copy + Default> RegionMut<'_, T> {
     /// all do except those that add a residual. The call gets arbitrary samples in their place.
     ///
     /// ```
-    /// use av1_c::{BlockRoom, MotionBlock, Place, RegionMut, put_8tap_8};
+    /// use tilgwaren::{BlockRoom, MotionBlock, Place, RegionMut, put_8tap_8};
     /// let block = MotionBlock { width: 4, height: 4, ..MotionBlock::default() };
     /// let reference = [7; 256];
     /// let mut plane = [0; 16 * 16];
@@ -462,7 +462,7 @@ impl<T: Copy + Default> RegionMut<'_, T> {
     ///     threads.spawn(|| right.write(&mut BlockRoom::new(), 4, 8, 4, 4, put));
     /// });
     /// # assert_eq!((plane[0], plane[8 * 16 + 12], plane[4]), (7, 7, 0));
-    /// # Ok::<(), av1_c::Error>(())
+    /// # Ok::<(), tilgwaren::Error>(())
     /// ```
     ///
     /// # Errors

@@ -2,16 +2,16 @@
 
 use crate::error::told;
 use crate::{BitDepth, Error, MotionBlock, Place};
-use av1_c_sys as sys;
 use std::fmt;
 use std::sync::Arc;
+use tilgwaren_sys as sys;
 
 /// Samples of 16 bits, none of them past a depth, together with their owner: a borrowed slice, a
 /// `Vec<u16>`, an `Arc<[u16]>`, or a frame or a plane of the caller's own type. A clone shares
 /// them.
 ///
 /// ```
-/// use av1_c::{BitDepth, Error, Tested};
+/// use tilgwaren::{BitDepth, Error, Tested};
 /// use std::sync::Arc;
 ///
 /// struct Frame {
@@ -29,10 +29,10 @@ use std::sync::Arc;
 ///
 /// ```compile_fail,E0506
 /// let mut samples = [0; 64];
-/// let tested = av1_c::Tested::new(&samples, av1_c::BitDepth::Ten)?;
+/// let tested = tilgwaren::Tested::new(&samples, tilgwaren::BitDepth::Ten)?;
 /// samples[0] = 1024;
 /// assert_eq!(tested.samples().len(), 64);
-/// # Ok::<(), av1_c::Error>(())
+/// # Ok::<(), tilgwaren::Error>(())
 /// ```
 // Any owner will do: none has to promise anything. The owner is asked for its samples once, when
 // they are checked, and only that slice is read later. A different slice that `AsRef` would return
@@ -88,7 +88,7 @@ impl<S> Tested<S> {
                 0,
                 count,
                 1,
-                bit_depth as usize,
+                bit_depth.into(),
             )
         })?;
         let samples = samples as *const [u16];
@@ -152,7 +152,7 @@ impl<S> fmt::Debug for Tested<S> {
     }
 }
 
-/// [`put_8tap_16`](crate::put_8tap_16) at the depth of the reference, which is not checked again.
+/// [`put_8tap_8`](crate::put_8tap_8) for samples of 16 bits, at the depth of the reference.
 ///
 /// # Errors
 ///
@@ -180,12 +180,13 @@ pub fn put_tested_16<S>(
             from.x,
             from.y,
             &block.into(),
-            src.bit_depth as usize,
+            src.bit_depth.into(),
         )
     })
 }
 
-/// [`prep_8tap_16`](crate::prep_8tap_16) at the depth of the reference, which is not checked again.
+/// [`prep_8tap_8`](crate::prep_8tap_8) for samples of 16 bits, at the depth of the reference. A
+/// value is 16 times a sample, 4 times at depth 12, and from depth 10 on less by 8192.
 ///
 /// # Errors
 ///
@@ -209,7 +210,7 @@ pub fn prep_tested_16<S>(
             from.x,
             from.y,
             &block.into(),
-            src.bit_depth as usize,
+            src.bit_depth.into(),
         )
     })
 }

@@ -2,8 +2,8 @@
 
 use crate::error::told;
 use crate::{BitDepth, Error, TxSize, TxType};
-use av1_c_sys as sys;
 use std::fmt;
+use tilgwaren_sys as sys;
 
 /// Scratch memory for the transform of one block. Its contents before a call don't matter. Threads
 /// need one each.
@@ -57,17 +57,17 @@ macro_rules! transform_calls {
             // SAFETY: pointers and lengths come from borrowed slices, `samples` borrowed mutably.
             told(unsafe {
                 sys::$call(
-                    &mut *scratch.0,
-                    coefficients.as_ptr(),
-                    coefficients.len(),
                     samples.as_mut_ptr(),
                     samples.len(),
                     stride,
                     block.x,
                     block.y,
+                    &mut *scratch.0,
+                    coefficients.as_ptr(),
+                    coefficients.len(),
                     block.tx_size.into(),
                     block.tx_type.into(),
-                    $($depth as usize,)?
+                    $($depth.into(),)?
                 )
             })
         }
@@ -98,7 +98,7 @@ transform_calls!(
     /// # Errors
     ///
     /// `BadType`, then `BadArea`, then `BadCoefficient`: a coefficient has more than
-    /// `bit_depth + 8` bits, sign included. The samples are then unchanged.
+    /// `bit_depth + 8` bits, sign included: clamp those that you dequantize, as AV1 does. The samples are then unchanged.
 );
 transform_calls!(
     inverse_transform_add_rav1e_16,
@@ -112,17 +112,4 @@ transform_calls!(
     /// # Errors
     ///
     /// Those of [`inverse_transform_add_16`]. The samples are then unchanged.
-);
-transform_calls!(
-    inverse_transform_add_clamped_16,
-    u16,
-    i32,
-    bit_depth,
-    /// [`inverse_transform_add_16`] for coefficients of any size: a larger coefficient is clamped
-    /// to `bit_depth + 8` bits, as AV1 clamps what it dequantizes. At a depth of 8 such a
-    /// coefficient does not fit `i16`, so there is no such call for samples of 8 bits.
-    ///
-    /// # Errors
-    ///
-    /// `BadType`, then `BadArea`. The samples are then unchanged.
 );

@@ -1,11 +1,11 @@
 //! Plans built field by field, and reconstructed.
 
-use av1_c::{
-    BlockSize, BuildError, Chroma, Coefficient, Field, Header, Leaf, Motion, Partition,
-    PlanBuilder, PredictionMode, Reference, Sampling, TxSize, reconstruct_plan,
-};
 use std::fs;
 use std::path::Path;
+use tilgwaren::{
+    BlockSize, BuildError, Chroma, Coefficient, Field, Header, Leaf, LeafField, Motion, Partition,
+    PlanBuilder, PredictionMode, Reference, Sampling, TxSize, reconstruct_plan,
+};
 
 // An 8x8 frame in 4:4:4 at depth 8.
 fn header(mask: u8) -> Header {
@@ -28,10 +28,10 @@ fn middle() -> Leaf {
 }
 
 // A leaf of the reference LAST, moved to the right.
-fn moved(col: i16) -> Leaf {
+fn moved(mv_x: i16) -> Leaf {
     let vector = Motion {
-        row: 0,
-        col,
+        mv_y: 0,
+        mv_x,
         reference: Reference::Last,
     };
     Leaf {
@@ -66,9 +66,10 @@ fn a_plan_is_built_and_reconstructed() -> Result<(), BuildError> {
         chroma: None,
         ..middle()
     };
+    let field = LeafField::HasChroma;
     assert_eq!(
         builder.leaf(&grey, &[], &[], &[]),
-        Err(BuildError::NotAdmitted)
+        Err(BuildError::BadField { field })
     );
     builder.leaf(&middle(), &[LIFTED], &[], &[])?;
     let plan = builder.finish()?;
@@ -83,8 +84,14 @@ fn a_plan_is_built_and_reconstructed() -> Result<(), BuildError> {
 // An 8x8 frame cut down to four leaves of 4x4, of which the first has these coefficients in Y.
 fn four_leaves(coefficients: &[Coefficient]) -> Result<Vec<u8>, BuildError> {
     let mut builder = PlanBuilder::new(&header(0))?;
-    for side in [64, 32, 16, 8] {
-        assert_eq!(builder.next_field(), Field::Mark { x: 0, y: 0, side });
+    let sizes = [
+        BlockSize::B64x64,
+        BlockSize::B32x32,
+        BlockSize::B16x16,
+        BlockSize::B8x8,
+    ];
+    for size in sizes {
+        assert_eq!(builder.next_field(), Field::Mark { x: 0, y: 0, size });
         builder.mark(Partition::Split)?;
     }
     let before = builder.clone();
@@ -175,7 +182,8 @@ fn a_plan_grows() -> Result<(), BuildError> {
         ..middle()
     };
     for (x, y) in [(0, 0), (64, 0), (0, 64), (64, 64)] {
-        assert_eq!(builder.next_field(), Field::Mark { x, y, side: 64 });
+        let size = BlockSize::B64x64;
+        assert_eq!(builder.next_field(), Field::Mark { x, y, size });
         builder.mark(Partition::None)?;
         builder.leaf(&leaf, &many, &[], &[])?;
     }

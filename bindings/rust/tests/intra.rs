@@ -1,11 +1,11 @@
 //! Intra prediction: from given edges, in a plane, from an edge that is kept, and in a tile.
 
-use av1_c::{
+use tilgwaren::{
     BitDepth, BlockRoom, BlockSize, CflBlock, EDGE_SAMPLES, EdgeBlock, EdgePlane, Error,
-    IntraBlock, IntraEdge, LumaBlock, Neighbour, Neighbours, Place, PredictionMode, RegionMut,
-    Sampling, TxSize, angle_step, cfl_ac_8, cfl_ac_16, cfl_block_of, intra_edge_8, intra_edge_16,
-    predict_cfl_8, predict_cfl_16, predict_in_plane_8, predict_in_plane_16, predict_in_tile_8,
-    predict_in_tile_16, predict_intra_8, predict_intra_16, smooth_neighbour,
+    IntraBlock, IntraEdge, LumaBlock, Place, PredictionMode, RegionMut, Sampling, TxSize, cfl_ac_8,
+    cfl_ac_16, cfl_block_of, intra_edge_8, intra_edge_16, predict_cfl_8, predict_cfl_16,
+    predict_in_plane_8, predict_in_plane_16, predict_in_tile_8, predict_in_tile_16,
+    predict_intra_8, predict_intra_16,
 };
 
 fn block(mode: PredictionMode) -> IntraBlock {
@@ -224,7 +224,7 @@ fn edges_are_those_of_the_plane() -> Result<(), Error> {
         &plane(),
         &in_plane(PredictionMode::H, BitDepth::Ten),
     );
-    assert_eq!(short, Err(Error::RoomTooSmall));
+    assert_eq!(short, Err(Error::RoomTooSmall { needed: 257 }));
     Ok(())
 }
 
@@ -410,39 +410,6 @@ in_tile_as_in_plane!(
     predict_in_plane_16,
     predict_in_tile_16
 );
-
-#[test]
-fn angles_are_steps_of_their_modes() {
-    assert_eq!(angle_step(PredictionMode::D45, 36), Ok(-3));
-    assert_eq!(angle_step(PredictionMode::D203, 209), Ok(2));
-    assert_eq!(angle_step(PredictionMode::Dc, 0), Ok(0));
-    assert_eq!(angle_step(PredictionMode::V, 102), Err(Error::BadAngle));
-    assert_eq!(angle_step(PredictionMode::Cfl, 0), Err(Error::BadMode));
-}
-
-#[test]
-fn a_smooth_neighbour_of_chroma_is_intra() {
-    let above = Neighbour {
-        mode: PredictionMode::Smooth,
-        inter: true,
-    };
-    let luma = Neighbours {
-        above: Some(above),
-        ..Neighbours::default()
-    };
-    assert_eq!(smooth_neighbour(&luma), Ok(true));
-    let chroma = Neighbours {
-        chroma: true,
-        ..luma
-    };
-    assert_eq!(smooth_neighbour(&chroma), Ok(false));
-    let left = Some(Neighbour {
-        mode: PredictionMode::SmoothH,
-        inter: false,
-    });
-    assert_eq!(smooth_neighbour(&Neighbours { left, ..chroma }), Ok(true));
-    assert_eq!(smooth_neighbour(&Neighbours::default()), Ok(false));
-}
 
 // A block of 8x8 in 4:2:0, of which the last 4 columns and rows have no luma of their own.
 fn cfl_block() -> CflBlock {

@@ -1,9 +1,9 @@
 //! Blocks of references: predicted, prepared, averaged, moved and rejected.
 
-use av1_c::{
+use tilgwaren::{
     BitDepth, Error, Filter, MotionBlock, MotionPlane, MotionWindow, MovedBlock, Place, Tested,
-    mc_avg_8, mc_avg_16, motion_place, prep_8tap_8, prep_8tap_16, prep_moved_8, prep_moved_16,
-    prep_tested_16, put_8tap_8, put_8tap_16, put_moved_8, put_moved_16, put_tested_16,
+    mc_avg_8, mc_avg_16, prep_8tap_8, prep_moved_8, prep_moved_16, prep_tested_16, put_8tap_8,
+    put_moved_8, put_moved_16, put_tested_16,
 };
 
 // A block of 4 columns and 2 rows between samples.
@@ -11,8 +11,8 @@ fn block() -> MotionBlock {
     MotionBlock {
         width: 4,
         height: 2,
-        col_frac: 5,
-        row_frac: 9,
+        fraction_x: 5,
+        fraction_y: 9,
         filter_x: Filter::Sharp,
         filter_y: Filter::Regular,
     }
@@ -25,10 +25,6 @@ fn place(stride: usize, x: usize, y: usize) -> Place {
 // Of 12 columns, with a number for each place.
 fn reference() -> Vec<u8> {
     (0..144).collect()
-}
-
-fn deep_reference() -> Vec<u16> {
-    (0..144).map(|i| i * i % 1024).collect()
 }
 
 #[test]
@@ -76,7 +72,7 @@ fn beside_an_edge(width: usize, filter_x: Filter) -> Result<Vec<u8>, Error> {
     let block = MotionBlock {
         width,
         height: 1,
-        col_frac: 8,
+        fraction_x: 8,
         filter_x,
         ..MotionBlock::default()
     };
@@ -108,36 +104,15 @@ fn filters_have_the_weights_of_the_specification() -> Result<(), Error> {
 fn constant_references_stay_as_they_are() {
     let (mut values, mut samples) = ([0; 9], [0; 8]);
     let (to, from) = (place(4, 0, 0), place(12, 3, 3));
-    let prepared = prep_8tap_16(&mut values, &[500; 144], from, &block(), BitDepth::Ten);
+    let reference = Tested::new([500; 144], BitDepth::Ten).expect("no sample is past the depth");
+    let prepared = prep_tested_16(&mut values, &reference, from, &block());
     assert_eq!(prepared, Ok(()));
     assert_eq!(values, [-192, -192, -192, -192, -192, -192, -192, -192, 0]);
     let averaged = mc_avg_16(&mut samples, to, 4, 2, &values, &values, BitDepth::Ten);
     assert_eq!((averaged, samples), (Ok(()), [500; 8]));
-    let put = put_8tap_16(
-        &mut samples,
-        to,
-        &[3000; 144],
-        from,
-        &block(),
-        BitDepth::Twelve,
-    );
+    let light = Tested::new([3000; 144], BitDepth::Twelve).expect("no sample is past the depth");
+    let put = put_tested_16(&mut samples, to, &light, from, &block());
     assert_eq!((put, samples), (Ok(()), [3000; 8]));
-}
-
-#[test]
-fn tested_references_give_the_same_blocks() -> Result<(), Error> {
-    let reference = deep_reference();
-    let tested = Tested::new(&reference, BitDepth::Ten)?;
-    let (to, from) = (place(4, 0, 0), place(12, 3, 3));
-    let (mut one, mut other) = ([0; 8], [0; 8]);
-    put_8tap_16(&mut one, to, &reference, from, &block(), BitDepth::Ten)?;
-    put_tested_16(&mut other, to, &tested, from, &block())?;
-    assert_eq!(one, other);
-    let (mut one, mut other) = ([0; 9], [0; 9]);
-    prep_8tap_16(&mut one, &reference, from, &block(), BitDepth::Ten)?;
-    prep_tested_16(&mut other, &tested, from, &block())?;
-    assert_eq!(one, other);
-    Ok(())
 }
 
 #[test]
@@ -153,7 +128,7 @@ fn rejected_blocks_leave_the_samples_alone() {
     };
     assert_eq!(put(to, from, narrow), Err(Error::BadSize));
     let far = MotionBlock {
-        row_frac: 16,
+        fraction_y: 16,
         ..block()
     };
     assert_eq!(put(to, from, far), Err(Error::BadFraction));
@@ -165,8 +140,9 @@ fn rejected_blocks_leave_the_samples_alone() {
     assert_eq!(samples, [1; 64]);
     let short = prep_8tap_8(&mut values[..7], &reference, from, &block());
     assert_eq!(short, Err(Error::TooShort));
-    let past = prep_8tap_16(&mut values, &[300; 144], from, &block(), BitDepth::Eight);
-    assert_eq!((past, values), (Err(Error::BadSample), [2; 8]));
+    assert_eq!(values, [2; 8]);
+    let past = Tested::new([300; 144], BitDepth::Eight).err();
+    assert_eq!(past, Some(Error::BadSample));
 }
 
 // A plane of chroma in 4:2:2, with other samples around it.
@@ -188,27 +164,10 @@ fn moved(row: i16, col: i16) -> MovedBlock {
         y: 16,
         width: 8,
         height: 4,
-        row,
-        col,
+        mv_y: row,
+        mv_x: col,
         ..MovedBlock::default()
     }
-}
-
-#[test]
-fn a_vector_gives_whole_samples_and_sixteenths() {
-    let found = |row, col| {
-        let place = motion_place(&plane(), &moved(row, col));
-        place.map(|it| (it.x, it.y, it.col_frac, it.row_frac))
-    };
-    assert_eq!(found(0, 0), Ok((8, 16, 0, 0)));
-    // Eighths of luma are sixteenths of the halved columns, and two sixteenths each of the rows.
-    assert_eq!(found(11, 35), Ok((10, 17, 3, 6)));
-    assert_eq!(found(-11, -35), Ok((5, 14, 13, 10)));
-    let empty = MotionPlane {
-        height: 0,
-        ..plane()
-    };
-    assert_eq!(motion_place(&empty, &moved(0, 0)), Err(Error::BadArea));
 }
 
 // Sample (x, y) of the plane is 2x + y, and the others are 255.

@@ -1,11 +1,11 @@
 //! The worked plan of the repository: whole and spoilt, as a grid of one tile, as a sequence, and as a trace.
 
-use av1_c::{
+use std::fs;
+use std::path::Path;
+use tilgwaren::{
     Difference, Error, InvalidKind, planes_len, reconstruct_plan, reconstruct_sequence,
     reconstruct_tiles, trace_differences,
 };
-use std::fs;
-use std::path::Path;
 
 // The bytes of a plan's header.
 const HEADER: usize = 20;
@@ -31,9 +31,11 @@ fn a_plan_is_written_to_the_front() {
 fn a_short_room_is_left_alone() {
     let (plan, planes) = worked_plan();
     let mut room = vec![9; planes.len() - 1];
-    assert_eq!(reconstruct_plan(&plan, &mut room), Err(Error::RoomTooSmall));
+    let needed = planes.len();
+    let fault = Err(Error::RoomTooSmall { needed });
+    assert_eq!(reconstruct_plan(&plan, &mut room), fault);
     assert!(room.iter().all(|byte| *byte == 9));
-    assert_eq!(reconstruct_plan(&plan, &mut []), Err(Error::RoomTooSmall));
+    assert_eq!(reconstruct_plan(&plan, &mut []), fault);
 }
 
 #[test]
@@ -135,7 +137,8 @@ fn rejected_bytes_leave_the_room_alone() {
     assert_eq!(reconstruct_tiles(&plan, &mut room), fault);
     assert_eq!(reconstruct_sequence(&plan, &mut room), fault);
     let short = &mut room[..planes.len() - 1];
-    let fault = Err(Error::RoomTooSmall);
+    let needed = planes.len();
+    let fault = Err(Error::RoomTooSmall { needed });
     assert_eq!(reconstruct_tiles(&grid(&plan), short), fault);
     assert!(room.iter().all(|byte| *byte == 9));
 }
@@ -205,16 +208,16 @@ fn a_trace_tells_where_its_planes_differ() {
     assert_eq!(trace_differences(&trace(&plan, &planes), &mut room), Ok(2));
     let first = Difference {
         leaf: 0,
-        row: 2,
-        column: 1,
+        y: 2,
+        x: 1,
         given: 9,
         defined: 131,
         plane: 0,
     };
     let last = Difference {
         leaf: 3,
-        row: 7,
-        column: 7,
+        y: 7,
+        x: 7,
         given: 8,
         defined: 128,
         plane: 2,
@@ -235,8 +238,8 @@ fn a_trace_tells_where_its_planes_differ() {
 
 #[test]
 fn the_library_has_the_version_of_the_crate() {
-    assert_eq!(av1_c::version(), av1_c::VERSION);
-    let [major, minor, patch] = [16, 8, 0].map(|shift| av1_c::VERSION >> shift & 255);
+    assert_eq!(tilgwaren::version(), tilgwaren::VERSION);
+    let [major, minor, patch] = [16, 8, 0].map(|shift| tilgwaren::VERSION >> shift & 255);
     assert_eq!(
         format!("{major}.{minor}.{patch}"),
         env!("CARGO_PKG_VERSION")

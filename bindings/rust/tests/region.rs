@@ -1,6 +1,6 @@
 //! Regions: split, read, called on, and worked on by threads.
 
-use av1_c::{
+use tilgwaren::{
     BlockRoom, Error, Filter, MotionBlock, Place, Region, RegionMut, TransformBlock,
     TransformScratch, TxSize, inverse_transform_add_8, put_8tap_8,
 };
@@ -216,8 +216,8 @@ fn work(region: &mut RegionMut<'_, u8>, seed: u8) -> Result<(), Error> {
     let block = MotionBlock {
         width: 8,
         height: 8,
-        col_frac: 3,
-        row_frac: 11,
+        fraction_x: 3,
+        fraction_y: 11,
         filter_x: Filter::Regular,
         filter_y: Filter::Smooth,
     };

@@ -1,18 +1,18 @@
 //! References that are tested once, with whatever owns them.
 
-use av1_c::{
-    BitDepth, Error, Filter, MotionBlock, MotionPlane, MotionWindow, MovedBlock, Place, Tested,
-    put_8tap_16, put_moved_16, put_tested_16,
-};
 use std::cell::Cell;
 use std::sync::Arc;
 use std::sync::atomic::{AtomicUsize, Ordering};
+use tilgwaren::{
+    BitDepth, Error, Filter, MotionBlock, MotionPlane, MotionWindow, MovedBlock, Place, Tested,
+    put_moved_16, put_tested_16,
+};
 
 const BLOCK: MotionBlock = MotionBlock {
     width: 4,
     height: 2,
-    col_frac: 5,
-    row_frac: 9,
+    fraction_x: 5,
+    fraction_y: 9,
     filter_x: Filter::Regular,
     filter_y: Filter::Smooth,
 };
@@ -33,8 +33,8 @@ fn reference() -> Vec<u16> {
 
 fn expected() -> [u16; 8] {
     let mut samples = [0; 8];
-    put_8tap_16(&mut samples, TO, &reference(), FROM, &BLOCK, BitDepth::Ten)
-        .expect("good arguments");
+    let tested = Tested::new(reference(), BitDepth::Ten).expect("no sample is past the depth");
+    put_tested_16(&mut samples, TO, &tested, FROM, &BLOCK).expect("good arguments");
     samples
 }
 

@@ -1,8 +1,8 @@
 //! Residuals, added to samples and rejected.
 
-use av1_c::{
+use tilgwaren::{
     BitDepth, Error, TransformBlock, TransformScratch, TxSize, TxType, inverse_transform_add_8,
-    inverse_transform_add_16, inverse_transform_add_clamped_16, inverse_transform_add_rav1e_16,
+    inverse_transform_add_16, inverse_transform_add_rav1e_16,
 };
 
 // A block of 4x4 by the cosine transform both ways.
@@ -60,21 +60,14 @@ fn rejected_blocks_leave_the_samples_alone() {
 }
 
 #[test]
-fn large_coefficients_are_rejected_or_clamped() {
+fn large_coefficients_are_rejected() {
     let scratch = &mut TransformScratch::new();
-    let (mut samples, mut expected) = ([512; 16], [512; 16]);
+    let mut samples = [512; 16];
     let mut coefficients = [0; 16];
-    coefficients[0] = 100;
-    coefficients[15] = i32::MIN;
+    coefficients[15] = (1 << 17) + 1;
     let (block, depth) = (block_at(0, 0), BitDepth::Ten);
     let added = inverse_transform_add_16(scratch, &coefficients, &mut samples, 4, block, depth);
     assert_eq!((added, samples), (Err(Error::BadCoefficient), [512; 16]));
-    let added =
-        inverse_transform_add_clamped_16(scratch, &coefficients, &mut samples, 4, block, depth);
-    assert_eq!(added, Ok(()));
-    coefficients[15] = -(1 << 17);
-    let added = inverse_transform_add_16(scratch, &coefficients, &mut expected, 4, block, depth);
-    assert_eq!((added, samples), (Ok(()), expected));
 }
 
 #[test]

@@ -3,7 +3,7 @@ use Rattle.std.proofs.Common.{◌≡◌, ◌≢◌, inl, inr, ℕ, ◌<◌, List
 use Rattle.std.specs.Prelude.{IfOk, IfErr, IsErrAnd}
 use Rattle.std.proofs.lemmas.Bool.{le-leb, lt-leb}
 use Rattle.av1_calls.specs.declared.status.TheConstants.{DONE, ROOM_TOO_SMALL}
-use Rattle.av1_c.specs.PartFaults.{part_status, part_told}
+use Rattle.av1_c.specs.PartFaults.{length_told, part_status, part_told}
 use Rattle.av1_c.specs.Parts.{IsPartCause, PartsOutcome, PutsPlanes, status_of_parts}
 use Rattle.av1_c.specs.Plans.{AreWritten}
 use Rattle.av1_c.specs.declared.part_fault.PartFault.{PartFault}
@@ -35,10 +35,10 @@ module _ (ComesTo : PartsOutcome → Type 0) (planes room : List ℕ) (comes : C
   put_written room' (Ok count) are = (planes, comes, are)
   put_written room' (Err fault) are = tt
 
-  pub put_small : (result : Result ℕ PartFault) → IfErr result (λ fault. (fault ≡ RoomTooSmall) × (length room < length planes)) →
+  pub put_small : (result : Result ℕ PartFault) → IfErr result (λ fault. (fault ≡ RoomTooSmall (length planes)) × (length room < length planes)) →
       IfErr result (IsPartCause ComesTo (length room))
   put_small (Ok count) small = tt
-  put_small (Err fault) (is, small) = subst (IsPartCause ComesTo (length room)) (sym is) (planes, comes, small)
+  put_small (Err fault) (is, small) = subst (IsPartCause ComesTo (length room)) (sym is) (planes, comes, small, refl)
 
 module _ (ComesTo : PartsOutcome → Type 0) (one : ComesToOne ComesTo) (room : List ℕ) (written : ℕ) (refusal : PartRefusal) where
   pub puts : (planes room' : List ℕ) (count : ℕ) → ComesTo (Ok planes) → AreWritten planes room room' count →
@@ -50,51 +50,60 @@ module _ (ComesTo : PartsOutcome → Type 0) (one : ComesToOne ComesTo) (room : 
     exactly = λ outcome other.
         inl (sym (ap by_length (le-leb (length planes) (length room) are.fits)) ∙ ap (status_of_parts (length room)) (one (Ok planes) outcome comes other));
     kept = λ undone. absurd (undone refl);
+    uncounted = λ undone _. absurd (undone refl);
     untold = λ _. refl;
   }
 
   -- a fault of the bytes is told
-  refuses_for : (refusal' : PartRefusal) (fault : PartFault) (status : ℕ) → ComesTo (Err fault) → status ≡ part_status fault →
-      refusal' ≡ part_told fault refusal
+  refuses_for : (written' : ℕ) (refusal' : PartRefusal) (fault : PartFault) (status : ℕ) → ComesTo (Err fault) → status ≡ part_status fault →
+      refusal' ≡ part_told fault refusal → written' ≡ written
       → part_status fault ≢ DONE → part_status fault ≢ ROOM_TOO_SMALL → part_status fault ≢ OUT_OF_MEMORY →
-      PutsPlanes ComesTo room room written written refusal refusal' status
-  refuses_for refusal' fault status comes is told undone roomy there = record {
+      PutsPlanes ComesTo room room written written' refusal refusal' status
+  refuses_for written' refusal' fault status comes is told same undone roomy there = record {
     done = λ e. absurd (undone (sym is ∙ e));
     small = λ e. absurd (roomy (sym is ∙ e));
     refused = λ _ _ _. (fault, comes, is, told);
     exactly = λ outcome other. inl (is ∙ ap (status_of_parts (length room)) (one (Err fault) outcome comes other));
-    kept = λ _. (refl, refl);
+    kept = λ _. refl;
+    uncounted = λ _ _. same;
     untold = λ h. elim h [
       | inl e ↦ absurd (undone (sym is ∙ e))
       | inr more ↦ elim more [ inl e ↦ absurd (roomy (sym is ∙ e)) | inr e ↦ absurd (there (sym is ∙ e)) ]
     ];
   }
 
-  pub refuses : (refusal' : PartRefusal) (fault : PartFault) (status : ℕ) → IsPartCause ComesTo (length room) fault → status ≡ part_status fault →
-      refusal' ≡ part_told fault refusal → PutsPlanes ComesTo room room written written refusal refusal' status
-  refuses refusal' Memory status cause is told = record {
+  pub refuses : (written' : ℕ) (refusal' : PartRefusal) (fault : PartFault) (status : ℕ) → IsPartCause ComesTo (length room) fault →
+      status ≡ part_status fault → refusal' ≡ part_told fault refusal → written' ≡ length_told fault written →
+      PutsPlanes ComesTo room room written written' refusal refusal' status
+  refuses written' refusal' Memory status cause is told same = record {
     done = λ e. absurd (omega (arith, is, e));
     small = λ e. absurd (omega (arith, is, e));
     refused = λ _ _ there. absurd (there is);
     exactly = λ outcome other. inr is;
-    kept = λ _. (refl, refl);
+    kept = λ _. refl;
+    uncounted = λ _ _. same;
     untold = λ _. told;
   }
-  refuses refusal' RoomTooSmall status (planes, comes, small) is told = record {
+  refuses written' refusal' (RoomTooSmall len) status (planes, comes, small, whole) is told same = record {
     done = λ e. absurd (omega (arith, is, e));
-    small = λ _. (planes, comes, small);
+    small = λ _. (planes, comes, small, same ∙ whole);
     refused = λ _ roomy _. absurd (roomy is);
     exactly = λ outcome other.
         inl (is ∙ sym (ap by_length (lt-leb (length planes) (length room) small))
         ∙ ap (status_of_parts (length room)) (one (Ok planes) outcome comes other));
-    kept = λ _. (refl, refl);
+    kept = λ _. refl;
+    uncounted = λ _ roomy. absurd (roomy is);
     untold = λ _. told;
   }
-  refuses refusal' TooLong status comes is told = refuses_for refusal' TooLong status comes is told (λ e. cc) (λ e. cc) (λ e. cc)
-  refuses refusal' (Malformed at) status comes is told = refuses_for refusal' (Malformed at) status comes is told (λ e. cc) (λ e. cc) (λ e. cc)
-  refuses refusal' (TooLongPart part) status comes is told = refuses_for refusal' (TooLongPart part) status comes is told (λ e. cc) (λ e. cc) (λ e. cc)
-  refuses refusal' (MalformedPart part at) status comes is told =
-      refuses_for refusal' (MalformedPart part at) status comes is told (λ e. cc) (λ e. cc) (λ e. cc)
-  refuses refusal' (InvalidPart part leaf kind) status comes is told =
-      refuses_for refusal' (InvalidPart part leaf kind) status comes is told (λ e. cc) (λ e. cc) (λ e. cc)
-  refuses refusal' (EmptySlot part) status comes is told = refuses_for refusal' (EmptySlot part) status comes is told (λ e. cc) (λ e. cc) (λ e. cc)
+  refuses written' refusal' TooLong status comes is told same =
+      refuses_for written' refusal' TooLong status comes is told same (λ e. cc) (λ e. cc) (λ e. cc)
+  refuses written' refusal' (Malformed at) status comes is told same =
+      refuses_for written' refusal' (Malformed at) status comes is told same (λ e. cc) (λ e. cc) (λ e. cc)
+  refuses written' refusal' (TooLongPart part) status comes is told same =
+      refuses_for written' refusal' (TooLongPart part) status comes is told same (λ e. cc) (λ e. cc) (λ e. cc)
+  refuses written' refusal' (MalformedPart part at) status comes is told same =
+      refuses_for written' refusal' (MalformedPart part at) status comes is told same (λ e. cc) (λ e. cc) (λ e. cc)
+  refuses written' refusal' (InvalidPart part leaf kind) status comes is told same =
+      refuses_for written' refusal' (InvalidPart part leaf kind) status comes is told same (λ e. cc) (λ e. cc) (λ e. cc)
+  refuses written' refusal' (EmptySlot part) status comes is told same =
+      refuses_for written' refusal' (EmptySlot part) status comes is told same (λ e. cc) (λ e. cc) (λ e. cc)

@@ -107,7 +107,7 @@ module _ (bytes : List ℕ) (room : List TraceDifference) (found : ℕ) (refusal
     kept = λ _. (refl, refl);
     untold = λ _. told;
   }
-  refuses_trace refusal' RoomTooSmall status cause is told = absurd cause
+  refuses_trace refusal' (RoomTooSmall len) status cause is told = absurd cause
   refuses_trace refusal' TooLong status comes is told = lists_none refusal' TooLong status comes is told (λ e. cc) (λ e. cc)
   refuses_trace refusal' (Malformed at) status comes is told = lists_none refusal' (Malformed at) status comes is told (λ e. cc) (λ e. cc)
   refuses_trace refusal' (TooLongPart part) status cause is told = absurd cause

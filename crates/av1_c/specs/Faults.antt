@@ -34,7 +34,7 @@ kind_number kinds.Coefficient = INVALID_COEFFICIENT
 -- the status of a call with this fault
 abbrev pub status_of : PlanCallFault → ℕ
 status_of Memory = OUT_OF_MEMORY
-status_of RoomTooSmall = ROOM_TOO_SMALL
+status_of (RoomTooSmall len) = ROOM_TOO_SMALL
 status_of TooLong = TOO_LONG
 status_of (Malformed at) = MALFORMED
 status_of (Invalid leaf kind) = INVALID
@@ -50,7 +50,12 @@ invalid_leaf leaf kind = record { at = 0; leaf = leaf; kind = kind_number kind }
 -- the refusal after a call with this fault, if it was `before` before the call
 abbrev pub told : PlanCallFault → Refusal → Refusal
 told Memory before = before
-told RoomTooSmall before = before
+told (RoomTooSmall len) before = before
 told TooLong before = before
 told (Malformed at) before = malformed_at at
 told (Invalid leaf kind) before = invalid_leaf leaf kind
+
+-- the length after a call with this fault, if it was `before` before the call
+abbrev pub plan_length_told : PlanCallFault → ℕ → ℕ
+plan_length_told (RoomTooSmall len) before = len
+plan_length_told _ before = before

@@ -2,7 +2,9 @@ pub mod Faults
 pub mod Plans
 pub mod Builders
 pub mod BuildFaults
+pub mod NextFields
 pub mod Leaves
+pub mod LeafFields
 pub mod Gathered
 pub mod PartFaults
 pub mod Parts

@@ -61,13 +61,18 @@ trace_fault trace.Memory = Memory
 -- the status of a call with this fault
 abbrev pub part_status : PartFault → ℕ
 part_status Memory = OUT_OF_MEMORY
-part_status RoomTooSmall = ROOM_TOO_SMALL
+part_status (RoomTooSmall len) = ROOM_TOO_SMALL
 part_status TooLong = TOO_LONG
 part_status (Malformed at) = MALFORMED
 part_status (TooLongPart part) = TOO_LONG_PART
 part_status (MalformedPart part at) = MALFORMED_PART
 part_status (InvalidPart part leaf kind) = INVALID_PART
 part_status (EmptySlot part) = EMPTY_SLOT
+
+-- the length after a call with this fault, if it was `before` before the call
+abbrev pub length_told : PartFault → ℕ → ℕ
+length_told (RoomTooSmall len) before = len
+length_told _ before = before
 
 -- the refusal for a bad field, of a part or of all bytes
 abbrev pub field_of : (part at : ℕ) → PartRefusal
@@ -76,7 +81,7 @@ field_of part at = record { part = part; at = at; leaf = 0; kind = 0 }
 -- the refusal after a call with this fault, if it was `before` before the call
 abbrev pub part_told : PartFault → PartRefusal → PartRefusal
 part_told Memory before = before
-part_told RoomTooSmall before = before
+part_told (RoomTooSmall len) before = before
 part_told TooLong before = before
 part_told (Malformed at) before = field_of 0 at
 part_told (TooLongPart part) before = field_of part 0

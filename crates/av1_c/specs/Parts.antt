@@ -26,8 +26,9 @@ pub record PutsPlanes (ComesTo : PartsOutcome → Type 0) (room room' : List ℕ
     (refusal refusal' : PartRefusal) (status : ℕ) : Type 0 where
   -- The front of the buffer is the planes, and the rest of the buffer is unchanged.
   pub done : status ≡ DONE → (planes : List ℕ) × ComesTo (Ok planes) × AreWritten planes room room' written'
-  -- The planes are longer than the buffer.
+  -- The planes are longer than the buffer, and the call gives their length.
   pub small : status ≡ ROOM_TOO_SMALL → (planes : List ℕ) × ComesTo (Ok planes) × (length room < length planes)
+      × (written' ≡ length planes)
   -- Each other status, except out of memory, says that the bytes are rejected, and why.
   pub refused : status ≢ DONE → status ≢ ROOM_TOO_SMALL → status ≢ OUT_OF_MEMORY
       → (fault : PartFault) × ComesTo (Err fault) × (status ≡ part_status fault) × (refusal' ≡ part_told fault refusal)
@@ -35,7 +36,8 @@ pub record PutsPlanes (ComesTo : PartsOutcome → Type 0) (room room' : List ℕ
   pub exactly : (outcome : PartsOutcome) → ComesTo outcome
       → (status ≡ status_of_parts (length room) outcome) ⊎ (status ≡ OUT_OF_MEMORY)
   -- What the call does not set is unchanged.
-  pub kept : status ≢ DONE → (room' ≡ room) × (written' ≡ written)
+  pub kept : status ≢ DONE → room' ≡ room
+  pub uncounted : status ≢ DONE → status ≢ ROOM_TOO_SMALL → written' ≡ written
   pub untold : (status ≡ DONE) ⊎ ((status ≡ ROOM_TOO_SMALL) ⊎ (status ≡ OUT_OF_MEMORY)) → refusal' ≡ refusal
 
 -- ---- a definition for private contracts: why nothing is written
@@ -43,7 +45,8 @@ pub record PutsPlanes (ComesTo : PartsOutcome → Type 0) (room room' : List ℕ
 -- the bytes, or a buffer of this length, have this fault
 abbrev pub IsPartCause : (PartsOutcome → Type 0) → ℕ → PartFault → Type 0
 IsPartCause ComesTo room Memory = ⊤
-IsPartCause ComesTo room RoomTooSmall = (planes : List ℕ) × ComesTo (Ok planes) × (room < length planes)
+IsPartCause ComesTo room (RoomTooSmall len) =
+    (planes : List ℕ) × ComesTo (Ok planes) × (room < length planes) × (len ≡ length planes)
 IsPartCause ComesTo room TooLong = ComesTo (Err TooLong)
 IsPartCause ComesTo room (Malformed at) = ComesTo (Err (Malformed at))
 IsPartCause ComesTo room (TooLongPart part) = ComesTo (Err (TooLongPart part))

@@ -46,7 +46,8 @@ status_for room (Err errors.Memory) = OUT_OF_MEMORY
 -- the bytes, or a buffer of this length, have this fault
 abbrev pub IsCause : List ℕ → ℕ → PlanCallFault → Type 0
 IsCause bytes room Memory = length bytes ≤ max_plan_bytes
-IsCause bytes room RoomTooSmall = ComeToPlanes bytes (λ planes. room < length planes)
+IsCause bytes room (RoomTooSmall len) =
+    ComeToPlanes bytes (λ planes. (room < length planes) × (len ≡ length planes))
 IsCause bytes room TooLong = HasOutcome bytes (Err errors.TooLong)
 IsCause bytes room (Malformed at) = HasOutcome bytes (Err (errors.Malformed at))
 IsCause bytes room (Invalid leaf kind) = HasOutcome bytes (Err (errors.Invalid leaf kind))
@@ -54,15 +55,15 @@ IsCause bytes room (Invalid leaf kind) = HasOutcome bytes (Err (errors.Invalid l
 -- the header at the front of the bytes has this fault
 abbrev pub IsHeaderFault : List ℕ → PlanCallFault → Type 0
 IsHeaderFault bytes Memory = ⊥
-IsHeaderFault bytes RoomTooSmall = ⊥
+IsHeaderFault bytes (RoomTooSmall len) = ⊥
 IsHeaderFault bytes TooLong = HasOutcome bytes (Err errors.TooLong)
 IsHeaderFault bytes (Malformed at) = HasOutcome bytes (Err (errors.Malformed at))
 IsHeaderFault bytes (Invalid leaf kind) = ⊥
 
--- the write of `len` bytes to a buffer of this length has this fault
+-- the write of `count` bytes to a buffer of this length has this fault
 abbrev pub IsWritingFault : ℕ → ℕ → PlanCallFault → Type 0
-IsWritingFault len room Memory = ⊤
-IsWritingFault len room RoomTooSmall = room < len
-IsWritingFault len room TooLong = ⊥
-IsWritingFault len room (Malformed at) = ⊥
-IsWritingFault len room (Invalid leaf kind) = ⊥
+IsWritingFault count room Memory = ⊤
+IsWritingFault count room (RoomTooSmall len) = (room < count) × (len ≡ count)
+IsWritingFault count room TooLong = ⊥
+IsWritingFault count room (Malformed at) = ⊥
+IsWritingFault count room (Invalid leaf kind) = ⊥

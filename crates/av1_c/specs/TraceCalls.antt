@@ -68,7 +68,7 @@ pub record ListsDifferences (bytes : List ℕ) (room room' : List TraceDifferenc
 -- the bytes have this fault
 abbrev pub IsTraceCause : List ℕ → PartFault → Type 0
 IsTraceCause bytes Memory = ⊤
-IsTraceCause bytes RoomTooSmall = ⊥
+IsTraceCause bytes (RoomTooSmall len) = ⊥
 IsTraceCause bytes TooLong = TraceComesTo bytes (Err TooLong)
 IsTraceCause bytes (Malformed at) = TraceComesTo bytes (Err (Malformed at))
 IsTraceCause bytes (TooLongPart part) = ⊥

@@ -44,10 +44,10 @@ fn begin(header: &PlanHeader, builder: &mut Builder, room: &mut [u8]) -> Result<
 ///
 /// `DONE`: success. `NOT_ADMITTED`: a value of the header is not valid. `ROOM_TOO_SMALL`: the fields don't fit `room`.
 #[unsafe(no_mangle)]
-pub extern "C" fn av1_builder_begin(
-    header: &PlanHeader,
+pub extern "C" fn tilg_builder_begin(
     builder: &mut Builder,
     room: &mut [u8],
+    header: &PlanHeader,
 ) -> u32
     // The plan has exactly the fields of this header.
     ensures done { result ≡ DONE → Hold builder.new room.new room.old (begun (header_of header.now)) }
@@ -97,7 +97,7 @@ fn give_reference(
 /// or one of its samples is not below `1 << depth`. `TOO_LONG`: there would be more than 2^26 bytes. `ROOM_TOO_SMALL`:
 /// the bytes would not fit `room`. `BAD_STATE`: `builder` is not a valid builder over `room`.
 #[unsafe(no_mangle)]
-pub extern "C" fn av1_builder_reference(
+pub extern "C" fn tilg_builder_reference(
     builder: &mut Builder,
     room: &mut [u8],
     y: &[u16],
@@ -146,7 +146,7 @@ fn give_mark(builder: &mut Builder, room: &mut [u8], mark: u8) -> Result<(), Bui
 /// there would be more than 2^26 bytes. `ROOM_TOO_SMALL`: the bytes would not fit `room`. `BAD_STATE`: `builder` is not
 /// a valid builder over `room`.
 #[unsafe(no_mangle)]
-pub extern "C" fn av1_builder_mark(builder: &mut Builder, room: &mut [u8], mark: u8) -> u32
+pub extern "C" fn tilg_builder_mark(builder: &mut Builder, room: &mut [u8], mark: u8) -> u32
     // The call appends exactly this mark.
     ensures done { result ≡ DONE → Hold builder.new room.new room.old (with_mark (plan_of builder.old room.old) mark) }
     // The plan so far, the mark and the length of the buffer decide the status.
@@ -167,7 +167,7 @@ pub extern "C" fn av1_builder_mark(builder: &mut Builder, room: &mut [u8], mark:
 /// `DONE`: `len` has the length. `NOT_NOW`: the plan still needs a field. `BAD_STATE`: `builder` is not a valid builder
 /// over `room`. The call changes neither the builder nor the buffer.
 #[unsafe(no_mangle)]
-pub extern "C" fn av1_builder_finish(builder: &Builder, room: &[u8], len: &mut usize) -> u32
+pub extern "C" fn tilg_builder_finish(len: &mut usize, builder: &Builder, room: &[u8]) -> u32
     ensures done { result ≡ DONE → take len.new room.now ≡ (plan_of builder.now room.now).bytes }
     ensures within { result ≡ DONE → len.new ≤ length room.now }
     // The bytes are the text of the plan whose parts were given.

@@ -7,11 +7,13 @@ ghost use Rattle.av1_planwrite.specs.Building.{Tells, admits_leaf_fields, argume
 ghost use Rattle.av1_planwrite.specs.Given.{FitsKind};
 ghost use Rattle.av1_c.specs.BuildFaults.{answered, asked_status};
 ghost use Rattle.av1_c.specs.Builders.{Hold, is_builder, plan_of};
+ghost use Rattle.av1_c.specs.LeafFields.{field_told, leaf_carries};
 ghost use Rattle.av1_c.specs.Leaves.{are_numbers, fields_of, kind_of, numbers_refusal, uv_type_of};
 
 use crate::append_leaf::append_leaf;
 use crate::build_fault::{BuildFault, answer};
 use crate::builder::Builder;
+use crate::leaf_field::tell_field;
 use crate::leaf_numbers::{Coefficient, LeafNumbers};
 use av1_calls::DONE;
 use av1_planwrite::{BuildError, Part, Progress};
@@ -82,16 +84,17 @@ fn give_leaf(
 ///
 /// `DONE`: success. `NOT_NOW`: the plan needs no leaf next. `TOO_LONG`: there would be more than 2^26 bytes.
 /// `ROOM_TOO_SMALL`: the bytes would not fit `room`. `BAD_STATE`: `builder` is not a valid builder over `room`.
-/// `NOT_ADMITTED`: one of these:
+/// `NOT_ADMITTED`: `field` becomes the number of the first field that is not valid, and the reason is one of these:
 ///
 /// - A number is out of range, or is not valid in this leaf.
 /// - The leaf carries no chroma and chroma is given, or it carries chroma and none is given.
 /// - There are coefficients of U or V, and the leaf carries no chroma.
 /// - A plane has more than 65,535 coefficients.
 #[unsafe(no_mangle)]
-pub extern "C" fn av1_builder_leaf(
+pub extern "C" fn tilg_builder_leaf(
     builder: &mut Builder,
     room: &mut [u8],
+    field: &mut u32,
     leaf: &LeafNumbers,
     y: &[Coefficient],
     u: &[Coefficient],
@@ -108,6 +111,10 @@ pub extern "C" fn av1_builder_leaf(
         Tells (plan_of builder.new room.new) (plan_with_leaf p (asked_part (plan_of builder.old room.old)) (fields_of leaf.now y.now u.now v.now)) }
     // After each other status the builder and the buffer are unchanged.
     ensures kept { result ≢ DONE → (builder.new ≡ builder.old) × (room.new ≡ room.old) }
+    // `field` becomes the first bad field of a rejected leaf. The builder is then unchanged.
+    ensures field { field.new ≡ field_told result (leaf_carries builder.new (length room.new)) leaf.now field.old }
 {
-    answer(give_leaf(builder, room, leaf, y, u, v))
+    let status = answer(give_leaf(builder, room, leaf, y, u, v));
+    tell_field(field, status, builder, room.len(), leaf);
+    status
 }

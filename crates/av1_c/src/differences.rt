@@ -81,12 +81,12 @@ fn differences_of(alloc: Global, bytes: &[u8]) -> Result<Vec<Difference>, PartFa
 /// not valid; the bad field begins at byte `refusal.at` of the plan. `INVALID_PART`: leaf `refusal.leaf` of the plan is
 /// rejected for reason `refusal.kind`. `OUT_OF_MEMORY`: memory ran out.
 #[unsafe(no_mangle)]
-pub extern "C" fn av1_trace_differences(
+pub extern "C" fn tilg_trace_differences(
     alloc: Global,
-    bytes: &[u8],
     room: &mut [TraceDifference],
     found: &mut usize,
     refusal: &mut PartRefusal,
+    bytes: &[u8],
 ) -> u32
     ensures { ListsDifferences bytes.now room.old room.new found.old found.new refusal.old refusal.new result }
 {

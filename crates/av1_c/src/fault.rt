@@ -1,6 +1,6 @@
 //! Why a call on a plan fails, its status, and what the caller learns about the plan.
 ghost use Rattle.std.specs.Prelude.{◌≡◌};
-ghost use Rattle.av1_c.specs.Faults.{kind_number, invalid_fault, plan_fault, status_of, told};
+ghost use Rattle.av1_c.specs.Faults.{kind_number, invalid_fault, plan_fault, plan_length_told, status_of, told};
 ghost use Rattle.av1_c.specs.declared.fault.PlanCallFault.TheVariants as faults;
 
 use crate::status::{
@@ -16,8 +16,8 @@ use av1_plan::{Invalid, InvalidKind, PlanError};
 pub enum PlanCallFault {
     /// An allocation failed.
     Memory,
-    /// The buffer is shorter than the planes.
-    RoomTooSmall,
+    /// The buffer is shorter than the planes, which have `len` bytes.
+    RoomTooSmall { len: usize },
     /// There are more bytes than the longest plan has: 2^26.
     TooLong,
     /// The field at byte `at` is cut off, has a value that is not valid, or follows the end of the plan.
@@ -83,6 +83,18 @@ pub(crate) fn kind_number(kind: InvalidKind) -> u32
 }
 
 impl PlanCallFault {
+    /// `len` becomes the length of the planes if the buffer is too short for them. Otherwise it is unchanged.
+    pub fn tell_length(self, len: &mut usize)
+        ensures { len.new ≡ plan_length_told self len.old }
+    {
+        match self {
+            PlanCallFault::RoomTooSmall { len: wanted } => {
+                *len = wanted;
+            }
+            _ => {}
+        }
+    }
+
     /// The status of a call that fails for this reason. `refusal` becomes the bad field or leaf. It is unchanged if the
     /// plan is not malformed or invalid.
     pub fn tell(self, refusal: &mut Refusal) -> u32
@@ -91,7 +103,7 @@ impl PlanCallFault {
     {
         match self {
             PlanCallFault::Memory => OUT_OF_MEMORY,
-            PlanCallFault::RoomTooSmall => ROOM_TOO_SMALL,
+            PlanCallFault::RoomTooSmall { .. } => ROOM_TOO_SMALL,
             PlanCallFault::TooLong => TOO_LONG,
             PlanCallFault::Malformed { at } => {
                 *refusal = Refusal {

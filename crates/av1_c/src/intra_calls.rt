@@ -2,19 +2,17 @@
 //! `av1_calls` with the same name. Its documentation is there.
 ghost use Rattle.std.specs.Prelude.{false, true};
 ghost use Rattle.av1_blocks.specs.declared.predict.PredictionMode.TheVariants as modes;
-ghost use Rattle.av1_calls.specs.AngleSteps.{FindsStep};
 ghost use Rattle.av1_calls.specs.CflPads.{FindsChroma};
 ghost use Rattle.av1_calls.specs.IntraBlocks.{Predicts, PredictsBy};
 ghost use Rattle.av1_calls.specs.IntraEdges.{PreparesEdge};
 ghost use Rattle.av1_calls.specs.IntraPlanes.{PredictsInPlane};
 ghost use Rattle.av1_calls.specs.LumaBlocks.{GivesDifferences};
-ghost use Rattle.av1_calls.specs.SmoothNeighbours.{TellsSmooth};
 
-use av1_calls::{CflBlock, EdgeBlock, EdgePlane, IntraBlock, LumaLeafBlock, Neighbours};
+use av1_calls::{CflBlock, EdgeBlock, EdgePlane, IntraBlock, LumaLeafBlock};
 
 /// Predicts a block by its intra mode from the samples round it, at a depth of 8.
 #[unsafe(no_mangle)]
-pub extern "C" fn av1_predict_intra_8(
+pub extern "C" fn tilg_predict_intra_8(
     samples: &mut [u8],
     stride: usize,
     x: usize,
@@ -26,12 +24,12 @@ pub extern "C" fn av1_predict_intra_8(
 ) -> u32
     ensures { Predicts 8 (λ n. n) (λ n. n) block.now stride x y left.now corner above.now samples.old samples.new result }
 {
-    av1_calls::av1_predict_intra_8(samples, stride, x, y, block, left, corner, above)
+    av1_calls::tilg_predict_intra_8(samples, stride, x, y, block, left, corner, above)
 }
 
 /// Predicts a block by its intra mode, in samples of 16 bits.
 #[unsafe(no_mangle)]
-pub extern "C" fn av1_predict_intra_16(
+pub extern "C" fn tilg_predict_intra_16(
     samples: &mut [u16],
     stride: usize,
     x: usize,
@@ -43,12 +41,12 @@ pub extern "C" fn av1_predict_intra_16(
 ) -> u32
     ensures { Predicts 16 (λ n. n) (λ n. n) block.now stride x y left.now corner above.now samples.old samples.new result }
 {
-    av1_calls::av1_predict_intra_16(samples, stride, x, y, block, left, corner, above)
+    av1_calls::tilg_predict_intra_16(samples, stride, x, y, block, left, corner, above)
 }
 
 /// Predicts a block of chroma from luma, at a depth of 8.
 #[unsafe(no_mangle)]
-pub extern "C" fn av1_predict_cfl_8(
+pub extern "C" fn tilg_predict_cfl_8(
     samples: &mut [u8],
     stride: usize,
     x: usize,
@@ -61,12 +59,12 @@ pub extern "C" fn av1_predict_cfl_8(
 ) -> u32
     ensures { PredictsBy 8 (λ n. n) (λ n. n) block.now modes.UV_CFL_PRED stride x y left.now 0 above.now ac.now alpha samples.old samples.new result }
 {
-    av1_calls::av1_predict_cfl_8(samples, stride, x, y, block, left, above, ac, alpha)
+    av1_calls::tilg_predict_cfl_8(samples, stride, x, y, block, left, above, ac, alpha)
 }
 
 /// Predicts a block of chroma from luma, in samples of 16 bits.
 #[unsafe(no_mangle)]
-pub extern "C" fn av1_predict_cfl_16(
+pub extern "C" fn tilg_predict_cfl_16(
     samples: &mut [u16],
     stride: usize,
     x: usize,
@@ -79,12 +77,12 @@ pub extern "C" fn av1_predict_cfl_16(
 ) -> u32
     ensures { PredictsBy 16 (λ n. n) (λ n. n) block.now modes.UV_CFL_PRED stride x y left.now 0 above.now ac.now alpha samples.old samples.new result }
 {
-    av1_calls::av1_predict_cfl_16(samples, stride, x, y, block, left, above, ac, alpha)
+    av1_calls::tilg_predict_cfl_16(samples, stride, x, y, block, left, above, ac, alpha)
 }
 
 /// Prepares the edge of a transform for the mode that will predict it, at a depth of 8.
 #[unsafe(no_mangle)]
-pub extern "C" fn av1_intra_edge_8(
+pub extern "C" fn tilg_intra_edge_8(
     edge: &mut [u8],
     samples: &[u8],
     plane: &EdgePlane,
@@ -92,12 +90,12 @@ pub extern "C" fn av1_intra_edge_8(
 ) -> u32
     ensures { PreparesEdge 8 (λ n. n) plane.now block.now samples.now edge.old edge.new result }
 {
-    av1_calls::av1_intra_edge_8(edge, samples, plane, block)
+    av1_calls::tilg_intra_edge_8(edge, samples, plane, block)
 }
 
 /// Prepares the edge of a transform, from samples of 16 bits.
 #[unsafe(no_mangle)]
-pub extern "C" fn av1_intra_edge_16(
+pub extern "C" fn tilg_intra_edge_16(
     edge: &mut [u16],
     samples: &[u16],
     plane: &EdgePlane,
@@ -105,12 +103,12 @@ pub extern "C" fn av1_intra_edge_16(
 ) -> u32
     ensures { PreparesEdge 16 (λ n. n) plane.now block.now samples.now edge.old edge.new result }
 {
-    av1_calls::av1_intra_edge_16(edge, samples, plane, block)
+    av1_calls::tilg_intra_edge_16(edge, samples, plane, block)
 }
 
 /// Prepares the edge of a transform and predicts the transform from it in the samples of its plane, at a depth of 8.
 #[unsafe(no_mangle)]
-pub extern "C" fn av1_predict_in_plane_8(
+pub extern "C" fn tilg_predict_in_plane_8(
     samples: &mut [u8],
     plane: &EdgePlane,
     block: &EdgeBlock,
@@ -120,12 +118,12 @@ pub extern "C" fn av1_predict_in_plane_8(
 ) -> u32
     ensures { PredictsInPlane 8 plane.now block.now smooth_neighbour ac.now alpha samples.old samples.new result }
 {
-    av1_calls::av1_predict_in_plane_8(samples, plane, block, smooth_neighbour, ac, alpha)
+    av1_calls::tilg_predict_in_plane_8(samples, plane, block, smooth_neighbour, ac, alpha)
 }
 
 /// Prepares the edge of a transform and predicts the transform from it, in samples of 16 bits.
 #[unsafe(no_mangle)]
-pub extern "C" fn av1_predict_in_plane_16(
+pub extern "C" fn tilg_predict_in_plane_16(
     samples: &mut [u16],
     plane: &EdgePlane,
     block: &EdgeBlock,
@@ -135,12 +133,12 @@ pub extern "C" fn av1_predict_in_plane_16(
 ) -> u32
     ensures { PredictsInPlane 16 plane.now block.now smooth_neighbour ac.now alpha samples.old samples.new result }
 {
-    av1_calls::av1_predict_in_plane_16(samples, plane, block, smooth_neighbour, ac, alpha)
+    av1_calls::tilg_predict_in_plane_16(samples, plane, block, smooth_neighbour, ac, alpha)
 }
 
 /// Gives the differences of luma from its mean over a block of chroma, at a depth of 8.
 #[unsafe(no_mangle)]
-pub extern "C" fn av1_cfl_ac_8(
+pub extern "C" fn tilg_cfl_ac_8(
     ac: &mut [i16],
     luma: &[u8],
     stride: usize,
@@ -150,45 +148,29 @@ pub extern "C" fn av1_cfl_ac_8(
 ) -> u32
     ensures { GivesDifferences false 8 block.now stride x y luma.now ac.old ac.new result }
 {
-    av1_calls::av1_cfl_ac_8(ac, luma, stride, x, y, block)
+    av1_calls::tilg_cfl_ac_8(ac, luma, stride, x, y, block)
 }
 
 /// Gives the differences of luma from its mean, from samples of 16 bits.
 #[unsafe(no_mangle)]
-pub extern "C" fn av1_cfl_ac_16(
+pub extern "C" fn tilg_cfl_ac_16(
     ac: &mut [i16],
     luma: &[u16],
     stride: usize,
     x: usize,
     y: usize,
     block: &CflBlock,
-    bit_depth: usize,
+    bit_depth: u8,
 ) -> u32
     ensures { GivesDifferences true bit_depth block.now stride x y luma.now ac.old ac.new result }
 {
-    av1_calls::av1_cfl_ac_16(ac, luma, stride, x, y, block, bit_depth)
+    av1_calls::tilg_cfl_ac_16(ac, luma, stride, x, y, block, usize::from(bit_depth))
 }
 
 /// Finds the block of chroma that is predicted from a block's luma.
 #[unsafe(no_mangle)]
-pub extern "C" fn av1_cfl_block_of(block: &mut CflBlock, luma: &LumaLeafBlock) -> u32
+pub extern "C" fn tilg_cfl_block_of(block: &mut CflBlock, luma: &LumaLeafBlock) -> u32
     ensures { FindsChroma luma.now block.old block.new result }
 {
-    av1_calls::av1_cfl_block_of(block, luma)
-}
-
-/// Finds how many steps of 3 degrees a mode turns to an angle.
-#[unsafe(no_mangle)]
-pub extern "C" fn av1_angle_step(step: &mut i8, mode: u8, angle: usize) -> u32
-    ensures { FindsStep mode angle step.old step.new result }
-{
-    av1_calls::av1_angle_step(step, mode, angle)
-}
-
-/// Finds whether a neighbour of a block has a smooth mode.
-#[unsafe(no_mangle)]
-pub extern "C" fn av1_smooth_neighbour(smooth: &mut u8, neighbours: &Neighbours) -> u32
-    ensures { TellsSmooth neighbours.now smooth.old smooth.new result }
-{
-    av1_calls::av1_smooth_neighbour(smooth, neighbours)
+    av1_calls::tilg_cfl_block_of(block, luma)
 }

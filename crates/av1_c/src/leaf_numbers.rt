@@ -80,8 +80,8 @@ fn mode_of(number: u8) -> PredictionMode
     }
 }
 
-// The reference of a number. Each number past the last one gives `NONE_FRAME`, which no leaf may have.
-fn reference_of(number: u8) -> RefType
+/// The reference of a number. Each number past the last one gives `NONE_FRAME`, which no leaf may have.
+pub fn reference_of(number: u8) -> RefType
     ensures { result ≡ reference_of number }
 {
     match RefType::from_number(number) {

@@ -1,14 +1,14 @@
 //! Block reconstruction for C: the calls that the static library exports, over the caller's memory.
 //!
-//! - [`av1_planes_len`] gives the length of a plan's planes in bytes. [`av1_reconstruct_plan`] writes the planes to the
-//!   caller's buffer.
-//! - [`av1_reconstruct_tiles`] and [`av1_reconstruct_sequence`] write the planes of a grid of tiles and of a sequence.
-//!   [`av1_trace_differences`] lists where the planes of another encoder differ from their plan.
-//! - [`av1_builder_begin`] and the calls after it write a plan field by field to the caller's buffer. The caller keeps
+//! - [`tilg_planes_len`] gives the length of a plan's planes in bytes. [`tilg_reconstruct_plan`] writes the planes to
+//!   the caller's buffer.
+//! - [`tilg_reconstruct_tiles`] and [`tilg_reconstruct_sequence`] write the planes of a grid of tiles and of a
+//!   sequence. [`tilg_trace_differences`] lists where the planes of another encoder differ from their plan.
+//! - [`tilg_builder_begin`] and the calls after it write a plan field by field to the caller's buffer. The caller keeps
 //!   a [`Builder`] between the calls. These calls do not allocate.
-//! - The calls on one block (`src/transform_calls.rt`, `src/motion_calls.rt`, `src/intra_calls.rt`) and on rows of
-//!   samples (`src/row_calls.rt`) are those of `av1_calls`. They do not allocate either.
-//! - [`av1_c_version`] gives the version of the library that is linked.
+//! - The calls on one block (`src/transform_calls.rt`, `src/motion_calls.rt`, `src/intra_calls.rt`) are those of
+//!   `av1_calls`. They do not allocate either.
+//! - [`tilg_version_0_4`] gives the version of the library that is linked.
 //!
 //! Each call tests all of its arguments and returns a status of `src/status.rt` or of `av1_calls`. A test can't check
 //! pointers. So the caller has to ensure two things:
@@ -39,11 +39,13 @@ mod appending;
 mod build_calls;
 mod build_fault;
 mod build_leaf;
+mod build_next;
 mod builder;
 mod differences;
 mod fault;
 mod gathered;
 mod intra_calls;
+mod leaf_field;
 mod leaf_numbers;
 mod motion_calls;
 mod part_fault;
@@ -51,7 +53,6 @@ mod part_planes;
 mod plan_header;
 mod planes_length;
 mod reconstruct;
-mod row_calls;
 mod sequence;
 mod status;
 mod tiles;
@@ -59,37 +60,38 @@ mod transform_calls;
 mod version;
 
 pub use build_calls::{
-    av1_builder_begin, av1_builder_finish, av1_builder_mark, av1_builder_reference,
+    tilg_builder_begin, tilg_builder_finish, tilg_builder_mark, tilg_builder_reference,
 };
-pub use build_leaf::av1_builder_leaf;
+pub use build_leaf::tilg_builder_leaf;
+pub use build_next::{NextField, tilg_builder_next};
 pub use builder::{Builder, BuilderPart};
-pub use differences::{TraceDifference, av1_trace_differences};
+pub use differences::{TraceDifference, tilg_trace_differences};
 pub use fault::Refusal;
 pub use intra_calls::{
-    av1_angle_step, av1_cfl_ac_8, av1_cfl_ac_16, av1_cfl_block_of, av1_intra_edge_8,
-    av1_intra_edge_16, av1_predict_cfl_8, av1_predict_cfl_16, av1_predict_in_plane_8,
-    av1_predict_in_plane_16, av1_predict_intra_8, av1_predict_intra_16, av1_smooth_neighbour,
+    tilg_cfl_ac_8, tilg_cfl_ac_16, tilg_cfl_block_of, tilg_intra_edge_8, tilg_intra_edge_16,
+    tilg_predict_cfl_8, tilg_predict_cfl_16, tilg_predict_in_plane_8, tilg_predict_in_plane_16,
+    tilg_predict_intra_8, tilg_predict_intra_16,
 };
 pub use leaf_numbers::{Coefficient, LeafMotion, LeafNumbers};
 pub use motion_calls::{
-    av1_mc_avg_8, av1_mc_avg_16, av1_motion_place, av1_prep_8tap_8, av1_prep_8tap_16,
-    av1_prep_moved_8, av1_prep_moved_16, av1_prep_tested_16, av1_put_8tap_8, av1_put_8tap_16,
-    av1_put_moved_8, av1_put_moved_16, av1_put_tested_16, av1_test_samples_16,
+    tilg_mc_avg_8, tilg_mc_avg_16, tilg_prep_8tap_8, tilg_prep_moved_8, tilg_prep_moved_16,
+    tilg_prep_tested_16, tilg_put_8tap_8, tilg_put_moved_8, tilg_put_moved_16, tilg_put_tested_16,
+    tilg_test_samples_16,
 };
 pub use part_fault::PartRefusal;
 pub use plan_header::PlanHeader;
-pub use planes_length::av1_planes_len;
-pub use reconstruct::av1_reconstruct_plan;
-pub use row_calls::{av1_load_rows_8, av1_load_rows_16, av1_store_rows_8, av1_store_rows_16};
-pub use sequence::av1_reconstruct_sequence;
+pub use planes_length::tilg_planes_len;
+pub use reconstruct::tilg_reconstruct_plan;
+pub use sequence::tilg_reconstruct_sequence;
 pub use status::{
     BAD_STATE, EMPTY_SLOT, INVALID, INVALID_BLOCK_SIZE, INVALID_COEFFICIENT, INVALID_MODE,
     INVALID_PART, INVALID_TRANSFORM, INVALID_VECTOR, MALFORMED, MALFORMED_PART, MISSING_REFERENCE,
-    NOT_ADMITTED, NOT_NOW, OUT_OF_MEMORY, TOO_LONG, TOO_LONG_PART,
+    NEXT_LEAF, NEXT_MARK, NEXT_NOTHING, NEXT_REFERENCE, NOT_ADMITTED, NOT_NOW, OUT_OF_MEMORY,
+    TOO_LONG, TOO_LONG_PART,
 };
-pub use tiles::av1_reconstruct_tiles;
+pub use tiles::tilg_reconstruct_tiles;
 pub use transform_calls::{
-    av1_inverse_transform_add_8, av1_inverse_transform_add_16,
-    av1_inverse_transform_add_clamped_16, av1_inverse_transform_add_rav1e_16,
+    tilg_inverse_transform_add_8, tilg_inverse_transform_add_16,
+    tilg_inverse_transform_add_rav1e_16,
 };
-pub use version::av1_c_version;
+pub use version::tilg_version_0_4;

@@ -1,30 +1,16 @@
 //! Prediction from references for C. Each call is the call of `av1_calls` with the same name. Its documentation is
 //! there.
-ghost use Rattle.std.specs.Prelude.{◌+◌, false, true, length};
-ghost use Rattle.av1_calls.specs.MotionPlaces.{FindsPlace};
-ghost use Rattle.av1_calls.specs.Motions.{Averages, Prepares, Puts, place, source_at};
+ghost use Rattle.std.specs.Prelude.{false, true, length};
+ghost use Rattle.av1_calls.specs.Motions.{Averages, IsReadWithin, Prepares, Puts, place};
 ghost use Rattle.av1_calls.specs.MovedBlocks.{AreMovedWithin, PreparesMoved, PutsMoved};
 ghost use Rattle.av1_calls.specs.Samples.{rectangle_of};
 ghost use Rattle.av1_calls.specs.TestedSamples.{TestsSamples};
-ghost use Rattle.av1_inter.specs.Places.{AreWithinDepth};
 
-use av1_calls::{MotionBlock, MotionPlane, MovedBlock, MovedPlace};
-
-/// Finds where a block that a vector moves is read in its reference.
-#[unsafe(no_mangle)]
-pub extern "C" fn av1_motion_place(
-    place: &mut MovedPlace,
-    plane: &MotionPlane,
-    block: &MovedBlock,
-) -> u32
-    ensures { FindsPlace plane.now block.now place.old place.new result }
-{
-    av1_calls::av1_motion_place(place, plane, block)
-}
+use av1_calls::{MotionBlock, MotionPlane, MovedBlock};
 
 /// Predicts a block from a reference, at a depth of 8.
 #[unsafe(no_mangle)]
-pub extern "C" fn av1_put_8tap_8(
+pub extern "C" fn tilg_put_8tap_8(
     dst: &mut [u8],
     dst_stride: usize,
     dst_x: usize,
@@ -37,35 +23,14 @@ pub extern "C" fn av1_put_8tap_8(
 ) -> u32
     ensures { Puts false 8 (place dst_stride dst_x dst_y) (place src_stride src_x src_y) block.now src.now dst.old dst.new result }
 {
-    av1_calls::av1_put_8tap_8(
+    av1_calls::tilg_put_8tap_8(
         dst, dst_stride, dst_x, dst_y, src, src_stride, src_x, src_y, block,
-    )
-}
-
-/// Predicts a block from a reference, in samples of 16 bits.
-#[unsafe(no_mangle)]
-pub extern "C" fn av1_put_8tap_16(
-    dst: &mut [u16],
-    dst_stride: usize,
-    dst_x: usize,
-    dst_y: usize,
-    src: &[u16],
-    src_stride: usize,
-    src_x: usize,
-    src_y: usize,
-    block: &MotionBlock,
-    bit_depth: usize,
-) -> u32
-    ensures { Puts true bit_depth (place dst_stride dst_x dst_y) (place src_stride src_x src_y) block.now src.now dst.old dst.new result }
-{
-    av1_calls::av1_put_8tap_16(
-        dst, dst_stride, dst_x, dst_y, src, src_stride, src_x, src_y, block, bit_depth,
     )
 }
 
 /// Prepares a block of a reference for the average with another block, at a depth of 8.
 #[unsafe(no_mangle)]
-pub extern "C" fn av1_prep_8tap_8(
+pub extern "C" fn tilg_prep_8tap_8(
     values: &mut [i16],
     src: &[u8],
     src_stride: usize,
@@ -75,28 +40,12 @@ pub extern "C" fn av1_prep_8tap_8(
 ) -> u32
     ensures { Prepares false 8 (place src_stride src_x src_y) block.now src.now values.old values.new result }
 {
-    av1_calls::av1_prep_8tap_8(values, src, src_stride, src_x, src_y, block)
-}
-
-/// Prepares a block of a reference for the average with another block, from samples of 16 bits.
-#[unsafe(no_mangle)]
-pub extern "C" fn av1_prep_8tap_16(
-    values: &mut [i16],
-    src: &[u16],
-    src_stride: usize,
-    src_x: usize,
-    src_y: usize,
-    block: &MotionBlock,
-    bit_depth: usize,
-) -> u32
-    ensures { Prepares true bit_depth (place src_stride src_x src_y) block.now src.now values.old values.new result }
-{
-    av1_calls::av1_prep_8tap_16(values, src, src_stride, src_x, src_y, block, bit_depth)
+    av1_calls::tilg_prep_8tap_8(values, src, src_stride, src_x, src_y, block)
 }
 
 /// Averages two prepared blocks, at a depth of 8.
 #[unsafe(no_mangle)]
-pub extern "C" fn av1_mc_avg_8(
+pub extern "C" fn tilg_mc_avg_8(
     samples: &mut [u8],
     stride: usize,
     x: usize,
@@ -108,12 +57,12 @@ pub extern "C" fn av1_mc_avg_8(
 ) -> u32
     ensures { Averages false 8 (place stride x y) width height first.now second.now samples.old samples.new result }
 {
-    av1_calls::av1_mc_avg_8(samples, stride, x, y, width, height, first, second)
+    av1_calls::tilg_mc_avg_8(samples, stride, x, y, width, height, first, second)
 }
 
 /// Averages two prepared blocks, in samples of 16 bits.
 #[unsafe(no_mangle)]
-pub extern "C" fn av1_mc_avg_16(
+pub extern "C" fn tilg_mc_avg_16(
     samples: &mut [u16],
     stride: usize,
     x: usize,
@@ -122,103 +71,119 @@ pub extern "C" fn av1_mc_avg_16(
     height: usize,
     first: &[i16],
     second: &[i16],
-    bit_depth: usize,
+    bit_depth: u8,
 ) -> u32
     ensures { Averages true bit_depth (place stride x y) width height first.now second.now samples.old samples.new result }
 {
-    av1_calls::av1_mc_avg_16(
-        samples, stride, x, y, width, height, first, second, bit_depth,
+    av1_calls::tilg_mc_avg_16(
+        samples,
+        stride,
+        x,
+        y,
+        width,
+        height,
+        first,
+        second,
+        usize::from(bit_depth),
     )
 }
 
 /// Predicts a block that a vector moves, from a plane without margins, at a depth of 8.
 #[unsafe(no_mangle)]
-pub extern "C" fn av1_put_moved_8(
+pub extern "C" fn tilg_put_moved_8(
     dst: &mut [u8],
     dst_stride: usize,
     dst_x: usize,
     dst_y: usize,
+    window: &mut [u8],
     src: &[u8],
     plane: &MotionPlane,
     block: &MovedBlock,
-    window: &mut [u8],
 ) -> u32
     ensures { PutsMoved false 8 (place dst_stride dst_x dst_y) plane.now block.now (length window.old) src.now dst.old dst.new result }
 {
-    av1_calls::av1_put_moved_8(dst, dst_stride, dst_x, dst_y, src, plane, block, window)
+    av1_calls::tilg_put_moved_8(dst, dst_stride, dst_x, dst_y, src, plane, block, window)
 }
 
 /// Predicts a block that a vector moves, in samples of 16 bits. No sample that is read may be past the depth.
 #[unsafe(no_mangle)]
-pub extern "C" fn av1_put_moved_16(
+pub extern "C" fn tilg_put_moved_16(
     dst: &mut [u16],
     dst_stride: usize,
     dst_x: usize,
     dst_y: usize,
+    window: &mut [u16],
     src: &[u16],
     plane: &MotionPlane,
     block: &MovedBlock,
-    window: &mut [u16],
-    bit_depth: usize,
+    bit_depth: u8,
 ) -> u32
     requires { AreMovedWithin bit_depth plane.now block.now src.now }
     ensures { PutsMoved true bit_depth (place dst_stride dst_x dst_y) plane.now block.now (length window.old) src.now dst.old dst.new result }
 {
-    av1_calls::av1_put_moved_16(
-        dst, dst_stride, dst_x, dst_y, src, plane, block, window, bit_depth,
+    av1_calls::tilg_put_moved_16(
+        dst,
+        dst_stride,
+        dst_x,
+        dst_y,
+        src,
+        plane,
+        block,
+        window,
+        usize::from(bit_depth),
     )
 }
 
 /// Prepares a block that a vector moves for the average with another block, from a plane without margins, at a depth of
 /// 8.
 #[unsafe(no_mangle)]
-pub extern "C" fn av1_prep_moved_8(
+pub extern "C" fn tilg_prep_moved_8(
     values: &mut [i16],
+    window: &mut [u8],
     src: &[u8],
     plane: &MotionPlane,
     block: &MovedBlock,
-    window: &mut [u8],
 ) -> u32
     ensures { PreparesMoved false 8 plane.now block.now (length window.old) src.now values.old values.new result }
 {
-    av1_calls::av1_prep_moved_8(values, src, plane, block, window)
+    av1_calls::tilg_prep_moved_8(values, src, plane, block, window)
 }
 
 /// Prepares a block that a vector moves, from samples of 16 bits. No sample that is read may be past the depth.
 #[unsafe(no_mangle)]
-pub extern "C" fn av1_prep_moved_16(
+pub extern "C" fn tilg_prep_moved_16(
     values: &mut [i16],
+    window: &mut [u16],
     src: &[u16],
     plane: &MotionPlane,
     block: &MovedBlock,
-    window: &mut [u16],
-    bit_depth: usize,
+    bit_depth: u8,
 ) -> u32
     requires { AreMovedWithin bit_depth plane.now block.now src.now }
     ensures { PreparesMoved true bit_depth plane.now block.now (length window.old) src.now values.old values.new result }
 {
-    av1_calls::av1_prep_moved_16(values, src, plane, block, window, bit_depth)
+    av1_calls::tilg_prep_moved_16(values, src, plane, block, window, usize::from(bit_depth))
 }
 
 /// Tests that no sample of a rectangle is past a depth.
 #[unsafe(no_mangle)]
-pub extern "C" fn av1_test_samples_16(
+pub extern "C" fn tilg_test_samples_16(
     samples: &[u16],
     stride: usize,
     x: usize,
     y: usize,
     width: usize,
     height: usize,
-    bit_depth: usize,
+    bit_depth: u8,
 ) -> u32
     ensures { TestsSamples bit_depth stride (rectangle_of x y width height) samples.now result }
 {
-    av1_calls::av1_test_samples_16(samples, stride, x, y, width, height, bit_depth)
+    av1_calls::tilg_test_samples_16(samples, stride, x, y, width, height, usize::from(bit_depth))
 }
 
 /// Predicts a block from a reference of 16 bits without testing samples. No sample that is read may be past the depth.
 #[unsafe(no_mangle)]
-pub extern "C" fn av1_put_tested_16(
+pub extern "C" fn tilg_put_tested_16(
     dst: &mut [u16],
     dst_stride: usize,
     dst_x: usize,
@@ -228,29 +193,46 @@ pub extern "C" fn av1_put_tested_16(
     src_x: usize,
     src_y: usize,
     block: &MotionBlock,
-    bit_depth: usize,
+    bit_depth: u8,
 ) -> u32
-    requires { AreWithinDepth bit_depth (source_at (place src_stride src_x src_y) src.now) (block.now.width + 7) (block.now.height + 7) }
+    requires { IsReadWithin bit_depth (place src_stride src_x src_y) block.now src.now }
     ensures { Puts true bit_depth (place dst_stride dst_x dst_y) (place src_stride src_x src_y) block.now src.now dst.old dst.new result }
 {
-    av1_calls::av1_put_tested_16(
-        dst, dst_stride, dst_x, dst_y, src, src_stride, src_x, src_y, block, bit_depth,
+    av1_calls::tilg_put_tested_16(
+        dst,
+        dst_stride,
+        dst_x,
+        dst_y,
+        src,
+        src_stride,
+        src_x,
+        src_y,
+        block,
+        usize::from(bit_depth),
     )
 }
 
 /// Prepares a block of a reference of 16 bits without testing samples. No sample that is read may be past the depth.
 #[unsafe(no_mangle)]
-pub extern "C" fn av1_prep_tested_16(
+pub extern "C" fn tilg_prep_tested_16(
     values: &mut [i16],
     src: &[u16],
     src_stride: usize,
     src_x: usize,
     src_y: usize,
     block: &MotionBlock,
-    bit_depth: usize,
+    bit_depth: u8,
 ) -> u32
-    requires { AreWithinDepth bit_depth (source_at (place src_stride src_x src_y) src.now) (block.now.width + 7) (block.now.height + 7) }
+    requires { IsReadWithin bit_depth (place src_stride src_x src_y) block.now src.now }
     ensures { Prepares true bit_depth (place src_stride src_x src_y) block.now src.now values.old values.new result }
 {
-    av1_calls::av1_prep_tested_16(values, src, src_stride, src_x, src_y, block, bit_depth)
+    av1_calls::tilg_prep_tested_16(
+        values,
+        src,
+        src_stride,
+        src_x,
+        src_y,
+        block,
+        usize::from(bit_depth),
+    )
 }

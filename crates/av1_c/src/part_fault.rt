@@ -1,6 +1,6 @@
 //! Why a call on tiles, a sequence or a trace fails, its status, and what the caller learns about the bytes.
 ghost use Rattle.std.specs.Prelude.{◌≡◌};
-ghost use Rattle.av1_c.specs.PartFaults.{field_of, frame_fault, in_part, part_status, part_told, sequence_fault, tiles_fault, trace_fault};
+ghost use Rattle.av1_c.specs.PartFaults.{field_of, frame_fault, in_part, length_told, part_status, part_told, sequence_fault, tiles_fault, trace_fault};
 
 use crate::fault::kind_number;
 use crate::status::{
@@ -17,8 +17,10 @@ use av1_trace::{PlanFault, TraceError};
 pub enum PartFault {
     /// An allocation failed.
     Memory,
-    /// The buffer is shorter than the planes.
-    RoomTooSmall,
+    /// The buffer is shorter than the planes, which have `len` bytes.
+    RoomTooSmall {
+        len: usize,
+    },
     /// There are more bytes than the longest input that is read.
     TooLong,
     /// The field at byte `at` is cut off, has a value that is not valid, or follows the end. A part is one field.
@@ -144,6 +146,18 @@ fn field_of(part: u32, at: u32) -> PartRefusal
 }
 
 impl PartFault {
+    /// `len` becomes the length of the planes if the buffer is too short for them. Otherwise it is unchanged.
+    pub fn tell_length(self, len: &mut usize)
+        ensures { len.new ≡ length_told self len.old }
+    {
+        match self {
+            PartFault::RoomTooSmall { len: wanted } => {
+                *len = wanted;
+            }
+            _ => {}
+        }
+    }
+
     /// The status of a call that fails for this reason. `refusal` says where the bytes are bad. It is unchanged if the
     /// bytes are not.
     pub fn tell(self, refusal: &mut PartRefusal) -> u32
@@ -152,7 +166,7 @@ impl PartFault {
     {
         match self {
             PartFault::Memory => OUT_OF_MEMORY,
-            PartFault::RoomTooSmall => ROOM_TOO_SMALL,
+            PartFault::RoomTooSmall { .. } => ROOM_TOO_SMALL,
             PartFault::TooLong => TOO_LONG,
             PartFault::Malformed { at } => {
                 *refusal = field_of(0, at);

@@ -12,12 +12,12 @@ use crate::part_fault::PartFault;
 /// `RoomTooSmall`.
 pub fn put_front(planes: &[u8], room: &mut [u8]) -> Result<usize, PartFault>
     ensures written { IfOk result (λ count. AreWritten planes.now room.old room.new count) }
-    ensures small { IfErr result (λ fault. (fault ≡ RoomTooSmall) × (length room.old < length planes.now)) }
+    ensures small { IfErr result (λ fault. (fault ≡ RoomTooSmall (length planes.now)) × (length room.old < length planes.now)) }
     ensures kept { OnErr result (room.new ≡ room.old) }
 {
     let len = planes.len();
     if room.len() < len {
-        return Err(PartFault::RoomTooSmall);
+        return Err(PartFault::RoomTooSmall { len });
     }
     room[..len].copy_from_slice(planes);
     Ok(len)

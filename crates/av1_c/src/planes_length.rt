@@ -37,13 +37,13 @@ fn wanted(bytes: &[u8]) -> Result<usize, PlanCallFault>
     Ok(planes_len(&header))
 }
 
-/// Gives the length in bytes of the planes that [`av1_reconstruct_plan`] writes. The call reads only the header at the
+/// Gives the length in bytes of the planes that [`tilg_reconstruct_plan`] writes. The call reads only the header at the
 /// plan's front, and does not allocate.
 ///
 /// `DONE`: `len` has the length. `TOO_LONG`: there are more than 2^26 bytes. `MALFORMED`: the header is not valid; its
 /// bad field begins at `refusal.at`.
 #[unsafe(no_mangle)]
-pub extern "C" fn av1_planes_len(bytes: &[u8], len: &mut usize, refusal: &mut Refusal) -> u32
+pub extern "C" fn tilg_planes_len(len: &mut usize, refusal: &mut Refusal, bytes: &[u8]) -> u32
     // The bytes begin with a header, and `len` is the length of its planes.
     ensures done { result ≡ DONE → (header : Header) × BeginWith bytes.now header × (len.new ≡ planes_len header) }
     // The call gives the length of the planes of every plan.

@@ -48,7 +48,7 @@ fn write_planes(alloc: Global, plan: &Plan, room: &mut [u8]) -> Result<usize, Pl
 {
     let len = planes_len(plan.header());
     if room.len() < len {
-        return Err(PlanCallFault::RoomTooSmall);
+        return Err(PlanCallFault::RoomTooSmall { len });
     }
     let mut sink = MemSink::new(alloc, len, usize::MAX, &[])?;
     match reconstruct_valid(alloc, plan, &mut sink) {
@@ -81,14 +81,15 @@ fn reconstruct_into(alloc: Global, bytes: &[u8], room: &mut [u8]) -> Result<usiz
 ///
 /// `DONE`: success. `TOO_LONG`: there are more than 2^26 bytes. `MALFORMED`: the bytes are not a valid plan; the bad
 /// field begins at `refusal.at`. `INVALID`: leaf `refusal.leaf` is rejected for reason `refusal.kind`.
-/// `ROOM_TOO_SMALL`: the planes are longer than `room`. `OUT_OF_MEMORY`: memory ran out.
+/// `ROOM_TOO_SMALL`: the planes are longer than `room`, and `written` becomes their length. `OUT_OF_MEMORY`: memory ran
+/// out.
 #[unsafe(no_mangle)]
-pub extern "C" fn av1_reconstruct_plan(
+pub extern "C" fn tilg_reconstruct_plan(
     alloc: Global,
-    bytes: &[u8],
     room: &mut [u8],
     written: &mut usize,
     refusal: &mut Refusal,
+    bytes: &[u8],
 ) -> u32
     // The bytes are a valid plan. The front of the buffer is its planes by the slow definition, and the rest of the
     // buffer is unchanged.
@@ -98,12 +99,13 @@ pub extern "C" fn av1_reconstruct_plan(
     ensures malformed { result ≡ MALFORMED → (at : ℕ) × HasOutcome bytes.now (Err (errors.Malformed at)) × (refusal.new ≡ malformed_at at) }
     ensures invalid { result ≡ INVALID →
         (leaf : ℕ) × ((kind : InvalidKind) × HasOutcome bytes.now (Err (errors.Invalid leaf kind)) × (refusal.new ≡ invalid_leaf leaf kind)) }
-    // The bytes are a valid plan, and its planes are longer than the buffer.
-    ensures small { result ≡ ROOM_TOO_SMALL → ComeToPlanes bytes.now (λ planes. length room.old < length planes) }
+    // The bytes are a valid plan, its planes are longer than the buffer, and the call gives their length.
+    ensures small { result ≡ ROOM_TOO_SMALL → ComeToPlanes bytes.now (λ planes. (length room.old < length planes) × (written.new ≡ length planes)) }
     // The bytes and the length of the buffer decide the status, unless memory runs out.
     ensures exactly { (outcome : Outcome) → HasOutcome bytes.now outcome → (result ≡ status_for (length room.old) outcome) ⊎ (result ≡ OUT_OF_MEMORY) }
     // What the call does not set is unchanged.
-    ensures kept { result ≢ DONE → (room.new ≡ room.old) × (written.new ≡ written.old) }
+    ensures kept { result ≢ DONE → room.new ≡ room.old }
+    ensures uncounted { result ≢ DONE → result ≢ ROOM_TOO_SMALL → written.new ≡ written.old }
     ensures untold { result ≢ MALFORMED → result ≢ INVALID → refusal.new ≡ refusal.old }
     ensures known { result ≤ INVALID }
 {
@@ -112,6 +114,9 @@ pub extern "C" fn av1_reconstruct_plan(
             *written = count;
             DONE
         }
-        Err(fault) => fault.tell(refusal),
+        Err(fault) => {
+            fault.tell_length(written);
+            fault.tell(refusal)
+        }
     }
 }

@@ -45,17 +45,17 @@ fn sequence_into(alloc: Global, bytes: &[u8], room: &mut [u8]) -> Result<usize, 
 /// Reconstructs the frames of a sequence, one after the other. `bytes` is the sequence. The call writes the visible
 /// planes of each shown frame to `room`, in order.
 ///
-/// The statuses are those of [`av1_reconstruct_tiles`], and a part is an entry of the sequence: a frame, or a slot that
-/// is shown again. `TOO_LONG_PART`: the plan of a frame with its references would have more than 2^26 bytes.
+/// The statuses are those of [`tilg_reconstruct_tiles`], and a part is an entry of the sequence: a frame, or a slot
+/// that is shown again. `TOO_LONG_PART`: the plan of a frame with its references would have more than 2^26 bytes.
 /// `EMPTY_SLOT`: an entry shows a slot that is empty. `refusal.part` is the number of the entry. If an entry is
 /// rejected, the call writes no planes of earlier entries either.
 #[unsafe(no_mangle)]
-pub extern "C" fn av1_reconstruct_sequence(
+pub extern "C" fn tilg_reconstruct_sequence(
     alloc: Global,
-    bytes: &[u8],
     room: &mut [u8],
     written: &mut usize,
     refusal: &mut PartRefusal,
+    bytes: &[u8],
 ) -> u32
     ensures { PutsPlanes (SequenceComesTo bytes.now) room.old room.new written.old written.new refusal.old refusal.new result }
 {
@@ -64,6 +64,9 @@ pub extern "C" fn av1_reconstruct_sequence(
             *written = count;
             DONE
         }
-        Err(fault) => fault.tell(refusal),
+        Err(fault) => {
+            fault.tell_length(written);
+            fault.tell(refusal)
+        }
     }
 }

@@ -51,3 +51,42 @@ pub const MISSING_REFERENCE: u32 = 5;
 
 /// A coefficient is out of order, out of its block or out of range.
 pub const INVALID_COEFFICIENT: u32 = 6;
+
+/// The plan needs nothing more.
+pub const NEXT_NOTHING: u8 = 0;
+
+/// The plan needs the planes of a slot next.
+pub const NEXT_REFERENCE: u8 = 1;
+
+/// The plan needs the mark of a node next.
+pub const NEXT_MARK: u8 = 2;
+
+/// The plan needs a leaf next.
+pub const NEXT_LEAF: u8 = 3;
+
+/// The size of a leaf's luma transforms has a number that does not exist.
+pub const FIELD_TX_SIZE: u32 = 1;
+
+/// The type of a leaf's luma transforms has a number that does not exist.
+pub const FIELD_TX_TYPE: u32 = 2;
+
+/// The type of a leaf's chroma transforms has a number that does not exist.
+pub const FIELD_CHROMA_TX_TYPE: u32 = 3;
+
+/// Chroma is given, but the leaf carries none, or it is not given, but the leaf carries it.
+pub const FIELD_HAS_CHROMA: u32 = 4;
+
+/// No mode has this number.
+pub const FIELD_MODE: u32 = 5;
+
+/// The mode of chroma is not a mode for chroma without references.
+pub const FIELD_CHROMA_MODE: u32 = 6;
+
+/// The first reference is not one of LAST to ALTREF.
+pub const FIELD_FIRST: u32 = 7;
+
+/// The second reference is not one of LAST to ALTREF.
+pub const FIELD_SECOND: u32 = 8;
+
+/// A plane has too many coefficients, or chroma has some that the leaf does not carry.
+pub const FIELD_COEFFICIENTS: u32 = 9;

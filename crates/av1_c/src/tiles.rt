@@ -48,14 +48,15 @@ fn tiles_into(alloc: Global, bytes: &[u8], room: &mut [u8]) -> Result<usize, Par
 /// `DONE`: success. `TOO_LONG`: there are more than 2^26 bytes. `MALFORMED`: the bytes are not a valid grid of tiles;
 /// the bad field begins at `refusal.at`. `MALFORMED_PART`: tile `refusal.part` is not valid; the bad field begins at
 /// byte `refusal.at` of its part. `INVALID_PART`: leaf `refusal.leaf` of tile `refusal.part` is rejected for reason
-/// `refusal.kind`. `ROOM_TOO_SMALL`: the planes are longer than `room`. `OUT_OF_MEMORY`: memory ran out.
+/// `refusal.kind`. `ROOM_TOO_SMALL`: the planes are longer than `room`, and `written` becomes
+/// their length. `OUT_OF_MEMORY`: memory ran out.
 #[unsafe(no_mangle)]
-pub extern "C" fn av1_reconstruct_tiles(
+pub extern "C" fn tilg_reconstruct_tiles(
     alloc: Global,
-    bytes: &[u8],
     room: &mut [u8],
     written: &mut usize,
     refusal: &mut PartRefusal,
+    bytes: &[u8],
 ) -> u32
     ensures { PutsPlanes (TilesComeTo bytes.now) room.old room.new written.old written.new refusal.old refusal.new result }
 {
@@ -64,6 +65,9 @@ pub extern "C" fn av1_reconstruct_tiles(
             *written = count;
             DONE
         }
-        Err(fault) => fault.tell(refusal),
+        Err(fault) => {
+            fault.tell_length(written);
+            fault.tell(refusal)
+        }
     }
 }

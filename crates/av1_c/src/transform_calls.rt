@@ -1,6 +1,6 @@
 //! Residuals of blocks for C. Each call is the call of `av1_calls` with the same name. Its documentation is there.
 ghost use Rattle.std.specs.Prelude.{false, true};
-ghost use Rattle.av1_calls.specs.Transforms.{AddsClamped, AddsResidue};
+ghost use Rattle.av1_calls.specs.Transforms.{AddsResidue};
 
 use av1_calls::TxRoom;
 use std::mem::size_of;
@@ -10,19 +10,19 @@ const _: () = prove!(size_of::<TxRoom>() == 24_576);
 
 /// Adds the residual of coefficients to the samples of a rectangle, at a depth of 8.
 #[unsafe(no_mangle)]
-pub extern "C" fn av1_inverse_transform_add_8(
-    scratch: &mut TxRoom,
-    coefficients: &[i16],
+pub extern "C" fn tilg_inverse_transform_add_8(
     samples: &mut [u8],
     stride: usize,
     x: usize,
     y: usize,
+    scratch: &mut TxRoom,
+    coefficients: &[i16],
     tx_size: u8,
     tx_type: u8,
 ) -> u32
     ensures { AddsResidue true false 8 tx_size tx_type stride x y coefficients.now samples.old samples.new result }
 {
-    av1_calls::av1_inverse_transform_add_8(
+    av1_calls::tilg_inverse_transform_add_8(
         scratch,
         coefficients,
         samples,
@@ -36,20 +36,20 @@ pub extern "C" fn av1_inverse_transform_add_8(
 
 /// Adds the residual of coefficients to samples of 16 bits, by AV1's rule.
 #[unsafe(no_mangle)]
-pub extern "C" fn av1_inverse_transform_add_16(
-    scratch: &mut TxRoom,
-    coefficients: &[i32],
+pub extern "C" fn tilg_inverse_transform_add_16(
     samples: &mut [u16],
     stride: usize,
     x: usize,
     y: usize,
+    scratch: &mut TxRoom,
+    coefficients: &[i32],
     tx_size: u8,
     tx_type: u8,
-    bit_depth: usize,
+    bit_depth: u8,
 ) -> u32
     ensures { AddsResidue true true bit_depth tx_size tx_type stride x y coefficients.now samples.old samples.new result }
 {
-    av1_calls::av1_inverse_transform_add_16(
+    av1_calls::tilg_inverse_transform_add_16(
         scratch,
         coefficients,
         samples,
@@ -58,26 +58,26 @@ pub extern "C" fn av1_inverse_transform_add_16(
         y,
         tx_size,
         tx_type,
-        bit_depth,
+        usize::from(bit_depth),
     )
 }
 
 /// Adds the residual of coefficients to samples of 16 bits, by rav1e's rule.
 #[unsafe(no_mangle)]
-pub extern "C" fn av1_inverse_transform_add_rav1e_16(
-    scratch: &mut TxRoom,
-    coefficients: &[i32],
+pub extern "C" fn tilg_inverse_transform_add_rav1e_16(
     samples: &mut [u16],
     stride: usize,
     x: usize,
     y: usize,
+    scratch: &mut TxRoom,
+    coefficients: &[i32],
     tx_size: u8,
     tx_type: u8,
-    bit_depth: usize,
+    bit_depth: u8,
 ) -> u32
     ensures { AddsResidue false true bit_depth tx_size tx_type stride x y coefficients.now samples.old samples.new result }
 {
-    av1_calls::av1_inverse_transform_add_rav1e_16(
+    av1_calls::tilg_inverse_transform_add_rav1e_16(
         scratch,
         coefficients,
         samples,
@@ -86,34 +86,6 @@ pub extern "C" fn av1_inverse_transform_add_rav1e_16(
         y,
         tx_size,
         tx_type,
-        bit_depth,
-    )
-}
-
-/// Adds the residual of coefficients to samples of 16 bits, after it clamps the coefficients to the depth.
-#[unsafe(no_mangle)]
-pub extern "C" fn av1_inverse_transform_add_clamped_16(
-    scratch: &mut TxRoom,
-    coefficients: &[i32],
-    samples: &mut [u16],
-    stride: usize,
-    x: usize,
-    y: usize,
-    tx_size: u8,
-    tx_type: u8,
-    bit_depth: usize,
-) -> u32
-    ensures { AddsClamped bit_depth tx_size tx_type stride x y coefficients.now samples.old samples.new result }
-{
-    av1_calls::av1_inverse_transform_add_clamped_16(
-        scratch,
-        coefficients,
-        samples,
-        stride,
-        x,
-        y,
-        tx_size,
-        tx_type,
-        bit_depth,
+        usize::from(bit_depth),
     )
 }

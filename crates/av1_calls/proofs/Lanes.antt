@@ -6,8 +6,10 @@ use Rattle.std.proofs.lemmas.Simd.{length-zip2, get_or-zip2, get_or-sel_l, get_o
 use lib.Lanes.{zip2, sel_l, mask_l, top, chunk}
 use Rattle.av1_frame.specs.Areas.{AreRows}
 use Rattle.av1_frame.specs.Samples.{row_start}
+use Rattle.av1_frame.proofs.Fits.{rows_le}
+use Rattle.av1_frame.proofs.Paint.{row_within}
 use Rattle.av1_frame.specs.declared.plane_region.StoredArea.{StoredArea}
-use Rattle.av1_calls.specs.Samples.{TakesIn, TakesInRows, area_sample}
+use Rattle.av1_calls.specs.Samples.{AreHeld, TakesIn, TakesInRows, area_sample}
 
 -- what the comparison of two lanes gives
 abbrev pub less : ℕ → ℕ → ℕ
@@ -95,24 +97,32 @@ row_on stride area samples rows first row = record {
   reached = λ b some all. row.reached b (first.reached b some (λ r c h k. all r c (omega arith) k)) (λ c k. all rows c (omega arith) k);
 }
 
--- a row of a rectangle that lies in n samples ends in them, and the next one begins before 2 ^ 64
-pub row_ends : (stride n r : ℕ) (area : StoredArea) → AreRows stride area n → r < area.height → row_start stride area r + area.width ≤ n
-row_ends stride n r area rows h =
-    let lines = rows.rows in
-    let columns = rows.columns in
-    let next : (area.y + r + 1) * stride ≤ (area.y + area.height) * stride = grind (arith, h) in
-    grind (arith, lines, columns, next)
+-- each row of a rectangle of whole rows ends in the samples
+pub rows_held : (stride n : ℕ) (area : StoredArea) → AreRows stride area n → AreHeld stride area n
+rows_held stride n area rows = record {
+  some = rows.some;
+  columns = rows.columns;
+  rows = λ r h. row_within stride area n r rows h;
+  few = rows.few;
+}
 
-pub next_begins : (stride n r : ℕ) (area : StoredArea) → AreRows stride area n → r < area.height → row_start stride area r + stride < 2 ^ 64
-next_begins stride n r area rows h =
-    let lines = rows.rows in
-    let columns = rows.columns in
-    let few = rows.few in
-    let next : (area.y + r + 1) * stride ≤ (area.y + area.height) * stride = grind (arith, h) in
-    grind (arith, lines, columns, few, next)
+-- so the number of a row is small
+several : (a b : ℕ) → 0 < b → a ≤ a * b
+several a b h = grind arith
 
-pub next_row : (stride r : ℕ) (area : StoredArea) → row_start stride area r + stride ≡ row_start stride area (r + 1)
-next_row stride r area = grind arith
+pub row_small : (stride n r : ℕ) (area : StoredArea) → AreHeld stride area n → r < area.height → area.y + r < 2 ^ 64
+row_small stride n r area held h =
+    let ends = held.rows r h in let m = several (area.y + r) stride held.some in omega (arith, ends, m, held.few)
+
+-- they do where the last one does
+pub last_holds : (stride n last : ℕ) (area : StoredArea) → 0 < stride → area.x + area.width ≤ stride → n < 2 ^ 63 → last + 1 ≡ area.y + area.height →
+    last * stride + (area.x + area.width) ≤ n → AreHeld stride area n
+last_holds stride n last area some columns few is ends = record {
+  some = some;
+  columns = columns;
+  rows = λ r h. (let m = rows_le (area.y + r) last stride _ refl (omega (arith, is, h)) in omega (arith, ends, m));
+  few = few;
+}
 
 -- the mask of lanes that reach a bound, where none does
 pub none_reaches : (bound : ℕ) (lanes : List ℕ) → ((i : ℕ) → i < length lanes → get_or lanes i 0 < bound) →

@@ -11,3 +11,4 @@ pub mod MotionPlaces
 pub mod PlaneCalls
 pub mod MovedBlocks
 pub mod StoredRows
+pub mod Windows

@@ -9,10 +9,9 @@ use Rattle.av1_frame.specs.Samples.{paint}
 use Rattle.av1_frame.specs.declared.plane_region.StoredArea.{StoredArea}
 use Rattle.av1_inter.specs.Filters.{filter_of, mode_along}
 use Rattle.av1_inter.specs.Motion.{averaged, entry, prepared, single}
-use Rattle.av1_inter.specs.Places.{AreWithinDepth}
-use Rattle.av1_frame.specs.Planes.{bare_config}
-use Rattle.av1_frame.specs.declared.plane.PlaneConfig.{PlaneConfig}
+use Rattle.av1_inter.specs.Places.{AreWithinDepth, read_before, read_beside}
 use Rattle.av1_calls.specs.Arguments.{IfWide, OnlyWide, filter_mode}
+use Rattle.av1_calls.specs.Samples.{AreHeld, area_sample}
 use Rattle.av1_calls.specs.declared.argument.BadArgument.{BadArgument}
 use Rattle.av1_calls.specs.declared.argument.BadArgument.TheVariants as bad
 use Rattle.av1_calls.specs.declared.motion.MotionBlock.{MotionBlock}
@@ -30,13 +29,28 @@ place stride x y = record { stride = stride; x = x; y = y }
 abbrev pub rectangle_at : Place → (width height : ℕ) → StoredArea
 rectangle_at at width height = record { x = at.x; y = at.y; width = width; height = height }
 
--- what is read for a block at a place: 3 columns and rows before the block, and 4 after it
+-- What is read for a block at a place. If a fraction is 0, these are only the block's columns (or rows). Else 3 more
+-- before the block and 4 more after it are read.
 abbrev pub read_for : Place → MotionBlock → StoredArea
-read_for from block = record { x = from.x - 3; y = from.y - 3; width = block.width + 7; height = block.height + 7 }
+read_for from block = record {
+  x = from.x - read_before block.col_frac;
+  y = from.y - read_before block.row_frac;
+  width = block.width + read_beside block.col_frac;
+  height = block.height + read_beside block.row_frac;
+}
 
--- the sample at column c and row r of what is read
+-- the sample at column x and row y of what is read
+abbrev pub read_at : Place → MotionBlock → List ℕ → (x y : ℕ) → ℕ
+read_at from block samples x y = area_sample from.stride (read_for from block) samples y x
+
+-- the sample at column c and row r of those round the block, counted from 3 columns left of it and 3 rows above
 abbrev pub source_at : Place → List ℕ → (c r : ℕ) → ℕ
-source_at from samples c r = slice_index samples ((from.y - 3 + r) * from.stride + (from.x - 3) + c)
+source_at from samples c r = slice_index samples ((from.y + r - 3) * from.stride + (from.x + c - 3))
+
+-- no sample that is read is past the depth
+abbrev pub IsReadWithin : (depth : ℕ) → Place → MotionBlock → List ℕ → Type 0
+IsReadWithin depth from block samples = AreWithinDepth depth (read_at from block samples)
+    (block.width + read_beside block.col_frac) (block.height + read_beside block.row_frac)
 
 -- ---- what is required
 
@@ -69,9 +83,9 @@ pub record IsMotionBlock (block : MotionBlock) : Type 0 where
 
 -- all that is read for a block lies in this many samples
 pub record IsSource (from : Place) (block : MotionBlock) (samples : ℕ) : Type 0 where
-  pub left : 3 ≤ from.x
-  pub top : 3 ≤ from.y
-  pub rows : AreRows from.stride (read_for from block) samples
+  pub left : read_before block.col_frac ≤ from.x
+  pub top : read_before block.row_frac ≤ from.y
+  pub rows : AreHeld from.stride (read_for from block) samples
 
 -- The block can be read from a place in this many samples.
 pub record IsMotion (from : Place) (block : MotionBlock) (samples : ℕ) : Type 0 where
@@ -101,7 +115,7 @@ pub record IsAverage (to : Place) (room width height first second : ℕ) : Type 
 -- The depth is valid, and no sample that is read for the block is past it.
 pub record AreOfDepth (depth : ℕ) (from : Place) (samples : List ℕ) (block : MotionBlock) : Type 0 where
   pub is_depth : IsDepth depth
-  pub within : AreWithinDepth depth (source_at from samples) (block.width + 7) (block.height + 7)
+  pub within : IsReadWithin depth from block samples
 
 -- ---- what is written
 
@@ -165,7 +179,7 @@ HasFewValues room from samples block = IsMotion from block samples × (room < bl
 -- some sample that is read for the block is past the depth
 abbrev pub HasDeepSample : (depth : ℕ) → (from : Place) → List ℕ → MotionBlock → Type 0
 HasDeepSample depth from samples block =
-    IsDepth depth × (¬ AreWithinDepth depth (source_at from samples) (block.width + 7) (block.height + 7))
+    IsDepth depth × (¬ IsReadWithin depth from block samples)
 
 -- the rectangle of an average does not lie in the samples
 abbrev pub LiesNowhere : (to : Place) (room width height : ℕ) → Type 0
@@ -259,16 +273,6 @@ pub record Averages (wide : Bool) (bit_depth : ℕ) (to : Place) (width height :
   -- If the call rejects an argument, the samples are unchanged.
   pub kept : answer ≢ DONE → after ≡ before
   pub known : IsAverageStatus wide answer
-
--- ---- definitions for private contracts: how a block is read
-
--- the number of rows up to the last one that is read for a block
-abbrev pub rows_for : Place → MotionBlock → ℕ
-rows_for from block = from.y + block.height + 4
-
--- the settings of these rows as a plane, whose visible part is the block
-abbrev pub config_of : Place → MotionBlock → PlaneConfig
-config_of from block = bare_config from.stride (rows_for from block) (rectangle_at from block.width block.height)
 
 -- ---- definitions for private contracts: why nothing is written
 

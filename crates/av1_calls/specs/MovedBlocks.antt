@@ -1,13 +1,13 @@
 -- The contracts of the calls that follow a vector into a plane without margins. Outside the plane each sample is the
 -- nearest visible one. AV1 specification: block inter prediction process.
-use Rattle.std.specs.Prelude.{◌≡◌, ◌≢◌, ◌⊎◌, Bool, ℕ, ◌+◌, ◌*◌, ◌≤◌, List, length, slice_index, ℤ, pos, ◌+ℤ◌}
-use Rattle.std.specs.Prelude.{◌≤ℤ◌, unsigned_abs}
+use Rattle.std.specs.Prelude.{◌≡◌, ◌≢◌, ◌⊎◌, Bool, ℕ, ◌+◌, ◌-◌, ◌*◌, ◌<◌, ◌≤◌, List, length, slice_index, ℤ, pos}
+use Rattle.std.specs.Prelude.{◌+ℤ◌, ◌-ℤ◌, ◌≤ℤ◌, unsigned_abs, nat_lt, if◌then◌else◌}
 use Rattle.av1_blocks.specs.Depths.{IsDepth}
 use Rattle.av1_blocks.specs.declared.mc.MotionVector.{MotionVector}
 use Rattle.av1_frame.specs.Areas.{AreRows}
 use Rattle.av1_frame.specs.declared.plane_region.StoredArea.{StoredArea}
 use Rattle.av1_frame.specs.Slices.{nearest_visible}
-use Rattle.av1_inter.specs.Places.{AreWithinDepth}
+use Rattle.av1_inter.specs.Places.{AreWithinDepth, read_before, read_beside}
 use Rattle.av1_inter.specs.Reference.{ReferencePlane, moved_in, sixteenths}
 use Rattle.av1_calls.specs.Arguments.{IfWide, OnlyWide}
 use Rattle.av1_calls.specs.IntraEdges.{halvings}
@@ -78,7 +78,7 @@ pub record IsPlaced (to : Place) (room : ℕ) (p : MotionPlane) (samples : ℕ) 
   pub source : IsSourced p samples b
   pub rows : AreRows to.stride (rectangle_at to b.width b.height) room
 
--- the rectangle of all that is read for the block, row by row
+-- the rectangle of all that may be read for the block, row by row
 abbrev pub window_of : MovedBlock → StoredArea
 window_of b = record { x = 0; y = 0; width = b.width + 7; height = b.height + 7 }
 
@@ -212,18 +212,38 @@ IsDeepPrepMovedFault depth room p samples b window fault = IsPrepMovedFault room
 
 -- ---- definitions for private contracts: what is read
 
+-- all columns (or rows) are visible that are read for `side` of them at a place and a fraction
+pub record IsVisible (place : ℤ) (fraction side visible : ℕ) : Type 0 where
+  pub first : pos (read_before fraction) ≤ℤ place
+  pub last : (place -ℤ pos (read_before fraction) +ℤ pos (side + read_beside fraction)) ≤ℤ pos visible
+
 -- all that is read for the block at a position is visible
 pub record LiesWithin (p : MotionPlane) (b : MovedBlock) (place : MovedPlace) : Type 0 where
-  pub left : pos 3 ≤ℤ place.x
-  pub right : (place.x +ℤ pos (b.width + 4)) ≤ℤ pos p.width
-  pub top : pos 3 ≤ℤ place.y
-  pub bottom : (place.y +ℤ pos (b.height + 4)) ≤ℤ pos p.height
+  pub columns : IsVisible place.x place.col_frac b.width p.width
+  pub rows : IsVisible place.y place.row_frac b.height p.height
 
 -- the position in the samples of the plane's buffer
 abbrev pub stored_at : MotionPlane → MovedPlace → Place
 stored_at p at = record { stride = p.stride; x = p.x + unsigned_abs at.x; y = p.y + unsigned_abs at.y }
 
+-- the rectangle of a window that holds what is read for the block at these fractions
+abbrev pub gathered_area : MovedBlock → (col_frac row_frac : ℕ) → StoredArea
+gathered_area b fx fy = record { x = 0; y = 0; width = b.width + read_beside fx; height = b.height + read_beside fy }
+
 -- the offset of the visible sample that is nearest to column x of row y
 abbrev pub nearest_place : MotionPlane → (x y : ℤ) → ℕ
 nearest_place p x y =
     (p.y + nearest_visible p.height y) * p.stride + p.x + nearest_visible p.width x
+
+-- The visible column that is copied to column c of a window's row. The first `before` columns lie before the first
+-- visible one. The next `inside` are visible, from column `start` on. All others lie after the last visible one.
+abbrev pub gathered_column : (before start inside visible c : ℕ) → ℕ
+gathered_column before start inside visible c =
+    if nat_lt c before then 0 else (if nat_lt c (before + inside) then start + (c - before) else visible - 1)
+
+-- The row has `count` columns, and begins at column `first` of the plane.
+pub record AreParts (first : ℤ) (count visible before start inside : ℕ) : Type 0 where
+  pub fits : before + inside ≤ count
+  pub stored : start + inside ≤ visible
+  pub same : (c : ℕ) → c < count →
+      nearest_visible visible (first +ℤ pos c) ≡ gathered_column before start inside visible c

@@ -1,5 +1,5 @@
 -- Statements on the samples of a rectangle: all below a bound, and the greatest of them.
-use Rattle.std.specs.Prelude.{ℕ, ◌+◌, ◌<◌, ◌≤◌, List, slice_index}
+use Rattle.std.specs.Prelude.{ℕ, ◌+◌, ◌^◌, ◌<◌, ◌≤◌, List, slice_index}
 use Rattle.av1_frame.specs.Samples.{row_start}
 use Rattle.av1_frame.specs.declared.plane_region.StoredArea.{StoredArea}
 
@@ -10,6 +10,13 @@ area_sample stride area samples r c = slice_index samples (row_start stride area
 -- the rectangle of these dimensions at column x of row y
 abbrev pub rectangle_of : (x y width height : ℕ) → StoredArea
 rectangle_of x y width height = record { x = x; y = y; width = width; height = height }
+
+-- each row of the rectangle ends in n samples, in rows of this stride; the last row may end with its samples
+pub record AreHeld (stride : ℕ) (area : StoredArea) (n : ℕ) : Type 0 where
+  pub some : 0 < stride
+  pub columns : area.x + area.width ≤ stride
+  pub rows : (r : ℕ) → r < area.height → row_start stride area r + area.width ≤ n
+  pub few : n < 2 ^ 63
 
 -- each sample of the rectangle is below a bound
 abbrev pub AreBelow : (bound stride : ℕ) → StoredArea → List ℕ → Type 0

@@ -73,7 +73,7 @@ fn step_of(mode: u8, angle: usize) -> Result<i8, BadArgument>
 ///
 /// `DONE`: success. `BAD_MODE`: no intra mode has the number, or it is chroma from luma. `BAD_ANGLE`: the mode does not
 /// turn to this angle.
-pub fn av1_angle_step(step: &mut i8, mode: u8, angle: usize) -> u32
+pub fn tilg_angle_step(step: &mut i8, mode: u8, angle: usize) -> u32
     ensures { FindsStep mode angle step.old step.new result }
 {
     match step_of(mode, angle) {

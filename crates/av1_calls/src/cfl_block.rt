@@ -140,16 +140,17 @@ fn block_of(luma: LumaLeafBlock) -> Result<CflBlock, BadArgument>
     Ok(padded(luma, sizes))
 }
 
-/// Finds the block of chroma that is predicted from a block's luma, as `av1_cfl_ac_8` takes it. The result has the size
-/// of the chroma, and how many units of 4 columns and of 4 rows have no luma of their own. These are the units that no
-/// transform codes that begins in the visible plane. In the AV1 specification, `MaxLumaW` and `MaxLumaH` say so.
+/// Finds the block of chroma that is predicted from a block's luma, as `tilg_cfl_ac_8` takes it. The result has the
+/// size of the chroma, and how many units of 4 columns and of 4 rows have no luma of their own. These are the units
+/// that no transform codes that begins in the visible plane. In the AV1 specification, `MaxLumaW` and `MaxLumaH` say
+/// so.
 ///
-/// If a dimension of 4 is halved, the block shares its chroma with the block before it. `av1_cfl_ac_8` then reads all 8
-/// samples of luma of both blocks.
+/// If a dimension of 4 is halved, the block shares its chroma with the block before it. `tilg_cfl_ac_8` then reads all
+/// 8 samples of luma of both blocks.
 ///
 /// `DONE`: success. `BAD_SAMPLING`: chroma has no such subsampling. `BAD_SIZE`: no size has the number, or the block
 /// has no chroma, or its chroma is wider or higher than 32. `BAD_PAD`: no column or no row of its luma is visible.
-pub fn av1_cfl_block_of(block: &mut CflBlock, luma: &LumaLeafBlock) -> u32
+pub fn tilg_cfl_block_of(block: &mut CflBlock, luma: &LumaLeafBlock) -> u32
     ensures { FindsChroma luma.now block.old block.new result }
 {
     match block_of(*luma) {

@@ -312,7 +312,7 @@ pub(crate) fn predict_by_number<T: Pixel>(
 /// `DONE`: success. `BAD_MODE`, `BAD_SIZE`: no intra mode or no size has the number. `BAD_ANGLE`: the mode does not
 /// turn this many steps. `BAD_DEPTH`: the samples have no such depth. `BAD_AREA`: the block does not lie in the
 /// samples. `TOO_SHORT`: a side has fewer samples than the call reads.
-pub fn av1_predict_intra_8(
+pub fn tilg_predict_intra_8(
     samples: &mut [u8],
     stride: usize,
     x: usize,
@@ -332,9 +332,9 @@ pub fn av1_predict_intra_8(
     predict_by_number(samples, Place { stride, x, y }, *block, sides)
 }
 
-/// Predicts as [`av1_predict_intra_8`] does, in samples of 16 bits at a depth of 8, 10 or 12. The call does not test
+/// Predicts as [`tilg_predict_intra_8`] does, in samples of 16 bits at a depth of 8, 10 or 12. The call does not test
 /// that samples of the sides fit the depth.
-pub fn av1_predict_intra_16(
+pub fn tilg_predict_intra_16(
     samples: &mut [u16],
     stride: usize,
     x: usize,
@@ -360,10 +360,10 @@ pub fn av1_predict_intra_16(
 ///
 /// `ac` has the differences of luma from its mean, row by row, one for each sample of the block. The differences and
 /// `alpha` are in eighths. The call does not read the mode of the block, and `angle_step` has to be 0. The rest is as
-/// in [`av1_predict_intra_8`].
+/// in [`tilg_predict_intra_8`].
 ///
 /// AV1 specification: predict chroma from luma process.
-pub fn av1_predict_cfl_8(
+pub fn tilg_predict_cfl_8(
     samples: &mut [u8],
     stride: usize,
     x: usize,
@@ -393,9 +393,9 @@ pub fn av1_predict_cfl_8(
     )
 }
 
-/// Predicts as [`av1_predict_cfl_8`] does, in samples of 16 bits at a depth of 8, 10 or 12. The call does not test that
-/// samples of the sides fit the depth.
-pub fn av1_predict_cfl_16(
+/// Predicts as [`tilg_predict_cfl_8`] does, in samples of 16 bits at a depth of 8, 10 or 12. The call does not test
+/// that samples of the sides fit the depth.
+pub fn tilg_predict_cfl_16(
     samples: &mut [u16],
     stride: usize,
     x: usize,

@@ -344,15 +344,15 @@ fn prepare_by<T: Pixel>(edge: &mut [T], samples: &[T], plane: &EdgePlane, block:
 /// of the plane. The samples that precede the transform in coding order have to be final.
 ///
 /// In `edge` the left side ends before sample 128 and runs from the bottom up. Sample 128 is the corner, and the side
-/// above begins at sample 129. So pass `edge[..128]`, `edge[128]` and `edge[129..]` to `av1_predict_intra_8`. The other
-/// samples among the first 257 are unspecified.
+/// above begins at sample 129. So pass `edge[..128]`, `edge[128]` and `edge[129..]` to `tilg_predict_intra_8`. The
+/// other samples among the first 257 are unspecified.
 ///
 /// `DONE`: success. `ROOM_TOO_SMALL`: `edge` has fewer than 257 samples. `BAD_MODE`, `BAD_SIZE`: no intra mode or no
 /// size has the number. `BAD_ANGLE`: the mode does not turn this many steps. `BAD_DEPTH`: the samples have no such
 /// depth. `BAD_AREA`: the plane does not lie in the samples, or the tile not in the plane, or the transform does not
 /// begin in the tile. It is also the status if the transform begins 65536 units of 4 samples or more from the start of
 /// its block. The call does not test that `x` and `y` are the position of the cell and the unit.
-pub fn av1_intra_edge_8(
+pub fn tilg_intra_edge_8(
     edge: &mut [u8],
     samples: &[u8],
     plane: &EdgePlane,
@@ -363,9 +363,9 @@ pub fn av1_intra_edge_8(
     prepare_by(edge, samples, plane, block)
 }
 
-/// Prepares an edge as [`av1_intra_edge_8`] does, from samples of 16 bits at a depth of 8, 10 or 12. The call does not
+/// Prepares an edge as [`tilg_intra_edge_8`] does, from samples of 16 bits at a depth of 8, 10 or 12. The call does not
 /// test that samples fit the depth.
-pub fn av1_intra_edge_16(
+pub fn tilg_intra_edge_16(
     edge: &mut [u16],
     samples: &[u16],
     plane: &EdgePlane,

@@ -7,7 +7,7 @@ ghost use Rattle.av1_calls.specs.IntraPlanes.{PredictsFrom, PredictsInPlane, blo
 
 use crate::intra::{IntraBlock, Sides, predict_by, predict_by_number};
 use crate::intra_edge::{
-    EDGE_SAMPLES, EdgeBlock, EdgePlane, av1_intra_edge_8, av1_intra_edge_16, rows_of,
+    EDGE_SAMPLES, EdgeBlock, EdgePlane, rows_of, tilg_intra_edge_8, tilg_intra_edge_16,
 };
 use crate::motion::Place;
 use crate::status::DONE;
@@ -124,8 +124,8 @@ fn predict_prepared<T: Pixel>(
 }
 
 /// Predicts a transform by its mode in the samples of its plane, at a depth of 8. The call prepares the edge as
-/// [`av1_intra_edge_8`] does and predicts from it as `av1_predict_intra_8` does. Mode 13, chroma from luma, predicts as
-/// `av1_predict_cfl_8` does, by `ac` and `alpha`. Other modes don't read `ac` and `alpha`. All other samples are
+/// [`tilg_intra_edge_8`] does and predicts from it as `tilg_predict_intra_8` does. Mode 13, chroma from luma, predicts
+/// as `tilg_predict_cfl_8` does, by `ac` and `alpha`. Other modes don't read `ac` and `alpha`. All other samples are
 /// unchanged.
 ///
 /// The position in `plane` says whether a side lies in the tile, and how much of the plane is visible from the
@@ -137,7 +137,7 @@ fn predict_prepared<T: Pixel>(
 ///
 /// - The plane or the transform does not lie in the samples, or the tile not in the plane.
 /// - The transform does not begin in the tile, or begins 65536 units of 4 samples or more from the start of its block.
-pub fn av1_predict_in_plane_8(
+pub fn tilg_predict_in_plane_8(
     samples: &mut [u8],
     plane: &EdgePlane,
     block: &EdgeBlock,
@@ -148,7 +148,7 @@ pub fn av1_predict_in_plane_8(
     ensures { PredictsInPlane 8 plane.now block.now smooth_neighbour ac.now alpha samples.old samples.new result }
 {
     let mut edge = [0; EDGE_SAMPLES];
-    let prepared = av1_intra_edge_8(&mut edge, samples, plane, block);
+    let prepared = tilg_intra_edge_8(&mut edge, samples, plane, block);
     if prepared != DONE {
         return prepared;
     }
@@ -161,9 +161,9 @@ pub fn av1_predict_in_plane_8(
     predict_prepared(samples, at, &edge, corner, ac, alpha)
 }
 
-/// Predicts as [`av1_predict_in_plane_8`] does, in samples of 16 bits at a depth of 8, 10 or 12. The call does not test
-/// that samples fit the depth.
-pub fn av1_predict_in_plane_16(
+/// Predicts as [`tilg_predict_in_plane_8`] does, in samples of 16 bits at a depth of 8, 10 or 12. The call does not
+/// test that samples fit the depth.
+pub fn tilg_predict_in_plane_16(
     samples: &mut [u16],
     plane: &EdgePlane,
     block: &EdgeBlock,
@@ -174,7 +174,7 @@ pub fn av1_predict_in_plane_16(
     ensures { PredictsInPlane 16 plane.now block.now smooth_neighbour ac.now alpha samples.old samples.new result }
 {
     let mut edge = [0; EDGE_SAMPLES];
-    let prepared = av1_intra_edge_16(&mut edge, samples, plane, block);
+    let prepared = tilg_intra_edge_16(&mut edge, samples, plane, block);
     if prepared != DONE {
         return prepared;
     }

@@ -264,7 +264,7 @@ fn put_differences_of<T: Pixel>(
 }
 
 /// Writes how far the luma over each sample of a block of chroma is from its mean, at a depth of 8. `ac` gets the
-/// differences row by row, in eighths of a sample. The other entries of `ac` are unchanged. `av1_predict_cfl_8` takes
+/// differences row by row, in eighths of a sample. The other entries of `ac` are unchanged. `tilg_predict_cfl_8` takes
 /// these differences. They are the averages of the specification's "predict chroma from luma process".
 ///
 /// The block's luma begins at column `x` of row `y` of `luma`, and rows are `stride` samples apart. The call reads the
@@ -274,7 +274,7 @@ fn put_differences_of<T: Pixel>(
 /// `DONE`: success. `BAD_SIZE`: no size of at most 32 by 32 has the number. `BAD_SAMPLING`: chroma has no such
 /// subsampling. `BAD_PAD`: no column or no row has luma of its own. `BAD_AREA`: the luma that is read does not lie in
 /// the samples. `TOO_SHORT`: `ac` has fewer entries than the block has samples.
-pub fn av1_cfl_ac_8(
+pub fn tilg_cfl_ac_8(
     ac: &mut [i16],
     luma: &[u8],
     stride: usize,
@@ -295,10 +295,10 @@ pub fn av1_cfl_ac_8(
     }
 }
 
-/// Writes the differences as [`av1_cfl_ac_8`] does, from samples of 16 bits at a depth of 8, 10 or 12.
+/// Writes the differences as [`tilg_cfl_ac_8`] does, from samples of 16 bits at a depth of 8, 10 or 12.
 ///
 /// `BAD_DEPTH`: samples have no such depth. `BAD_SAMPLE`: a sample that is read is past the depth.
-pub fn av1_cfl_ac_16(
+pub fn tilg_cfl_ac_16(
     ac: &mut [i16],
     luma: &[u16],
     stride: usize,

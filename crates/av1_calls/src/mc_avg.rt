@@ -38,11 +38,11 @@ fn test_deep_average(
 
 /// Writes the average of two prepared values to each sample of a rectangle, at a depth of 8. The rectangle begins at
 /// column `x` of row `y` of `samples`, and rows are `stride` samples apart. `first` and `second` begin with the values,
-/// row by row, as `av1_prep_8tap_8` writes them. All other samples are unchanged.
+/// row by row, as `tilg_prep_8tap_8` writes them. All other samples are unchanged.
 ///
 /// `DONE`: success. `BAD_SIZE`: the width or the height is 0 or above 128. `BAD_AREA`: the rectangle does not lie in
 /// the samples. `TOO_SHORT`: `first` or `second` has fewer values than the rectangle has samples.
-pub fn av1_mc_avg_8(
+pub fn tilg_mc_avg_8(
     samples: &mut [u8],
     stride: usize,
     x: usize,
@@ -71,10 +71,10 @@ pub fn av1_mc_avg_8(
     }
 }
 
-/// Averages as [`av1_mc_avg_8`] does, in samples of 16 bits at a depth of 8, 10 or 12.
+/// Averages as [`tilg_mc_avg_8`] does, in samples of 16 bits at a depth of 8, 10 or 12.
 ///
 /// `BAD_DEPTH`: samples have no such depth.
-pub fn av1_mc_avg_16(
+pub fn tilg_mc_avg_16(
     samples: &mut [u16],
     stride: usize,
     x: usize,

@@ -1,14 +1,16 @@
 //! Blocks of references: which arguments are valid, and which samples a block reads.
-ghost use Rattle.std.specs.Prelude.{◌≡◌, true, ◌*◌, IfOk, IfErr, length, take};
+ghost use Rattle.std.specs.Prelude.{◌≡◌, true, ◌≤◌, IfOk, IfErr, length, drop};
+ghost use Rattle.av1_frame.specs.Samples.{row_start};
+ghost use Rattle.av1_inter.specs.Places.{read_before, read_beside};
 ghost use Rattle.av1_calls.specs.Motions.{AreFilters, AreFractions, AreOfDepth, AreSides, IsAverage, IsAverageFault, IsFilterNumber, IsMotion};
-ghost use Rattle.av1_calls.specs.Motions.{IsMotionFault, IsPrep, IsPrepFault, IsPut, IsPutFault, IsSampleFault, IsSource, config_of, filter_along};
-ghost use Rattle.av1_calls.specs.Motions.{read_for, rectangle_at, rows_for};
+ghost use Rattle.av1_calls.specs.Motions.{IsMotionFault, IsPrep, IsPrepFault, IsPut, IsPutFault, IsSampleFault, IsSource, filter_along};
+ghost use Rattle.av1_calls.specs.Motions.{read_for, rectangle_at};
 
 use crate::argument::{BadArgument, are_rows, filter_mode, is_depth};
-use crate::samples::are_within;
+use crate::samples::{are_held, are_held_within};
 use av1_blocks::FilterMode;
-use av1_frame::{Pixel, PlaneConfig, StoredArea};
-use av1_inter::mode_along;
+use av1_frame::{Pixel, StoredArea};
+use av1_inter::{Moved, mode_along};
 
 /// The number of the sharp filter.
 pub const SHARP: u8 = 2;
@@ -106,28 +108,48 @@ pub(crate) fn filter_along(number: u8, side: usize) -> FilterMode
     }
 }
 
-// The rectangle that the filters read for a block: 3 columns and rows before the block, and 4 after it.
+/// How many columns (or rows) before a block are read, at a fraction.
+#[inline(always)]
+pub(crate) fn read_before(frac: u8) -> usize
+    ensures value { result ≡ read_before frac }
+    ensures few { result ≤ 3 }
+{
+    if frac == 0 { 0 } else { 3 }
+}
+
+/// How many columns (or rows) more than the block has are read, at a fraction.
+#[inline(always)]
+pub(crate) fn read_beside(frac: u8) -> usize
+    ensures value { result ≡ read_beside frac }
+    ensures few { result ≤ 7 }
+{
+    if frac == 0 { 0 } else { 7 }
+}
+
+// The rectangle that is read for a block.
 #[inline(always)]
 fn read_for(from: Place, block: MotionBlock) -> StoredArea
     requires sides { AreSides block.width block.height }
     ensures { result ≡ read_for from block }
 {
     StoredArea {
-        x: from.x.saturating_sub(3),
-        y: from.y.saturating_sub(3),
-        width: block.width + 7,
-        height: block.height + 7,
+        x: from.x.saturating_sub(read_before(block.col_frac)),
+        y: from.y.saturating_sub(read_before(block.row_frac)),
+        width: block.width + read_beside(block.col_frac),
+        height: block.height + read_beside(block.row_frac),
     }
 }
 
-// Whether all that the filters read lies in `samples` samples.
+// Whether all that is read for a block lies in `samples` samples.
 #[inline(always)]
 fn is_source(from: Place, block: MotionBlock, samples: usize) -> bool
     requires sides { AreSides block.width block.height }
     ensures true_is { result ≡ true → IsSource from block samples }
     ensures is_true { IsSource from block samples → result ≡ true }
 {
-    3 <= from.x && 3 <= from.y && are_rows(from.stride, read_for(from, block), samples)
+    read_before(block.col_frac) <= from.x
+        && read_before(block.row_frac) <= from.y
+        && are_held(from.stride, read_for(from, block), samples)
 }
 
 /// Tests that the block can be read from a place in `samples` samples.
@@ -251,31 +273,35 @@ pub(crate) fn test_samples(
     if !is_depth(bit_depth) {
         return Err(BadArgument::Depth);
     }
-    if !are_within(samples, from.stride, read_for(from, block), bit_depth) {
+    if !are_held_within(samples, from.stride, read_for(from, block), bit_depth) {
         return Err(BadArgument::Sample);
     }
     Ok(())
 }
 
-/// The rows that are read for a block, and all rows before them.
+/// How far the block is moved, and its filters.
 #[inline(always)]
-pub(crate) fn rows_of<T: Pixel>(samples: &[T], from: Place, block: MotionBlock) -> &[T]
-    requires { IsMotion from block (length samples.now) }
-    ensures { result.now ≡ take (rows_for from block * from.stride) samples.now }
+pub(crate) fn moved_by(block: MotionBlock) -> Moved
+    ensures col_frac { result.col_frac ≡ block.col_frac }
+    ensures row_frac { result.row_frac ≡ block.row_frac }
+    ensures mode_x { result.mode_x ≡ filter_along block.filter_x block.width }
+    ensures mode_y { result.mode_y ≡ filter_along block.filter_y block.height }
 {
-    let (rows, _) = samples.split_at((from.y + block.height + 4) * from.stride);
-    rows
+    Moved {
+        col_frac: usize::from(block.col_frac),
+        row_frac: usize::from(block.row_frac),
+        mode_x: filter_along(block.filter_x, block.width),
+        mode_y: filter_along(block.filter_y, block.height),
+    }
 }
 
-/// The settings of these rows as a plane, whose visible part is the block.
+/// The samples from the first one on that is read for a block.
 #[inline(always)]
-pub(crate) fn config_of(from: Place, block: MotionBlock, samples: usize) -> PlaneConfig
-    requires { IsMotion from block samples }
-    ensures { result ≡ config_of from block }
+pub(crate) fn read_from<T: Pixel>(samples: &[T], from: Place, block: MotionBlock) -> &[T]
+    requires { IsMotion from block (length samples.now) }
+    ensures { result.now ≡ drop (row_start from.stride (read_for from block) 0) samples.now }
 {
-    PlaneConfig::bare(
-        from.stride,
-        from.y + block.height + 4,
-        rectangle_at(from, block.width, block.height),
-    )
+    let area = read_for(from, block);
+    let (_, read) = samples.split_at(area.y * from.stride + area.x);
+    read
 }

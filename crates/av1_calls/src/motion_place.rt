@@ -183,7 +183,7 @@ pub(crate) fn place_of(plane: MotionPlane, block: MovedBlock) -> MovedPlace
 ///
 /// `DONE`: success. `BAD_SIZE`: the width or the height is 0 or above 128. `BAD_AREA`: the plane has no samples, or the
 /// plane's dimensions or the block's position are above 65,536.
-pub fn av1_motion_place(place: &mut MovedPlace, plane: &MotionPlane, block: &MovedBlock) -> u32
+pub fn tilg_motion_place(place: &mut MovedPlace, plane: &MotionPlane, block: &MovedBlock) -> u32
     ensures { FindsPlace plane.now block.now place.old place.new result }
 {
     let (plane, block) = (*plane, *block);

@@ -1,13 +1,15 @@
 //! Blocks that vectors move in planes without margins: where a block is read, and which samples are gathered for it.
-ghost use Rattle.std.specs.Prelude.{◌≡◌, true, ℕ, ◌+◌, ◌<◌, ◌≤◌, ◌+ℤ◌, ◌-ℤ◌, ◌≤ℤ◌, length, map, pos};
+ghost use Rattle.std.specs.Prelude.{◌≡◌, true, ◌+◌, ◌≤◌, ◌-ℤ◌, ◌≤ℤ◌, length, map, pos};
 ghost use Rattle.av1_calls.specs.MotionPlaces.{IsPlaceOf};
-ghost use Rattle.av1_calls.specs.Motions.{AreSides, IsSource, source_at};
-ghost use Rattle.av1_calls.specs.MovedBlocks.{AreMovedFilters, IsSourced, LiesWithin, motion_at, moved_source, stored_at, visible_of, window_of};
+ghost use Rattle.av1_calls.specs.Motions.{AreSides, IsSource, read_at};
+ghost use Rattle.av1_calls.specs.MovedBlocks.{AreMovedFilters, IsSourced, IsVisible, LiesWithin, gathered_area, motion_at, moved_source, stored_at};
+ghost use Rattle.av1_calls.specs.MovedBlocks.{visible_of, window_of};
 ghost use Rattle.av1_frame.specs.Areas.{AreRows};
+ghost use Rattle.av1_inter.specs.Places.{IsReadFrom, read_before};
 
 use crate::argument::are_rows;
 use crate::intra_edge::signed;
-use crate::motion::{MotionBlock, Place, is_filter_number};
+use crate::motion::{MotionBlock, Place, is_filter_number, read_before, read_beside};
 use crate::motion_place::{MotionPlane, MovedBlock, MovedPlace, lies_near};
 use crate::window::gather;
 use av1_frame::{Pixel, StoredArea};
@@ -33,7 +35,7 @@ pub(crate) fn visible_of(plane: MotionPlane) -> StoredArea
     }
 }
 
-/// The rectangle of all samples that are read for a block, row by row.
+/// The rectangle of all samples that may be read for a block, row by row.
 #[inline(always)]
 pub(crate) fn window_of(block: MovedBlock) -> StoredArea
     requires short { block.width ≤ 128 }
@@ -81,17 +83,27 @@ pub(crate) fn is_sourced(plane: MotionPlane, samples: usize, block: MovedBlock) 
     lies_near(plane, block) && are_rows(plane.stride, visible_of(plane), samples)
 }
 
+// The first column or row that is read for a block at a place.
+#[inline(always)]
+fn first_of(place: isize, frac: u8) -> isize
+    requires least { (pos 0 -ℤ pos 65536) ≤ℤ place }
+    requires greatest { place ≤ℤ pos 131072 }
+    ensures { result ≡ place -ℤ pos (read_before frac) }
+{
+    place - signed(read_before(frac))
+}
+
 // If true, all that is read along the columns or the rows of a block is visible.
 #[inline(always)]
-fn is_within(place: isize, side: usize, visible: usize) -> bool
+fn is_within(place: isize, frac: u8, side: usize, visible: usize) -> bool
     requires least { (pos 0 -ℤ pos 65536) ≤ℤ place }
     requires greatest { place ≤ℤ pos 131072 }
     requires short { side ≤ 128 }
     requires few { visible ≤ 65536 }
-    ensures first { result ≡ true → pos 3 ≤ℤ place }
-    ensures last { result ≡ true → (place +ℤ pos (side + 4)) ≤ℤ pos visible }
+    ensures { result ≡ true → IsVisible place frac side visible }
 {
-    3 <= place && place + signed(side + 4) <= signed(visible)
+    let first = first_of(place, frac);
+    0 <= first && first + signed(side + read_beside(frac)) <= signed(visible)
 }
 
 /// If true, all samples that are read from the position are visible.
@@ -105,7 +117,8 @@ pub(crate) fn lies_within(moved: MovedCall) -> bool
     ensures { result ≡ true → LiesWithin moved.plane moved.block moved.place }
 {
     let (plane, block, place) = (moved.plane, moved.block, moved.place);
-    is_within(place.x, block.width, plane.width) && is_within(place.y, block.height, plane.height)
+    is_within(place.x, place.col_frac, block.width, plane.width)
+        && is_within(place.y, place.row_frac, block.height, plane.height)
 }
 
 /// The position in the samples of the plane's buffer.
@@ -123,24 +136,42 @@ pub(crate) fn stored_at(moved: MovedCall, samples: usize) -> Place
     }
 }
 
-/// Copies all samples that are read for the block to the front of the window. Returns the block's position in the
-/// window.
+/// The rectangle of the window to which a block's samples are gathered.
+#[inline(always)]
+fn gathered_area(moved: MovedCall) -> StoredArea
+    requires short { moved.block.width ≤ 128 }
+    requires low { moved.block.height ≤ 128 }
+    ensures { result ≡ gathered_area moved.block moved.place.col_frac moved.place.row_frac }
+{
+    StoredArea {
+        x: 0,
+        y: 0,
+        width: moved.block.width + read_beside(moved.place.col_frac),
+        height: moved.block.height + read_beside(moved.place.row_frac),
+    }
+}
+
+/// Copies all samples that are read for the block to the window. Returns the block's position in the window.
 #[inline(always)]
 pub(crate) fn gathered<T: Pixel>(window: &mut [T], src: &[T], moved: MovedCall) -> Place
     requires sides { AreSides moved.block.width moved.block.height }
     requires found { IsPlaceOf moved.plane moved.block moved.place }
     requires source { IsSourced moved.plane (length src.now) moved.block }
     requires long { AreRows (moved.block.width + 7) (window_of moved.block) (length window.old) }
-    ensures lies { (i j : ℕ) → IsSource result (motion_at moved.block i j) (length window.new) }
-    ensures same { (c r : ℕ) → c < moved.block.width + 7 → r < moved.block.height + 7
-        → source_at result (map T.num window.new) c r ≡ moved_source moved.plane moved.block (map T.num src.now) c r }
+    ensures lies { IsSource result (motion_at moved.block moved.place.col_frac moved.place.row_frac) (length window.new) }
+    ensures same { IsReadFrom moved.place.col_frac moved.place.row_frac moved.block.width moved.block.height
+        (read_at result (motion_at moved.block moved.place.col_frac moved.place.row_frac) (map T.num window.new))
+        (moved_source moved.plane moved.block (map T.num src.now)) }
 {
-    let area = window_of(moved.block);
-    let (x, y) = (moved.place.x - 3, moved.place.y - 3);
-    gather(window, area.width, area, src, moved.plane, x, y);
+    let place = moved.place;
+    let stride = moved.block.width + 7;
+    let area = gathered_area(moved);
+    let x = first_of(place.x, place.col_frac);
+    let y = first_of(place.y, place.row_frac);
+    gather(window, stride, area, src, moved.plane, x, y);
     Place {
-        stride: area.width,
-        x: 3,
-        y: 3,
+        stride,
+        x: read_before(place.col_frac),
+        y: read_before(place.row_frac),
     }
 }

@@ -1,21 +1,20 @@
 //! Prepares a block for the average with another block.
 //!
 //! AV1 specification: block inter prediction process, with the rounding of compound prediction.
-ghost use Rattle.std.specs.Prelude.{true, false, ◌+◌, IfOk, IfErr, map, length};
+ghost use Rattle.std.specs.Prelude.{true, false, ℕ, IfOk, IfErr, map, length};
 ghost use Rattle.av1_blocks.specs.Depths.{IsDepth};
-ghost use Rattle.av1_inter.specs.Places.{AreWithinDepth};
-ghost use Rattle.av1_calls.specs.Motions.{Prepares, AreOfDepth, HoldBlock, IsDeepPrepFault, IsPrep, place, source_at};
+ghost use Rattle.av1_inter.specs.Places.{IsReadFrom};
+ghost use Rattle.av1_calls.specs.Motions.{Prepares, AreOfDepth, HoldBlock, IsDeepPrepFault, IsPrep, IsReadWithin, place, read_at};
 
 use crate::argument::{BadArgument, is_depth};
-use crate::motion::{
-    MotionBlock, Place, config_of, filter_along, rows_of, test_prep, test_samples,
-};
+use crate::motion::{MotionBlock, Place, moved_by, read_from, test_prep, test_samples};
 use crate::samples::have_8_bits;
 use crate::status::DONE;
-use av1_frame::{Pixel, PlaneOffset, PlaneSlice};
-use av1_inter::prep_8tap;
+use av1_frame::Pixel;
+use av1_inter::prep_8tap_from;
 
-/// Writes the prepared values of the block to the front of `values`.
+/// Writes the prepared values of the block to the front of `values`. It is the block of any samples that have, round
+/// it, what is read.
 #[inline(always)]
 pub(crate) fn prep<T: Pixel>(
     values: &mut [i16],
@@ -26,20 +25,17 @@ pub(crate) fn prep<T: Pixel>(
 )
     requires asked { IsPrep (length values.old) from (length src.now) block }
     requires deep { AreOfDepth bit_depth from (map T.num src.now) block }
-    ensures { HoldBlock bit_depth block (source_at from (map T.num src.now)) values.old values.new }
+    ensures { (around : ℕ → ℕ → ℕ) →
+        IsReadFrom block.col_frac block.row_frac block.width block.height (read_at from block (map T.num src.now)) around →
+        HoldBlock bit_depth block around values.old values.new }
 {
-    let rows = rows_of(src, from, block);
-    let cfg = config_of(from, block, src.len());
-    let place = PlaneSlice::from_slice(rows, &cfg, PlaneOffset { x: 0, y: 0 });
-    prep_8tap(
+    prep_8tap_from(
         values,
-        place,
+        read_from(src, from, block),
+        from.stride,
         block.width,
         block.height,
-        i32::from(block.col_frac),
-        i32::from(block.row_frac),
-        filter_along(block.filter_x, block.width),
-        filter_along(block.filter_y, block.height),
+        moved_by(block),
         bit_depth,
     );
 }
@@ -95,12 +91,12 @@ fn test_tested_prep(
 /// become the values of the block, row by row. The other values are unchanged. The block is at column `src_x` of row
 /// `src_y` of `src`, moved by its fractions. Rows of samples are `src_stride` apart.
 ///
-/// The call reads 3 columns and rows before the block and 4 after it, at every fraction. A value is 16 times a sample.
+/// The call reads the same samples as `tilg_put_8tap_8`. A value is 16 times a sample.
 ///
 /// `DONE`: success. `BAD_SIZE`: the width or the height is 0 or above 128. `BAD_MODE`: no filter has this number.
 /// `BAD_FRACTION`: a fraction is 16 or more. `BAD_AREA`: the samples that are read do not lie in `src`. `TOO_SHORT`:
 /// there are fewer values than the block has samples.
-pub fn av1_prep_8tap_8(
+pub fn tilg_prep_8tap_8(
     values: &mut [i16],
     src: &[u8],
     src_stride: usize,
@@ -126,11 +122,11 @@ pub fn av1_prep_8tap_8(
     }
 }
 
-/// Prepares a block as [`av1_prep_8tap_8`] does, from samples of 16 bits at a depth of 8, 10 or 12. At depths above 8,
+/// Prepares a block as [`tilg_prep_8tap_8`] does, from samples of 16 bits at a depth of 8, 10 or 12. At depths above 8,
 /// each value is less by 8192. At 12, a value is 4 times a sample before that.
 ///
 /// `BAD_DEPTH`: samples have no such depth. `BAD_SAMPLE`: a sample that is read is past the depth.
-pub fn av1_prep_8tap_16(
+pub fn tilg_prep_8tap_16(
     values: &mut [i16],
     src: &[u16],
     src_stride: usize,
@@ -156,9 +152,9 @@ pub fn av1_prep_8tap_16(
     }
 }
 
-/// Prepares a block as [`av1_prep_8tap_16`] does, but does not test the samples. The caller has to ensure that no
-/// sample that is read is past the depth. `av1_test_samples_16` tests a whole reference.
-pub fn av1_prep_tested_16(
+/// Prepares a block as [`tilg_prep_8tap_16`] does, but does not test the samples. The caller has to ensure that no
+/// sample that is read is past the depth. `tilg_test_samples_16` tests a whole reference.
+pub fn tilg_prep_tested_16(
     values: &mut [i16],
     src: &[u16],
     src_stride: usize,
@@ -167,7 +163,7 @@ pub fn av1_prep_tested_16(
     block: &MotionBlock,
     bit_depth: usize,
 ) -> u32
-    requires { AreWithinDepth bit_depth (source_at (place src_stride src_x src_y) src.now) (block.now.width + 7) (block.now.height + 7) }
+    requires { IsReadWithin bit_depth (place src_stride src_x src_y) block.now src.now }
     ensures { Prepares true bit_depth (place src_stride src_x src_y) block.now src.now values.old values.new result }
 {
     let block = *block;

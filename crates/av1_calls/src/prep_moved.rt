@@ -159,7 +159,7 @@ fn prep_moved<T: Pixel>(
 /// `DONE`: success. `BAD_SIZE`: the width or the height is 0 or above 128. `BAD_MODE`: no filter has this number.
 /// `BAD_AREA`: the plane has no samples or does not lie in `src`, or its dimensions or the block's position are above
 /// 65,536. `TOO_SHORT`: there are fewer values than the block has samples, or the window is too short.
-pub fn av1_prep_moved_8(
+pub fn tilg_prep_moved_8(
     values: &mut [i16],
     src: &[u8],
     plane: &MotionPlane,
@@ -179,12 +179,12 @@ pub fn av1_prep_moved_8(
     }
 }
 
-/// Prepares a block as [`av1_prep_moved_8`] does, from samples of 16 bits at a depth of 8, 10 or 12. The call does not
-/// test the samples. The caller has to ensure that no sample that is read is past the depth. `av1_test_samples_16`
+/// Prepares a block as [`tilg_prep_moved_8`] does, from samples of 16 bits at a depth of 8, 10 or 12. The call does not
+/// test the samples. The caller has to ensure that no sample that is read is past the depth. `tilg_test_samples_16`
 /// tests a whole reference. At depths above 8, each value is less by 8192.
 ///
 /// `BAD_DEPTH`: samples have no such depth.
-pub fn av1_prep_moved_16(
+pub fn tilg_prep_moved_16(
     values: &mut [i16],
     src: &[u16],
     plane: &MotionPlane,

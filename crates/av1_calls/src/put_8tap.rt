@@ -1,22 +1,22 @@
 //! Predicts a block from one reference.
 //!
 //! AV1 specification: block inter prediction process.
-ghost use Rattle.std.specs.Prelude.{true, false, ◌≡◌, ◌+◌, ◌≤◌, IfOk, IfErr, map, length};
+ghost use Rattle.std.specs.Prelude.{true, false, ◌≡◌, ℕ, ◌≤◌, IfOk, IfErr, map, length};
 ghost use Rattle.av1_blocks.specs.Depths.{IsDepth};
 ghost use Rattle.av1_frame.specs.Samples.{paint};
-ghost use Rattle.av1_inter.specs.Places.{AreWithinDepth};
-ghost use Rattle.av1_calls.specs.Motions.{Puts, AreOfDepth, IsDeepPutFault, IsPut, moved_sample, place, rectangle_at, source_at};
+ghost use Rattle.av1_inter.specs.Places.{IsReadFrom};
+ghost use Rattle.av1_calls.specs.Motions.{Puts, AreOfDepth, IsDeepPutFault, IsPut, IsReadWithin, moved_sample, place, read_at, rectangle_at};
 
 use crate::argument::{BadArgument, is_depth};
 use crate::motion::{
-    MotionBlock, Place, config_of, filter_along, rectangle_at, rows_of, test_put, test_samples,
+    MotionBlock, Place, moved_by, read_from, rectangle_at, test_put, test_samples,
 };
 use crate::samples::have_8_bits;
 use crate::status::DONE;
-use av1_frame::{Pixel, PlaneOffset, PlaneSlice};
+use av1_frame::Pixel;
 use av1_inter::put_8tap_to;
 
-/// Writes the block to its rectangle.
+/// Writes the block to its rectangle. It is the block of any samples that have, round it, what is read.
 #[inline(always)]
 pub(crate) fn put<T: Pixel>(
     dst: &mut [T],
@@ -29,21 +29,18 @@ pub(crate) fn put<T: Pixel>(
     requires asked { IsPut to (length dst.old) from (length src.now) block }
     requires deep { AreOfDepth bit_depth from (map T.num src.now) block }
     requires depth { bit_depth ≤ T.BITS }
-    ensures { dst.new ≡ paint to.stride (rectangle_at to block.width block.height)
-        (λ r c _. T.pixel (moved_sample bit_depth block (source_at from (map T.num src.now)) r c)) dst.old }
+    ensures { (around : ℕ → ℕ → ℕ) →
+        IsReadFrom block.col_frac block.row_frac block.width block.height (read_at from block (map T.num src.now)) around →
+        dst.new ≡ paint to.stride (rectangle_at to block.width block.height)
+        (λ r c _. T.pixel (moved_sample bit_depth block around r c)) dst.old }
 {
-    let rows = rows_of(src, from, block);
-    let cfg = config_of(from, block, src.len());
-    let place = PlaneSlice::from_slice(rows, &cfg, PlaneOffset { x: 0, y: 0 });
     put_8tap_to(
         dst,
         to.stride,
         rectangle_at(to, block.width, block.height),
-        place,
-        i32::from(block.col_frac),
-        i32::from(block.row_frac),
-        filter_along(block.filter_x, block.width),
-        filter_along(block.filter_y, block.height),
+        read_from(src, from, block),
+        from.stride,
+        moved_by(block),
         bit_depth,
     );
 }
@@ -101,12 +98,14 @@ fn test_tested_put(
 /// `src_x` of row `src_y` on, moved by the block's fractions. All other samples of `dst` are unchanged. Rows are
 /// `dst_stride` and `src_stride` samples apart. A side of at most 4 samples uses the filters for such sides.
 ///
-/// The call reads 3 columns and rows before the block and 4 after it, at every fraction.
+/// In a direction in which the block is moved by part of a sample, the call reads 3 columns (or rows) before the block
+/// and 4 after it. In a direction in which it isn't, the call reads only the block's own. The last row that is read may
+/// end with its samples.
 ///
 /// `DONE`: success. `BAD_SIZE`: the width or the height is 0 or above 128. `BAD_MODE`: no filter has this number.
 /// `BAD_FRACTION`: a fraction is 16 or more. `BAD_AREA`: the rectangle does not lie in `dst`, or the samples that are
 /// read do not lie in `src`.
-pub fn av1_put_8tap_8(
+pub fn tilg_put_8tap_8(
     dst: &mut [u8],
     dst_stride: usize,
     dst_x: usize,
@@ -140,10 +139,10 @@ pub fn av1_put_8tap_8(
     }
 }
 
-/// Predicts as [`av1_put_8tap_8`] does, in samples of 16 bits at a depth of 8, 10 or 12.
+/// Predicts as [`tilg_put_8tap_8`] does, in samples of 16 bits at a depth of 8, 10 or 12.
 ///
 /// `BAD_DEPTH`: samples have no such depth. `BAD_SAMPLE`: a sample that is read is past the depth.
-pub fn av1_put_8tap_16(
+pub fn tilg_put_8tap_16(
     dst: &mut [u16],
     dst_stride: usize,
     dst_x: usize,
@@ -177,9 +176,9 @@ pub fn av1_put_8tap_16(
     }
 }
 
-/// Predicts as [`av1_put_8tap_16`] does, but does not test the samples. The caller has to ensure that no sample that is
-/// read is past the depth. `av1_test_samples_16` tests a whole reference.
-pub fn av1_put_tested_16(
+/// Predicts as [`tilg_put_8tap_16`] does, but does not test the samples. The caller has to ensure that no sample that
+/// is read is past the depth. `tilg_test_samples_16` tests a whole reference.
+pub fn tilg_put_tested_16(
     dst: &mut [u16],
     dst_stride: usize,
     dst_x: usize,
@@ -191,7 +190,7 @@ pub fn av1_put_tested_16(
     block: &MotionBlock,
     bit_depth: usize,
 ) -> u32
-    requires { AreWithinDepth bit_depth (source_at (place src_stride src_x src_y) src.now) (block.now.width + 7) (block.now.height + 7) }
+    requires { IsReadWithin bit_depth (place src_stride src_x src_y) block.now src.now }
     ensures { Puts true bit_depth (place dst_stride dst_x dst_y) (place src_stride src_x src_y) block.now src.now dst.old dst.new result }
 {
     let block = *block;

@@ -169,7 +169,7 @@ fn put_moved<T: Pixel>(
 /// `DONE`: success. `BAD_SIZE`: the width or the height is 0 or above 128. `BAD_MODE`: no filter has this number.
 /// `BAD_AREA`: the plane has no samples or does not lie in `src`, or the rectangle does not lie in `dst`. It is also
 /// the status if the plane's dimensions or the block's position are above 65,536. `TOO_SHORT`: the window is too short.
-pub fn av1_put_moved_8(
+pub fn tilg_put_moved_8(
     dst: &mut [u8],
     dst_stride: usize,
     dst_x: usize,
@@ -197,12 +197,12 @@ pub fn av1_put_moved_8(
     }
 }
 
-/// Predicts as [`av1_put_moved_8`] does, in samples of 16 bits at a depth of 8, 10 or 12. The call does not test the
-/// samples. The caller has to ensure that no sample that is read is past the depth. `av1_test_samples_16` tests a whole
-/// reference.
+/// Predicts as [`tilg_put_moved_8`] does, in samples of 16 bits at a depth of 8, 10 or 12. The call does not test the
+/// samples. The caller has to ensure that no sample that is read is past the depth. `tilg_test_samples_16` tests a
+/// whole reference.
 ///
 /// `BAD_DEPTH`: samples have no such depth.
-pub fn av1_put_moved_16(
+pub fn tilg_put_moved_16(
     dst: &mut [u16],
     dst_stride: usize,
     dst_x: usize,

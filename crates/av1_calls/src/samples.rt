@@ -2,7 +2,7 @@
 ghost use Rattle.std.specs.Prelude.{◌≡◌, true, ℕ, ◌+◌, ◌*◌, ◌^◌, ◌<◌, ◌≤◌, length, slice_index};
 ghost use Rattle.av1_blocks.specs.Depths.{IsDepth};
 ghost use Rattle.av1_frame.specs.Areas.{AreRows};
-ghost use Rattle.av1_calls.specs.Samples.{AreBelow, AreLanesBelow, IsGreatest, TakesIn, TakesInRows, rectangle_of};
+ghost use Rattle.av1_calls.specs.Samples.{AreBelow, AreHeld, AreLanesBelow, IsGreatest, TakesIn, TakesInRows, rectangle_of};
 
 use av1_frame::StoredArea;
 use std::simd::prelude::*;
@@ -47,7 +47,7 @@ fn greatest_from(samples: &[u16], start: usize, count: usize, least: u16) -> u16
 
 // The greatest sample of a rectangle, or 0 if the rectangle has none.
 fn greatest_of(samples: &[u16], stride: usize, area: StoredArea) -> u16
-    requires { AreRows stride area (length samples.now) }
+    requires { AreHeld stride area (length samples.now) }
     ensures { IsGreatest stride area samples.now result }
 {
     let mut greatest = 0;
@@ -87,17 +87,16 @@ fn with_row(greatest: u16x8, samples: &[u16], start: usize, width: usize, eights
 // Eight lanes of greatest samples of a rectangle. Each sample of the rectangle counts in at least one lane.
 #[inline(always)]
 fn greatest_lanes(samples: &[u16], stride: usize, area: StoredArea, eights: usize) -> u16x8
-    requires rows { AreRows stride area (length samples.now) }
+    requires rows { AreHeld stride area (length samples.now) }
     requires some { 8 ≤ area.width }
     requires eights { 8 * eights ≤ area.width }
     requires rest { area.width ≤ 8 * eights + 8 }
     ensures { TakesInRows stride area samples.now area.height result }
 {
     let mut lanes = u16x8::splat(0);
-    let mut start = area.y * stride + area.x;
-    for _row in 0..area.height {
+    for r in 0..area.height {
+        let start = (area.y + r) * stride + area.x;
         lanes = with_row(lanes, samples, start, area.width, eights);
-        start += stride;
     }
     lanes
 }
@@ -119,7 +118,7 @@ fn are_wide_below(
     eights: usize,
     bound: u16,
 ) -> bool
-    requires rows { AreRows stride area (length samples.now) }
+    requires rows { AreHeld stride area (length samples.now) }
     requires some { 0 < bound }
     requires some_columns { 8 ≤ area.width }
     requires eights { 8 * eights ≤ area.width }
@@ -141,7 +140,7 @@ fn are_any_below(
     height: usize,
     bound: u16,
 ) -> bool
-    requires rows { AreRows stride (rectangle_of x y width height) (length samples.now) }
+    requires rows { AreHeld stride (rectangle_of x y width height) (length samples.now) }
     requires some { 0 < bound }
     ensures true_is { result ≡ true → AreBelow bound stride (rectangle_of x y width height) samples.now }
     ensures is_true { AreBelow bound stride (rectangle_of x y width height) samples.now → result ≡ true }
@@ -171,7 +170,7 @@ fn are_below(
     height: usize,
     bound: u16,
 ) -> bool
-    requires rows { AreRows stride (rectangle_of x y width height) (length samples.now) }
+    requires rows { AreHeld stride (rectangle_of x y width height) (length samples.now) }
     requires some { 0 < bound }
     ensures true_is { result ≡ true → AreBelow bound stride (rectangle_of x y width height) samples.now }
     ensures is_true { AreBelow bound stride (rectangle_of x y width height) samples.now → result ≡ true }
@@ -207,10 +206,15 @@ fn bound_of(bit_depth: usize) -> u16
     1 << bit_depth
 }
 
-// Whether no sample of a rectangle is past the depth.
+// Whether no sample of a rectangle is past the depth. The last row may end with its samples.
 #[inline(always)]
-pub(crate) fn are_within(samples: &[u16], stride: usize, area: StoredArea, bit_depth: usize) -> bool
-    requires rows { AreRows stride area (length samples.now) }
+pub(crate) fn are_held_within(
+    samples: &[u16],
+    stride: usize,
+    area: StoredArea,
+    bit_depth: usize,
+) -> bool
+    requires rows { AreHeld stride area (length samples.now) }
     requires depths { IsDepth bit_depth }
     ensures true_is { result ≡ true → AreBelow (2 ^ bit_depth) stride area samples.now }
     ensures is_true { AreBelow (2 ^ bit_depth) stride area samples.now → result ≡ true }
@@ -224,4 +228,40 @@ pub(crate) fn are_within(samples: &[u16], stride: usize, area: StoredArea, bit_d
         area.height,
         bound_of(bit_depth),
     )
+}
+
+// The same for a rectangle of whole rows.
+#[inline(always)]
+pub(crate) fn are_within(samples: &[u16], stride: usize, area: StoredArea, bit_depth: usize) -> bool
+    requires rows { AreRows stride area (length samples.now) }
+    requires depths { IsDepth bit_depth }
+    ensures true_is { result ≡ true → AreBelow (2 ^ bit_depth) stride area samples.now }
+    ensures is_true { AreBelow (2 ^ bit_depth) stride area samples.now → result ≡ true }
+{
+    are_held_within(samples, stride, area, bit_depth)
+}
+
+// Whether row `last` ends in `samples` samples. The product has twice the bits of a `usize`, so it can't overflow.
+#[inline(always)]
+fn ends_within(last: usize, stride: usize, right: usize, samples: usize) -> bool
+    ensures true_is { result ≡ true → last * stride + right ≤ samples }
+    ensures is_true { last * stride + right ≤ samples → result ≡ true }
+{
+    last as u128 * stride as u128 + right as u128 <= samples as u128
+}
+
+/// Whether each row of the rectangle ends in `samples` samples, in rows of this stride.
+#[inline(always)]
+pub(crate) fn are_held(stride: usize, area: StoredArea, samples: usize) -> bool
+    requires { 0 < area.height }
+    ensures true_is { result ≡ true → AreHeld stride area samples }
+    ensures is_true { AreHeld stride area samples → result ≡ true }
+{
+    let Some(right) = area.x.checked_add(area.width) else {
+        return false;
+    };
+    let Some(last) = area.y.checked_add(area.height - 1) else {
+        return false;
+    };
+    0 < stride && right <= stride && samples < 1 << 63 && ends_within(last, stride, right, samples)
 }

@@ -85,7 +85,7 @@ fn smooth_number(parameters: IntraEdgeFilterParameters) -> u8
 /// counts if it is predicted from its own frame.
 ///
 /// `DONE`: success. `BAD_MODE`: no mode has the number of a neighbour.
-pub fn av1_smooth_neighbour(smooth: &mut u8, neighbours: &Neighbours) -> u32
+pub fn tilg_smooth_neighbour(smooth: &mut u8, neighbours: &Neighbours) -> u32
     ensures { TellsSmooth neighbours.now smooth.old smooth.new result }
 {
     match parameters_of(*neighbours) {

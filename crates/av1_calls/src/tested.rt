@@ -34,13 +34,13 @@ fn test_area(
     Ok(())
 }
 
-/// Tests that no sample of a rectangle is past a depth of 8, 10 or 12. `av1_put_tested_16` and `av1_prep_tested_16`
+/// Tests that no sample of a rectangle is past a depth of 8, 10 or 12. `tilg_put_tested_16` and `tilg_prep_tested_16`
 /// require this of the samples that they read. The rectangle begins at column `x` of row `y`, and rows are `stride`
 /// samples apart.
 ///
 /// `DONE`: no sample is past the depth. `BAD_AREA`: the rectangle does not lie in the samples. `BAD_DEPTH`: samples
 /// have no such depth. `BAD_SAMPLE`: a sample of the rectangle is past the depth.
-pub fn av1_test_samples_16(
+pub fn tilg_test_samples_16(
     samples: &[u16],
     stride: usize,
     x: usize,

@@ -251,7 +251,7 @@ pub(crate) fn add_deep(
 ///
 /// `DONE`: success. `BAD_SIZE`, `BAD_TYPE`: no size or type has this number, or the size has no such type. `BAD_AREA`:
 /// the rectangle does not lie in the samples.
-pub fn av1_inverse_transform_add_8(
+pub fn tilg_inverse_transform_add_8(
     scratch: &mut TxRoom,
     coefficients: &[i16],
     samples: &mut [u8],
@@ -286,13 +286,13 @@ pub fn av1_inverse_transform_add_8(
     }
 }
 
-/// Adds the residual as [`av1_inverse_transform_add_8`] does, to samples of 16 bits at a depth of 8, 10 or 12. If a
+/// Adds the residual as [`tilg_inverse_transform_add_8`] does, to samples of 16 bits at a depth of 8, 10 or 12. If a
 /// sample is past the depth, its sum is clipped to the depth. The call follows AV1, also where rav1e's transforms
-/// differ. `av1_inverse_transform_add_rav1e_16` follows rav1e.
+/// differ. `tilg_inverse_transform_add_rav1e_16` follows rav1e.
 ///
 /// `BAD_DEPTH`: samples have no such depth. `BAD_COEFFICIENT`: a coefficient of the transform has more than `bit_depth
 /// + 8` bits, including its sign.
-pub fn av1_inverse_transform_add_16(
+pub fn tilg_inverse_transform_add_16(
     scratch: &mut TxRoom,
     coefficients: &[i32],
     samples: &mut [u16],
@@ -323,10 +323,10 @@ pub fn av1_inverse_transform_add_16(
     }
 }
 
-/// Adds the residual as [`av1_inverse_transform_add_16`] does, but by rav1e's rule. The two rules differ at depths
+/// Adds the residual as [`tilg_inverse_transform_add_16`] does, but by rav1e's rule. The two rules differ at depths
 /// above 8. At a depth of 12, rav1e's identities of 4 and 16 values along rows wrap at 32 bits, and AV1's don't. And
 /// rav1e clamps lossless blocks (`WHT_WHT`) between the passes, as it clamps all others.
-pub fn av1_inverse_transform_add_rav1e_16(
+pub fn tilg_inverse_transform_add_rav1e_16(
     scratch: &mut TxRoom,
     coefficients: &[i32],
     samples: &mut [u16],

@@ -96,14 +96,14 @@ fn add_clamped(
     }
 }
 
-/// Adds the residual as `av1_inverse_transform_add_16` does, but clamps coefficients instead of rejecting them. A
+/// Adds the residual as `tilg_inverse_transform_add_16` does, but clamps coefficients instead of rejecting them. A
 /// coefficient of more than `bit_depth + 8` bits, including its sign, becomes the nearest number that fits. AV1 clamps
 /// dequantized coefficients in the same way: the specification's "Reconstruction process". Coefficients for samples of
 /// 8 bits always fit, so there is no such call for them.
 ///
 /// `DONE`: success. `BAD_SIZE`, `BAD_TYPE`: no size or type has this number, or the size has no such type. `BAD_AREA`:
 /// the rectangle does not lie in the samples. `BAD_DEPTH`: samples have no such depth.
-pub fn av1_inverse_transform_add_clamped_16(
+pub fn tilg_inverse_transform_add_clamped_16(
     scratch: &mut TxRoom,
     coefficients: &[i32],
     samples: &mut [u16],

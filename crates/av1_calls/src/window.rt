@@ -3,14 +3,14 @@
 //!
 //! AV1 specification: block inter prediction process.
 ghost use Rattle.std.specs.Prelude.{◌≡◌, ◌+◌, ◌-ℤ◌, ◌+ℤ◌, ◌<◌, ◌≤◌, ◌≤ℤ◌, length, pos, slice_index_or};
-ghost use Rattle.av1_calls.specs.MovedBlocks.{nearest_place, visible_of};
+ghost use Rattle.av1_calls.specs.MovedBlocks.{AreParts, gathered_column, nearest_place, visible_of};
 ghost use Rattle.av1_frame.specs.Areas.{AreRows};
 ghost use Rattle.av1_frame.specs.Samples.{paint, paint_row};
 ghost use Rattle.av1_frame.specs.Slices.{nearest_visible};
 
 use crate::intra_edge::signed;
 use crate::motion_place::MotionPlane;
-use av1_frame::{Pixel, StoredArea};
+use av1_frame::{Pixel, StoredArea, copy_row, fill_row};
 
 /// The visible column or row that is nearest to a place. There are `visible` of them.
 #[inline(always)]
@@ -39,23 +39,60 @@ fn nearest_behind(first: isize, steps: usize, visible: usize) -> usize
     nearest(place, visible)
 }
 
-/// Copies `width` samples of `source`, from column `first` on, to the front of the row. `visible` samples of `source`
-/// are visible.
+/// How the columns of a window's row lie in a plane: the first `before` before the first visible column, then `inside`
+/// visible ones from column `start` on, and the others after the last visible column.
+#[derive(Clone, Copy)]
+struct Parts {
+    before: usize,
+    start: usize,
+    inside: usize,
+}
+
+/// The parts of `count` columns from `first` on. `visible` columns are visible.
 #[inline(always)]
-#[tactic(auto, using(av1_frame::proofs::Paint::row_painting))]
-fn gather_row<T: Pixel>(row: &mut [T], source: &[T], first: isize, visible: usize, width: usize)
+fn parts_of(first: isize, count: usize, visible: usize) -> Parts
+    requires some { 0 < visible }
+    ensures { AreParts first count visible result.before result.start result.inside }
+{
+    let steps = first.unsigned_abs();
+    if first < 0 {
+        let before = count.min(steps);
+        Parts {
+            before,
+            start: 0,
+            inside: visible.min(count - before),
+        }
+    } else {
+        let start = visible.min(steps);
+        Parts {
+            before: 0,
+            start,
+            inside: count.min(visible - start),
+        }
+    }
+}
+
+/// Copies `width` columns of `source` to the front of the row. `visible` samples of `source` are visible. Columns
+/// outside them have the value of the nearest one.
+#[inline(always)]
+fn gather_row<T: Pixel>(row: &mut [T], source: &[T], parts: Parts, width: usize, visible: usize)
     requires row_long { width ≤ length row.old }
     requires source_long { visible ≤ length source.now }
     requires some { 0 < visible }
-    requires least { (pos 0 -ℤ pos 256) ≤ℤ first }
-    requires greatest { first ≤ℤ pos 131072 }
-    requires few { width ≤ 256 }
-    ensures { row.new ≡ paint_row width (λ c v. slice_index_or source.now (nearest_visible visible (first +ℤ pos c)) v) row.old }
+    requires fits { parts.before + parts.inside ≤ width }
+    requires stored { parts.start + parts.inside ≤ visible }
+    ensures { row.new ≡ paint_row width (λ c v. slice_index_or source.now (gathered_column parts.before parts.start parts.inside visible c) v) row.old }
 {
-    for c in 0..width {
-        let column = nearest_behind(first, c, visible);
-        row[c] = source[column];
-    }
+    let (before, rest) = row.split_at_mut(parts.before);
+    let (inside, behind) = rest.split_at_mut(parts.inside);
+    let (_, from) = source.split_at(parts.start);
+    fill_row(before, source[0], parts.before);
+    copy_row(inside, from, parts.inside);
+    fill_row(
+        behind,
+        source[visible - 1],
+        width - parts.before - parts.inside,
+    );
 }
 
 /// Fills the rectangle of `window` with the samples of a plane from column `x` of row `y` on, counted from the first
@@ -82,10 +119,11 @@ pub(crate) fn gather<T: Pixel>(
     requires few_rows { area.height ≤ 256 }
     ensures { window.new ≡ paint stride area (λ r c v. slice_index_or source.now (nearest_place plane (x +ℤ pos c) (y +ℤ pos r)) v) window.old }
 {
+    let parts = parts_of(x, area.width, plane.width);
     for r in 0..area.height {
         let line = nearest_behind(y, r, plane.height);
         let (_, from) = source.split_at((plane.y + line) * plane.stride + plane.x);
         let (_, row) = window.split_at_mut((area.y + r) * stride + area.x);
-        gather_row(row, from, x, plane.width, area.width);
+        gather_row(row, from, parts, area.width, plane.width);
     }
 }

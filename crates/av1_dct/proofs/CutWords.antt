@@ -1,9 +1,8 @@
 -- Transforms in lanes of 16 bits: words that are cut, run and written out again.
-use Rattle.std.proofs.Common.{refl, ℕ, suc, ◌≡◌, ◌*◌, ◌^◌, ◌<◌, ◌≤◌, ℤ, pos, List, ◌++◌, map, take, drop, length, arith, ap, sym, ◌∙◌, inl, inr}
+use Rattle.std.proofs.Common.{refl, ℕ, suc, ◌≡◌, ◌*◌, ◌^◌, ◌<◌, ℤ, pos, List, ◌++◌, map, take, drop, length, arith, ap, sym, ◌∙◌}
 use Rattle.std.specs.List.{All}
 use Rattle.std.proofs.Math.Nat.{pow-suc}
-use Rattle.std.proofs.lemmas.Bool.{cases_lt}
-use Rattle.std.proofs.lemmas.List.{ext_get_or, get_or-take, get_or_past, length-map, length-take-le, take-map, take_at}
+use Rattle.std.proofs.lemmas.List.{get_or-take, length-map, take-map, take_at}
 use Rattle.std.proofs.lemmas.List.FromFn.{fill_by_all}
 use Rattle.av1_lists.specs.Lists.{by_index}
 use Rattle.av1_lists.proofs.Lists.{by_index-same}
@@ -12,10 +11,7 @@ use Rattle.av1_dct.specs.Cosine.{brev, cosine}
 use Rattle.av1_dct.specs.InPlace.{cut_place, network}
 use Rattle.av1_dct.specs.Word.{column}
 use Rattle.av1_dct.proofs.Fits.{all-fit, clamped_same}
-use Rattle.av1_dct.specs.Operations.{half_btf}
-use Rattle.av1_dct.proofs.Halves.{cosine-length}
 use Rattle.av1_dct.proofs.Places.{cosine_is}
-use Rattle.av1_dct.proofs.Single.{IsSingle, single}
 use Rattle.av1_dct.proofs.Tables.{brev-lt}
 
 -- two lists of words that agree in a lane, place by place

@@ -1,5 +1,5 @@
 -- What fits in some bits: sums, clamped values and each list of the transform.
-use Rattle.std.proofs.Common.{length, get_or, set, get_or-set_other, ℕ, Bool, true, false, ◌≡◌, ◌+◌, ◌-◌, ◌*◌, ◌/◌, ◌^◌, ◌<◌, ◌≤◌, ◌%◌, ◌||◌, min, nat_lt}
+use Rattle.std.proofs.Common.{length, ℕ, Bool, true, false, ◌≡◌, ◌+◌, ◌-◌, ◌*◌, ◌/◌, ◌^◌, ◌<◌, ◌≤◌, ◌%◌, ◌||◌, min, nat_lt}
 use Rattle.std.proofs.Common.{nat_le, ℤ, pos, negsuc, ◌+ℤ◌, ◌*ℤ◌, List, arith, ap, sym, subst, ◌∙◌, inl, inr, cond, w32, FitsSigned, add-one}
 use Rattle.std.specs.List.{All}
 use Rattle.std.specs.Int.Signed.{shr_z}
@@ -8,7 +8,6 @@ use Rattle.std.proofs.lemmas.Int.{ints, clamps, SFits-int_wrap}
 use Rattle.std.proofs.lemmas.Nat.{pow_pos}
 use Rattle.std.proofs.Math.Pow.{pow_mono}
 use Rattle.std.proofs.lemmas.List.{get_or_past}
-use Rattle.std.proofs.lemmas.Grind.{get_or-set_at}
 use Rattle.std.proofs.lemmas.List.FromFn.{get_or-map-range_with_len, length-map-range_with_len}
 use Rattle.av1_dct.specs.Arithmetic.{AllFit, FitsBits, clamp_value}
 use Rattle.av1_dct.specs.Operations.{half_btf, half_btf_with}

@@ -1,5 +1,6 @@
 -- What one turn of the fused steps does, and that the turns together do the whole step. All of it is computed, for each length.
-use Rattle.std.proofs.Common.{refl, arith, zero, suc, ℕ, ◌≡◌, ◌<◌, ◌≤◌, ◌+◌, ◌-◌, ◌*◌, ◌/◌, ◌%◌, ◌==◌, ◌^◌, false, min, ◌++◌, nat_lt, if◌then◌else◌, neg_ℤ, ℤ}
+use Rattle.std.proofs.Common.{refl, arith, zero, suc, ℕ, ◌≡◌, ◌<◌, ◌≤◌, ◌+◌, ◌-◌, ◌*◌, ◌/◌, ◌%◌, ◌==◌, ◌^◌, false, not, min, ◌++◌, nat_lt, if◌then◌else◌}
+use Rattle.std.proofs.Common.{neg_ℤ, ℤ}
 use Rattle.std.proofs.Common.{pos, List, [], ◌∷◌, length}
 use Rattle.std.proofs.lemmas.Bool.Decides.{nat_tests}
 use Rattle.std.proofs.lemmas.List.FromFn.{fill_by_all}
@@ -24,7 +25,7 @@ begin_turn range k n v =
     let tq = half_btf (cos128 a) (at v p) (cos128 (64 - a)) (at v q) in
     let te = half_btf (cos128 (64 - b)) (at v e) (neg_ℤ (cos128 b)) (at v f) in
     let tf = half_btf (cos128 b) (at v e) (cos128 (64 - b)) (at v f) in
-    paired (f / 2 % 2 == 1) range f q tf tq (paired (n % 2 == 1) range p e tp te v)
+    paired (not (n % 2 == 1)) range f q tf tq (paired (n % 2 == 1) range p e tp te v)
 
 -- round j's rotations and the sums behind them, at turn n
 abbrev pub round_turn : (range k j n : ℕ) → List ℤ → List ℤ
@@ -32,37 +33,69 @@ round_turn range k j n v =
     let m = 2 ^ k in
     let h = 2 ^ j in
     let d = n / h in
-    let r = n % h in
-    let start = d * (4 * h) in
-    let upper = m - 4 * h - start in
     let odd = d % 2 == 1 in
-    let odd_above = upper / (4 * h) % 2 == 1 in
+    let first = d * (4 * h) + n % h in
+    let last = d * (4 * h) + 4 * h - 1 - n % h in
     let b = 128 * h / m * (4 * brev (k - j - 3) d + 1) in
-    let v1 = paired odd range (start + r) (start + 4 * h - 1 - r) (at v (start + r)) (at v (start + 4 * h - 1 - r)) v in
-    let v2 = paired odd_above range (upper + r) (upper + 4 * h - 1 - r) (at v1 (upper + r)) (at v1 (upper + 4 * h - 1 - r)) v1 in
-    let p = start + h + r in
-    let e = start + 3 * h - 1 - r in
+    let v1 = paired odd range first last (at v first) (at v last) v in
+    let v2 = paired (not odd) range (m - 1 - last) (m - 1 - first) (at v1 (m - 1 - last)) (at v1 (m - 1 - first)) v1 in
+    let p = first + h in
+    let e = last - h in
     let q = m - 1 - p in
     let f = m - 1 - e in
     let tp = half_btf (neg_ℤ (cos128 b)) (at v2 p) (cos128 (64 - b)) (at v2 q) in
     let tq = half_btf (cos128 (64 - b)) (at v2 p) (cos128 b) (at v2 q) in
     let te = half_btf (neg_ℤ (cos128 (64 - b))) (at v2 e) (neg_ℤ (cos128 b)) (at v2 f) in
     let tf = half_btf (neg_ℤ (cos128 b)) (at v2 e) (cos128 (64 - b)) (at v2 f) in
-    paired odd_above range f q tf tq (paired odd range p e tp te v2)
+    paired (not odd) range f q tf tq (paired odd range p e tp te v2)
 
 -- the last rotations and the sums of both halves, at turn n
 abbrev pub end_turn : (range k n : ℕ) → List ℤ → List ℤ
 end_turn range k n w =
     let m = 2 ^ k in
-    let h = 2 ^ (k - 2) in
-    let b = 128 * h / m * (4 * brev (k - (k - 2) - 3) 0 + 1) in
+    let b = 128 * 2 ^ (k - 2) / m * (4 * brev (k - (k - 2) - 3) 0 + 1) in
     let w1 = paired false range n (2 * m - 1 - n) (at w n) (at w (2 * m - 1 - n)) w in
     let w2 = paired false range (m - 1 - n) (m + n) (at w1 (m - 1 - n)) (at w1 (m + n)) w1 in
-    let p = h + n in
+    let p = m / 4 + n in
     let q = m - 1 - p in
     let tp = half_btf (neg_ℤ (cos128 b)) (at w2 (m + p)) (cos128 (64 - b)) (at w2 (m + q)) in
     let tq = half_btf (cos128 (64 - b)) (at w2 (m + p)) (cos128 b) (at w2 (m + q)) in
     paired false range p (m + q) (at w2 p) tq (paired false range q (m + p) (at w2 q) tp w2)
+
+-- a turn, step by step, from the numbers that the code computes
+pub begin_turned : (range k n m a b : ℕ) (v v1 v2 : List ℤ) (tp tq te tf : ℤ) → m ≡ 2 ^ k →
+    a ≡ 32 / 2 ^ k * (2 * brev k (2 * n) + 1) → b ≡ 32 / 2 ^ k * (2 * brev k (2 * n + 1) + 1) →
+    tp ≡ half_btf (cos128 (64 - a)) (at v (2 * n)) (neg_ℤ (cos128 a)) (at v (m - 1 - 2 * n)) →
+    tq ≡ half_btf (cos128 a) (at v (2 * n)) (cos128 (64 - a)) (at v (m - 1 - 2 * n)) →
+    te ≡ half_btf (cos128 (64 - b)) (at v (2 * n + 1)) (neg_ℤ (cos128 b)) (at v (m - 1 - (2 * n + 1))) →
+    tf ≡ half_btf (cos128 b) (at v (2 * n + 1)) (cos128 (64 - b)) (at v (m - 1 - (2 * n + 1))) →
+    v1 ≡ paired (n % 2 == 1) range (2 * n) (2 * n + 1) tp te v →
+    v2 ≡ paired (not (n % 2 == 1)) range (m - 1 - (2 * n + 1)) (m - 1 - 2 * n) tf tq v1 → v2 ≡ begin_turn range k n v
+begin_turned range k n m a b v v1 v2 tp tq te tf em ea eb ep eq ee ef e1 e2 = cc
+
+pub round_turned : (range k j n m h d first last b : ℕ) (v v1 v2 v3 v4 : List ℤ) (tp tq te tf : ℤ) → m ≡ 2 ^ k → h ≡ 2 ^ j → d ≡ n / 2 ^ j →
+    first ≡ n / 2 ^ j * (4 * 2 ^ j) + n % 2 ^ j → last ≡ n / 2 ^ j * (4 * 2 ^ j) + 4 * 2 ^ j - 1 - n % 2 ^ j →
+    b ≡ 128 * 2 ^ j / 2 ^ k * (4 * brev (k - j - 3) d + 1) →
+    v1 ≡ paired (d % 2 == 1) range first last (at v first) (at v last) v →
+    v2 ≡ paired (not (d % 2 == 1)) range (m - 1 - last) (m - 1 - first) (at v1 (m - 1 - last)) (at v1 (m - 1 - first)) v1 →
+    tp ≡ half_btf (neg_ℤ (cos128 b)) (at v2 (first + h)) (cos128 (64 - b)) (at v2 (m - 1 - (first + h))) →
+    tq ≡ half_btf (cos128 (64 - b)) (at v2 (first + h)) (cos128 b) (at v2 (m - 1 - (first + h))) →
+    te ≡ half_btf (neg_ℤ (cos128 (64 - b))) (at v2 (last - h)) (neg_ℤ (cos128 b)) (at v2 (m - 1 - (last - h))) →
+    tf ≡ half_btf (neg_ℤ (cos128 b)) (at v2 (last - h)) (cos128 (64 - b)) (at v2 (m - 1 - (last - h))) →
+    v3 ≡ paired (d % 2 == 1) range (first + h) (last - h) tp te v2 →
+    v4 ≡ paired (not (d % 2 == 1)) range (m - 1 - (last - h)) (m - 1 - (first + h)) tf tq v3 → v4 ≡ round_turn range k j n v
+round_turned range k j n m h d first last b v v1 v2 v3 v4 tp tq te tf em eh ed e0 ez eb e1 e2 ep eq ee ef e3 e4 = cc
+
+pub end_turned : (range k n m b : ℕ) (w w1 w2 w3 w4 : List ℤ) (x y tp tq : ℤ) → m ≡ 2 ^ k →
+    b ≡ 128 * 2 ^ (k - 2) / 2 ^ k * (4 * brev (k - (k - 2) - 3) 0 + 1) →
+    w1 ≡ paired false range n (2 * m - 1 - n) (at w n) (at w (2 * m - 1 - n)) w →
+    w2 ≡ paired false range (m - 1 - n) (m + n) (at w1 (m - 1 - n)) (at w1 (m + n)) w1 →
+    x ≡ at w2 (m - 1 - (m / 4 + n)) → y ≡ at w2 (m / 4 + n) →
+    tp ≡ half_btf (neg_ℤ (cos128 b)) (at w2 (m + (m / 4 + n))) (cos128 (64 - b)) (at w2 (m + (m - 1 - (m / 4 + n)))) →
+    tq ≡ half_btf (cos128 (64 - b)) (at w2 (m + (m / 4 + n))) (cos128 b) (at w2 (m + (m - 1 - (m / 4 + n)))) →
+    w3 ≡ paired false range (m - 1 - (m / 4 + n)) (m + (m / 4 + n)) x tp w2 →
+    w4 ≡ paired false range (m / 4 + n) (m + (m - 1 - (m / 4 + n))) y tq w3 → w4 ≡ end_turn range k n w
+end_turned range k n m b w w1 w2 w3 w4 x y tp tq em eb e1 e2 ex ey ep eq e3 e4 = cc
 
 -- each turn follows on those before it
 pub begin_next : (range k n : ℕ) (u : List ℤ) → 2 ≤ k → k ≤ 5 → n < 2 ^ k / 4 → begin_turn range k n (begun range k n u) ≡ begun range k (n + 1) u
@@ -343,6 +376,11 @@ four_turn range w =
     let x = half_btf (cos128 48) (at w 2) (neg_ℤ (cos128 16)) (at w 3) in
     let y = half_btf (cos128 16) (at w 2) (cos128 48) (at w 3) in
     paired false range 1 2 b x (paired false range 0 3 a y w)
+
+pub four_turned : (range : ℕ) (w w1 w2 : List ℤ) (a b x y : ℤ) → b ≡ half_btf (cos128 32) (at w 0) (neg_ℤ (cos128 32)) (at w 1) →
+    a ≡ half_btf (cos128 32) (at w 0) (cos128 32) (at w 1) → x ≡ half_btf (cos128 48) (at w 2) (neg_ℤ (cos128 16)) (at w 3) →
+    y ≡ half_btf (cos128 16) (at w 2) (cos128 48) (at w 3) → w1 ≡ paired false range 0 3 a y w → w2 ≡ paired false range 1 2 b x w1 → w2 ≡ four_turn range w
+four_turned range w w1 w2 a b x y eb ea ex ey e1 e2 = cc
 
 pub four_is : (range : ℕ) (w : List ℤ) → length w ≡ 4 → four_turn range w ≡ network range 1 w
 unfolding network mirror_sum_with outer_turn_with rounds_with brev

@@ -10,7 +10,7 @@ use Rattle.std.proofs.lemmas.List.{get_or-map, get_or_default, length-map, lengt
 use Rattle.std.proofs.lemmas.List.Edits.{fill_by_more}
 use Rattle.std.proofs.lemmas.Simd.{get_or-zip2, length-zip2, get_or-replicate, get_or-sel_l, length-sel_l, tops_compared}
 use Rattle.std.proofs.lemmas.Int.{ints, to_z-of_z, of_z-to_z}
-use Rattle.av1_dct.specs.Arithmetic.{FitsBits, at, clamp_value, round12, wrap32}
+use Rattle.av1_dct.specs.Arithmetic.{at, clamp_value, round12, wrap32}
 use Rattle.av1_dct.specs.Operations.{half_btf}
 use Rattle.av1_dct.specs.Word.{lane_of_vector}
 use Rattle.av1_dct.proofs.Lanes.{Bits, bits_at, lane_made}

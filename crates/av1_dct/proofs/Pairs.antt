@@ -1,5 +1,5 @@
 -- Two places of a list of words that become a clamped sum and difference, lane by lane.
-use Rattle.std.proofs.Common.{refl, zero, suc, [], ◌∷◌, ◌⊎◌, inl, inr, ℕ, ◌≡◌, ◌≤◌, ◌<◌, Bool, true, false, ℤ, ◌+ℤ◌, ◌-ℤ◌, List, length, set, get_or, arith, ap}
+use Rattle.std.proofs.Common.{refl, zero, suc, [], ◌∷◌, ◌⊎◌, inl, inr, ℕ, ◌≡◌, ◌≤◌, Bool, true, false, ℤ, ◌+ℤ◌, ◌-ℤ◌, List, set, arith, ap}
 use Rattle.std.proofs.Common.{sym, subst, ◌∙◌}
 use Rattle.std.proofs.lemmas.Int.{ints}
 use Rattle.std.proofs.lemmas.List.{map-set}
@@ -7,7 +7,6 @@ use Rattle.av1_dct.specs.Arithmetic.{AllFit, FitsBits, at, clamp_value}
 use Rattle.av1_dct.specs.Word.{column}
 use Rattle.av1_dct.specs.InPlace.{paired}
 use Rattle.av1_dct.proofs.Fits.{clamp_value-fits}
-use Rattle.av1_dct.proofs.Places.{column_get}
 
 column_sets : {W : Type 0} (lane : W → ℕ → ℤ) (i p e : ℕ) (v : List W) (a b : W) (x y : ℤ) → lane a i ≡ x → lane b i ≡ y →
     column lane i (set (set v p a) e b) ≡ set (set (column lane i v) p x) e y
@@ -49,8 +48,3 @@ set-fits zs p x fit here = λ i.
 pub paired-fits : (odd : Bool) (range p e : ℕ) (x y : ℤ) (zs : List ℤ) → range ≤ 20 → AllFit 20 zs → AllFit 20 (paired odd range p e x y zs)
 paired-fits true range p e x y zs few fit = set-fits _ e _ (set-fits zs p _ fit (clamp_value-fits _ range few)) (clamp_value-fits _ range few)
 paired-fits false range p e x y zs few fit = set-fits _ e _ (set-fits zs p _ fit (clamp_value-fits _ range few)) (clamp_value-fits _ range few)
-
--- the word that was read from a place
-pub column_at : {W : Type 0} (lane : W → ℕ → ℤ) (i : ℕ) (v : List W) (k q : ℕ) (x : W) → k ≡ q → k < length v → x ≡ get_or v k x →
-    lane x i ≡ at (column lane i v) q
-column_at lane i v k q x same lt is = column_get lane i v k x lt is ∙ ap (at (column lane i v)) same

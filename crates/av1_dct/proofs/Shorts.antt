@@ -1,22 +1,19 @@
 -- Lanes of 16 bits, and the vectors of 32 bits that they are computed in.
-use Rattle.std.proofs.Common.{inl, inr, refl, ℕ, zero, suc, ◌≡◌, ◌+◌, ◌-◌, ◌*◌, ◌%◌, ◌^◌, ◌<◌, ◌≤◌, ◌++◌, ◌&&◌, leb, ltb, Bool, true, false, cond, ℤ, pos}
-use Rattle.std.proofs.Common.{neg_ℤ, ◌+ℤ◌, ◌-ℤ◌, List, [], ◌∷◌, map, replicate, take, length, get_or, arith, ap, sym, subst, ◌∙◌, w16, w32, to_z, of_z, Fits}
+use Rattle.std.proofs.Common.{inl, inr, refl, ℕ, zero, suc, ◌≡◌, ◌+◌, ◌-◌, ◌*◌, ◌%◌, ◌^◌, ◌<◌, ◌≤◌, ◌++◌, ltb, Bool, true, false, cond, ℤ, pos}
+use Rattle.std.proofs.Common.{neg_ℤ, ◌+ℤ◌, ◌-ℤ◌, List, [], ◌∷◌, map, replicate, length, get_or, arith, ap, sym, subst, ◌∙◌, w16, w32, to_z, of_z, Fits}
 use Rattle.std.proofs.Common.{FitsSigned}
 use Rattle.std.proofs.lemmas.Bool.{cases_lt}
-use Rattle.std.proofs.lemmas.Bool.Decides.{nat_tests}
 use Rattle.std.proofs.lemmas.Int.{ints, to_z-of_z, of_z-to_z, int_wrap_fits, wrapping_add-bits, wrapping_sub-bits}
-use Rattle.std.proofs.lemmas.List.{get_or-map, length-map}
 use Rattle.std.proofs.lemmas.Nat.{pow_pos}
-use Rattle.std.proofs.lemmas.Simd.{Each1-get_or, get_or-put_chunk_below, get_or-put_chunk_at, get_or-put_chunk_above}
+use Rattle.std.proofs.lemmas.Simd.{Each1-get_or}
 use Rattle.std.specs.Int.{Width, int_min, int_max}
 use Rattle.std.specs.Int.Signed.{lt_z, shr_z}
-use Rattle.std.specs.List.{All}
-use Rattle.std.specs.Simd.Lanes.{Each1, pick_l, put_chunk, sel_l, top, zip2}
+use Rattle.std.specs.Simd.Lanes.{Each1, pick_l, sel_l, top, zip2}
 use Rattle.av1_lists.specs.Lists.{by_index}
 use Rattle.av1_lists.proofs.Lists.{by_index_is}
-use Rattle.av1_dct.specs.Arithmetic.{FitsBits, at, clamp_value}
+use Rattle.av1_dct.specs.Arithmetic.{FitsBits, clamp_value}
 use Rattle.av1_dct.specs.Operations.{half_btf}
-use Rattle.av1_dct.specs.Word.{column, lane_of_pair, lane_of_short, lane_of_vector}
+use Rattle.av1_dct.specs.Word.{lane_of_pair, lane_of_short, lane_of_vector}
 use Rattle.av1_dct.proofs.Fits.{clamp_value-fits, fits_wider, half_btf-fits}
 use Rattle.av1_dct.proofs.Sums.{sum_fits, difference_fits}
 use Rattle.av1_dct.proofs.Turns.{btf_is, shifted}

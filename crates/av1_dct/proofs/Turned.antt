@@ -1,5 +1,5 @@
 -- Where the turns of the fused steps lie: all of it is computed, for each length.
-use Rattle.std.proofs.Common.{refl, arith, zero, suc, ℕ, ◌≡◌, ◌<◌, ◌≤◌, ◌+◌, ◌-◌, ◌*◌, ◌/◌, ◌%◌, ◌^◌}
+use Rattle.std.proofs.Common.{arith, zero, suc, ℕ, ◌<◌, ◌≤◌, ◌+◌, ◌-◌, ◌*◌, ◌/◌, ◌%◌, ◌^◌}
 
 pub group_in : (k j n : ℕ) → j + 3 ≤ k → k ≤ 5 → n < 2 ^ k / 8 → 2 * (n / 2 ^ j * (4 * 2 ^ j)) + 8 * 2 ^ j ≤ 2 ^ k
 group_in (suc (suc (suc zero))) zero zero low high few = omega arith
@@ -70,15 +70,6 @@ rest_in zero n low = omega arith
 rest_in (suc zero) n low = omega arith
 rest_in (suc (suc zero)) n low = omega arith
 rest_in (suc (suc (suc j))) n low = absurd (omega arith)
-
-pub quarter : (k : ℕ) → 2 ≤ k → k ≤ 5 → 2 ^ (k - 2) ≡ 2 ^ k / 4
-quarter zero low high = absurd (omega arith)
-quarter (suc zero) low high = absurd (omega arith)
-quarter (suc (suc zero)) low high = refl
-quarter (suc (suc (suc zero))) low high = refl
-quarter (suc (suc (suc (suc zero)))) low high = refl
-quarter (suc (suc (suc (suc (suc zero))))) low high = refl
-quarter (suc (suc (suc (suc (suc (suc k)))))) low high = absurd (omega arith)
 
 pub quarter_few : (k : ℕ) → 2 ≤ k → k ≤ 5 → 2 ^ k / 4 ≤ 8
 quarter_few zero low high = absurd (omega arith)

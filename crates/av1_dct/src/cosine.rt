@@ -10,8 +10,8 @@ ghost use Rattle.av1_dct.specs.Cosine.{brev, cosine};
 ghost use Rattle.av1_lists.specs.Lists.{by_index};
 
 use crate::butterfly::Butterfly;
-use crate::steps::{begin, end, put, round};
-use crate::weights::{minus_weight_of, power, reversed_place, weight_of};
+use crate::steps::{begin, end, put, rotate_outer, round};
+use crate::weights::{power, reversed_place};
 use crate::word::Word;
 
 // The transform of 4 words.
@@ -22,14 +22,8 @@ fn network_4<W: Butterfly>(w: &mut [W], range: usize)
     requires len { length w.old ≡ 4 }
     ensures { (i : ℕ) → i < W.LANES → column W.lane_of i w.new ≡ network range 1 (column W.lane_of i w.old) }
 {
-    let (half, minus_half) = (weight_of(32), minus_weight_of(32));
-    let (c, s, minus_s) = (weight_of(48), weight_of(16), minus_weight_of(16));
-    let (w0, w1, w2, w3) = (w[0], w[1], w[2], w[3]);
-    let (a, b) = (
-        W::rotate(half, w0, half, w1),
-        W::rotate(half, w0, minus_half, w1),
-    );
-    let (x, y) = (W::rotate(c, w2, minus_s, w3), W::rotate(s, w2, c, w3));
+    let (b, a) = rotate_outer(w, 0, 1, 32);
+    let (x, y) = rotate_outer(w, 2, 3, 16);
     put(false, w, 0, 3, a, y, range);
     put(false, w, 1, 2, b, x, range);
 }

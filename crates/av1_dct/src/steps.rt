@@ -1,15 +1,16 @@
 //! The steps that make the transform of the odd inputs, in place.
 
-ghost use Rattle.std.specs.Prelude.{◌≡◌, ℕ, ◌+◌, ◌-◌, ◌*◌, ◌/◌, ◌^◌, ◌<◌, ◌≤◌, min, ℤ, List, length};
+ghost use Rattle.std.specs.Prelude.{◌≡◌, ℕ, ◌+◌, ◌-◌, ◌*◌, ◌^◌, ◌<◌, ◌≤◌, min, ℤ, neg_ℤ, List, length};
 ghost use Rattle.av1_dct.specs.Arithmetic.{AllFit, FitsBits, at};
 ghost use Rattle.av1_dct.specs.Word.{column};
 ghost use Rattle.av1_dct.specs.InPlace.{begun, end_all, ended, paired, rounded, sums};
-ghost use Rattle.av1_dct.specs.Cosine.{outer_turn};
+ghost use Rattle.av1_dct.specs.Operations.{half_btf};
+ghost use Rattle.av1_dct.specs.Cosine.{cos128, outer_turn};
 ghost use Rattle.av1_lists.specs.Lists.{by_index};
 
 use crate::butterfly::Butterfly;
 use crate::weights::{
-    group_of, inner_angle, minus_weight_of, outer_angle, place_of, power, weight_of,
+    group_of, inner_angle, minus_weight_of, outer_angle, outer_places, power, weight_of,
 };
 
 // The places p and e become the clamped sum and difference of the results of two rotations; if `odd`, the difference
@@ -77,6 +78,70 @@ fn put_own<W: Butterfly>(odd: bool, v: &mut [W], p: usize, e: usize, range: usiz
     v[e] = x.own_difference(y, range);
 }
 
+// The words at places p and q, rotated by angle a as step 1 rotates a place and its mirror image.
+#[inline(always)]
+pub(crate) fn rotate_outer<W: Butterfly>(
+    v: &[W],
+    p: usize,
+    q: usize,
+    a: usize,
+) -> (W::Wide, W::Wide)
+    requires p_in { p < length v.now }
+    requires q_in { q < length v.now }
+    requires angle { (1 ≤ a) × (a ≤ 63) }
+    ensures first { (i : ℕ) → i < W.LANES → let zs = column W.lane_of i v.now in
+        W.wide_lane_of result.0 i ≡ half_btf (cos128 (64 - a)) (at zs p) (neg_ℤ (cos128 a)) (at zs q) }
+    ensures second { (i : ℕ) → i < W.LANES → let zs = column W.lane_of i v.now in
+        W.wide_lane_of result.1 i ≡ half_btf (cos128 a) (at zs p) (cos128 (64 - a)) (at zs q) }
+    ensures first_fits { (i : ℕ) → i < W.LANES → FitsBits 20 (W.wide_lane_of result.0 i) }
+    ensures second_fits { (i : ℕ) → i < W.LANES → FitsBits 20 (W.wide_lane_of result.1 i) }
+{
+    let (c, s, n) = (weight_of(64 - a), weight_of(a), minus_weight_of(a));
+    let (x, y) = (v[p], v[q]);
+    (W::rotate(c, x, n, y), W::rotate(s, x, c, y))
+}
+
+// The words at places p and q, rotated by angle b as step 3 rotates a place in the first half of its group and its
+// mirror image.
+#[inline(always)]
+fn rotate_inner<W: Butterfly>(v: &[W], p: usize, q: usize, b: usize) -> (W::Wide, W::Wide)
+    requires p_in { p < length v.now }
+    requires q_in { q < length v.now }
+    requires angle { (1 ≤ b) × (b ≤ 63) }
+    ensures first { (i : ℕ) → i < W.LANES → let zs = column W.lane_of i v.now in
+        W.wide_lane_of result.0 i ≡ half_btf (neg_ℤ (cos128 b)) (at zs p) (cos128 (64 - b)) (at zs q) }
+    ensures second { (i : ℕ) → i < W.LANES → let zs = column W.lane_of i v.now in
+        W.wide_lane_of result.1 i ≡ half_btf (cos128 (64 - b)) (at zs p) (cos128 b) (at zs q) }
+    ensures first_fits { (i : ℕ) → i < W.LANES → FitsBits 20 (W.wide_lane_of result.0 i) }
+    ensures second_fits { (i : ℕ) → i < W.LANES → FitsBits 20 (W.wide_lane_of result.1 i) }
+{
+    let (c, s, n) = (weight_of(64 - b), weight_of(b), minus_weight_of(b));
+    let (x, y) = (v[p], v[q]);
+    (W::rotate(n, x, c, y), W::rotate(c, x, s, y))
+}
+
+// The same of a place in the second half of its group.
+#[inline(always)]
+fn rotate_inner_last<W: Butterfly>(v: &[W], p: usize, q: usize, b: usize) -> (W::Wide, W::Wide)
+    requires p_in { p < length v.now }
+    requires q_in { q < length v.now }
+    requires angle { (1 ≤ b) × (b ≤ 63) }
+    ensures first { (i : ℕ) → i < W.LANES → let zs = column W.lane_of i v.now in
+        W.wide_lane_of result.0 i ≡ half_btf (neg_ℤ (cos128 (64 - b))) (at zs p) (neg_ℤ (cos128 b)) (at zs q) }
+    ensures second { (i : ℕ) → i < W.LANES → let zs = column W.lane_of i v.now in
+        W.wide_lane_of result.1 i ≡ half_btf (neg_ℤ (cos128 b)) (at zs p) (cos128 (64 - b)) (at zs q) }
+    ensures first_fits { (i : ℕ) → i < W.LANES → FitsBits 20 (W.wide_lane_of result.0 i) }
+    ensures second_fits { (i : ℕ) → i < W.LANES → FitsBits 20 (W.wide_lane_of result.1 i) }
+{
+    let (c, minus_c, n) = (
+        weight_of(64 - b),
+        minus_weight_of(64 - b),
+        minus_weight_of(b),
+    );
+    let (x, y) = (v[p], v[q]);
+    (W::rotate(minus_c, x, n, y), W::rotate(n, x, c, y))
+}
+
 // Turn N of step 1 and the sums of pairs: at pair N and its mirror image. Past the last it does nothing.
 #[inline(always)]
 fn begin_at<W: Butterfly, const K: usize, const N: usize>(v: &mut [W], range: usize)
@@ -93,14 +158,11 @@ fn begin_at<W: Butterfly, const K: usize, const N: usize>(v: &mut [W], range: us
     }
     let (p, e) = (2 * N, 2 * N + 1);
     let (f, q) = (m - 1 - e, m - 1 - p);
-    let (a, b) = (outer_angle(K, p), outer_angle(K, e));
-    let (c, s, n) = (weight_of(64 - a), weight_of(a), minus_weight_of(a));
-    let (cb, sb, nb) = (weight_of(64 - b), weight_of(b), minus_weight_of(b));
-    let (vp, ve, vf, vq) = (v[p], v[e], v[f], v[q]);
-    let (tp, tq) = (W::rotate(c, vp, n, vq), W::rotate(s, vp, c, vq));
-    let (te, tf) = (W::rotate(cb, ve, nb, vf), W::rotate(sb, ve, cb, vf));
-    put(N % 2 == 1, v, p, e, tp, te, range);
-    put(f / 2 % 2 == 1, v, f, q, tf, tq, range);
+    let odd = N % 2 == 1;
+    let (tp, tq) = rotate_outer(v, p, q, outer_angle(K, p));
+    let (te, tf) = rotate_outer(v, e, f, outer_angle(K, e));
+    put(odd, v, p, e, tp, te, range);
+    put(!odd, v, f, q, tf, tq, range);
 }
 
 // Turn N of round J's rotations and of the sums of twice as large groups behind them: two pairs in a group of 2^(J+2)
@@ -122,22 +184,18 @@ fn round_at<W: Butterfly, const K: usize, const J: usize, const N: usize>(v: &mu
     if m / 8 <= N {
         return;
     }
-    let (d, r) = (group_of(K, J, N), place_of(J, N));
-    let start = d * (4 * h);
-    let upper = m - 4 * h - start;
-    let (odd, odd_above) = (d % 2 == 1, upper / (4 * h) % 2 == 1);
-    put_own(odd, v, start + r, start + 4 * h - 1 - r, range);
-    put_own(odd_above, v, upper + r, upper + 4 * h - 1 - r, range);
+    let d = group_of(K, J, N);
+    let odd = d % 2 == 1;
+    let (first, last) = outer_places(K, J, N);
+    put_own(odd, v, first, last, range);
+    put_own(!odd, v, m - 1 - last, m - 1 - first, range);
     let b = inner_angle(K, J, d);
-    let (c, s) = (weight_of(64 - b), weight_of(b));
-    let (nc, ns) = (minus_weight_of(64 - b), minus_weight_of(b));
-    let (p, e) = (start + h + r, start + 3 * h - 1 - r);
+    let (p, e) = (first + h, last - h);
     let (q, f) = (m - 1 - p, m - 1 - e);
-    let (vp, ve, vf, vq) = (v[p], v[e], v[f], v[q]);
-    let (tp, tq) = (W::rotate(ns, vp, c, vq), W::rotate(c, vp, s, vq));
-    let (te, tf) = (W::rotate(nc, ve, ns, vf), W::rotate(ns, ve, c, vf));
+    let (tp, tq) = rotate_inner(v, p, q, b);
+    let (te, tf) = rotate_inner_last(v, e, f, b);
     put(odd, v, p, e, tp, te, range);
-    put(odd_above, v, f, q, tf, tq, range);
+    put(!odd, v, f, q, tf, tq, range);
 }
 
 // Turn N of the last rotations, of the second half, and of the sums of both halves: two pairs of which the odd place is
@@ -160,12 +218,9 @@ fn end_at<W: Butterfly, const K: usize, const N: usize>(w: &mut [W], range: usiz
     }
     put_own(false, w, N, 2 * m - 1 - N, range);
     put_own(false, w, m - 1 - N, m + N, range);
-    let b = inner_angle(K, K - 2, 0);
-    let (c, s, ns) = (weight_of(64 - b), weight_of(b), minus_weight_of(b));
     let (p, q) = (h + N, m - 1 - (h + N));
-    let (x, y) = (w[q].widen(), w[p].widen());
-    let (vp, vq) = (w[m + p], w[m + q]);
-    let (tp, tq) = (W::rotate(ns, vp, c, vq), W::rotate(c, vp, s, vq));
+    let (x, y) = (word_at(w, q).widen(), word_at(w, p).widen());
+    let (tp, tq) = rotate_inner(w, m + p, m + q, inner_angle(K, K - 2, 0));
     put(false, w, q, m + p, x, tp, range);
     put(false, w, p, m + q, y, tq, range);
 }

@@ -72,27 +72,32 @@ pub(crate) fn inner_angle(k: usize, j: usize, d: usize) -> usize
 
 // The group of 2^(j+2) places that turn n of round j is for, in the lower half of 2^k places.
 #[inline(always)]
-#[tactic(auto, using(crate::proofs::Turned::group_in, crate::proofs::Turned::group_angle))]
+#[tactic(auto, using(crate::proofs::Turned::group_angle))]
 pub(crate) fn group_of(k: usize, j: usize, n: usize) -> usize
     requires j_in { j + 3 ≤ k }
     requires k_in { k ≤ 5 }
     requires n_in { n < 2 ^ k / 8 }
     ensures value { result ≡ n / 2 ^ j }
     ensures angle { result < 2 ^ (k - j - 3) }
-    ensures within { 2 * (result * (4 * 2 ^ j)) + 8 * 2 ^ j ≤ 2 ^ k }
 {
     n >> j
 }
 
-// Which of its places that turn is for, of 2^j.
+// The first and the last of its places that the turn is for. The other two are 2^j places further in.
 #[inline(always)]
-#[tactic(auto, using(crate::proofs::Turned::rest_in))]
-pub(crate) fn place_of(j: usize, n: usize) -> usize
-    requires { j ≤ 2 }
-    ensures value { result ≡ n % 2 ^ j }
-    ensures small { result < 2 ^ j }
+#[tactic(auto, using(crate::proofs::Turned::group_in, crate::proofs::Turned::rest_in))]
+pub(crate) fn outer_places(k: usize, j: usize, n: usize) -> (usize, usize)
+    requires j_in { j + 3 ≤ k }
+    requires k_in { k ≤ 5 }
+    requires n_in { n < 2 ^ k / 8 }
+    ensures first { result.0 ≡ n / 2 ^ j * (4 * 2 ^ j) + n % 2 ^ j }
+    ensures last { result.1 ≡ n / 2 ^ j * (4 * 2 ^ j) + 4 * 2 ^ j - 1 - n % 2 ^ j }
+    ensures apart { result.0 + 2 * 2 ^ j < result.1 }
+    ensures within { 2 * result.1 < 2 ^ k }
 {
-    n % (1 << j)
+    let h = power(j);
+    let (start, rest) = ((n >> j) * (4 * h), n % h);
+    (start + rest, start + 4 * h - 1 - rest)
 }
 
 // The place, among 2^(k+1), whose bits are those of p in reverse order.

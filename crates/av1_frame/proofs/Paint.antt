@@ -44,9 +44,6 @@ paint_row_same w f g s e =
 -- a loop that writes a row sample by sample
 pub ruleset row_painting = (paint_row_none, paint_row_more)
 
--- a loop that reads each sample of a row and writes it
-pub ruleset row_repainting = (paint_row_none, paint_row_step)
-
 -- a painted rectangle leaves the number of samples
 pub length_paint : {X : Type 0} (stride : ℕ) (a : StoredArea) (f : ℕ → ℕ → X → X) (s : List X) → length (paint stride a f s) ≡ length s
 unfolding paint

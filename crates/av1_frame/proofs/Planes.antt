@@ -1,18 +1,17 @@
 -- A plane read by its visible places, and what painting leaves of it.
-use Rattle.std.proofs.Common.{ℕ, ◌+◌, ◌-◌, ◌*◌, ◌<◌, ◌≤◌, ◌≡◌, List, [], ◌∷◌, length, get_or, map, ap, arith, ◌∙◌, sym, cond, ◌⊎◌, Bool, true, false}
-use Rattle.std.proofs.Common.{slice_index}
+use Rattle.std.proofs.Common.{ℕ, ◌+◌, ◌-◌, ◌<◌, ◌≤◌, ◌≡◌, List, [], ◌∷◌, length, get_or, ap, arith, ◌∙◌, sym, cond, ◌⊎◌, Bool, true, false}
 use Rattle.std.proofs.lemmas.Bool.Decides.{nat_tests}
-use Rattle.std.proofs.lemmas.List.{get_or-map, places}
+use Rattle.std.proofs.lemmas.List.{get_or-map}
 use Rattle.av1_frame.specs.declared.plane.PlaneConfig.{PlaneConfig}
 use Rattle.av1_frame.specs.declared.plane.Plane.{Plane}
 use Rattle.av1_frame.specs.declared.plane_region.StoredArea.{StoredArea}
 use Rattle.av1_frame.specs.declared.plane_region.PlaneRegionMut.{PlaneRegionMut}
-use Rattle.av1_frame.specs.Samples.{paint, in_area, part, with_part, row_of}
+use Rattle.av1_frame.specs.Samples.{paint, in_area}
 use Rattle.av1_frame.specs.Areas.{VisibleArea, stored_area, in_visible, IsStorage}
 use Rattle.av1_frame.specs.Planes.{IsWhole, place_at, sample_at, painted_plane, InPlane}
 use Rattle.av1_frame.specs.Regions.{painted}
 use Rattle.av1_frame.proofs.Fits.{row_end_le}
-use Rattle.av1_frame.proofs.Paint.{paint_at, paint_empty, paint_same, length_paint, length_with_part}
+use Rattle.av1_frame.proofs.Paint.{paint_at, paint_empty, paint_same, length_paint}
 use Rattle.av1_frame.proofs.Regions.{same_storage, same_fits}
 
 -- a column and a row of storage, counted from the first visible sample, are a place of it
@@ -104,25 +103,6 @@ module _ {T : Type 0} (p : Plane T) (a : VisibleArea) (f : ℕ → ℕ → T →
       { samples = paint r.plane_cfg.stride (record { x = b.x; y = b.y; width = a.width; height = a.height }) f r.plane.now.samples }) k
       ∙ ap (λ (cfg : PlaneConfig). record r.plane.now { samples = paint cfg.stride (stored_area p.plane_cfg a) f r.plane.now.samples }) h
       ∙ ap (λ (u : Plane T). record u { samples = paint p.plane_cfg.stride (stored_area p.plane_cfg a) f u.samples }) e
-
--- column c of row y of the rectangle a, read as a row
-pub row_sample_at : {T : Type 0} (num : T → ℕ) (p : Plane T) (a : VisibleArea) (y c : ℕ) → InPlane a p → y < a.height → c < a.width →
-    slice_index (map num (row_of p.plane_cfg.stride (stored_area p.plane_cfg a) y p.samples)) c ≡ sample_at num p (a.x + c) (a.y + y)
-row_sample_at num p a y c s h k =
-    let cfg = p.plane_cfg in
-    let i = (cfg.yorigin + a.y + y) * cfg.stride + (cfg.xorigin + a.x) in
-    let l : place_at cfg (a.x + c) (a.y + y) < length p.samples =
-    place_in_storage cfg (length p.samples) (a.x + c) (a.y + y) s.storage (omega (arith, s.columns)) (omega (arith, s.rows)) in
-    let q : (cfg.yorigin + a.y + y) * cfg.stride ≡ (cfg.yorigin + (a.y + y)) * cfg.stride = ap (λ (n : ℕ). n * cfg.stride) (omega arith) in
-    let e : i + c ≡ place_at cfg (a.x + c) (a.y + y) = omega (arith, q) in
-    let d = some_item p.samples _ l in
-    let m : get_or (part i a.width p.samples) c d ≡ get_or p.samples (place_at cfg (a.x + c) (a.y + y)) d = grind (arith, places, e) in
-    get_or-map num (part i a.width p.samples) c d 0 (grind (arith, places, e, l)) ∙ ap num m
-    ∙ sym (get_or-map num p.samples (place_at cfg (a.x + c) (a.y + y)) d 0 l)
-
--- a plane of which a part of its samples was written is still whole
-pub written_whole : {T : Type 0} (p : Plane T) (i : ℕ) (ws : List T) → IsWhole p → IsWhole (record p { samples = with_part i p.samples ws })
-written_whole p i ws = same_storage p.plane_cfg _ _ (length_with_part i p.samples ws)
 
 -- a run of samples of a row lies in storage
 pub run_in_storage : {T : Type 0} (p : Plane T) (x y w : ℕ) → InPlane (record { x = x; y = y; width = w; height = 1 }) p →

@@ -6,7 +6,7 @@ use Rattle.av1_frame.specs.declared.plane_region.StoredArea.{StoredArea}
 use Rattle.av1_frame.specs.Samples.{in_rows, with_part, row_start, row_of, paint, paint_row}
 use Rattle.av1_frame.specs.Areas.{IsStorage, AreaFits, AreRows}
 use Rattle.av1_frame.specs.declared.plane.PlaneConfig.{PlaneConfig}
-use Rattle.av1_frame.specs.Regions.{own_rows, painted, painted_within, with_samples, stored, InStorage}
+use Rattle.av1_frame.specs.Regions.{own_rows, painted, with_samples, stored, InStorage}
 use Rattle.av1_frame.proofs.Fits.{row_end_le, rows_le}
 use Rattle.av1_frame.proofs.Paint.{paint_none, paint_more, paint_rows, paint_same, length_paint, length_with_part}
 
@@ -48,12 +48,6 @@ module _ {T : Type 0} (r o : PlaneRegionMut T) (w y : ℕ) (f : ℕ → ℕ → 
 
 -- a loop that writes a region row by row
 pub ruleset region_painting = (painted_none, painted_in_storage, painted_more)
-
--- a region that was painted in part still lies in storage
-pub painted_within_in_storage : {T : Type 0} (r o : PlaneRegionMut T) (a : StoredArea) (f : ℕ → ℕ → T → T) → o ≡ painted_within r a f → InStorage r →
-    InStorage o
-painted_within_in_storage r o a f e h =
-    subst InStorage (sym e) (record { fits = same_fits r.area r.plane_cfg _ _ (length_paint _ _ f (stored r)) h.fits; cfg = h.cfg; rect = h.rect })
 
 -- a region of which a part of its samples was written still lies in storage
 pub written_in_storage : {T : Type 0} (r : PlaneRegionMut T) (i : ℕ) (ws : List T) → InStorage r → InStorage (with_samples r (with_part i (stored r) ws))

@@ -1,5 +1,5 @@
 -- Samples that are read by signed places.
-use Rattle.std.proofs.Common.{ℕ, List, refl, subst, ◌≤ℤ◌, ◌<ℤ◌, ◌+◌, ◌-◌, ◌*◌, ◌/◌, ◌%◌, ◌<◌, ◌≡◌, length, get_or, drop, map, slice_index, ap, arith, ◌∙◌, sym}
+use Rattle.std.proofs.Common.{ℕ, List, refl, subst, ◌≤ℤ◌, ◌<ℤ◌, ◌+◌, ◌*◌, ◌/◌, ◌%◌, ◌<◌, ◌≡◌, length, get_or, drop, map, slice_index, ap, arith, ◌∙◌, sym}
 use Rattle.std.proofs.Common.{ℤ, pos, negsuc, ◌+ℤ◌, ◌-ℤ◌, unsigned_abs}
 use Rattle.std.proofs.Math.Bridge.{le_prop}
 use Rattle.std.proofs.Math.Nat.{ℕ_set}
@@ -11,10 +11,10 @@ use Rattle.std.proofs.lemmas.Nat.{div-mul-add, mod-mul-add}
 use Rattle.av1_frame.specs.declared.plane.PlaneConfig.{PlaneConfig}
 use Rattle.av1_frame.specs.declared.plane.Plane.{Plane}
 use Rattle.av1_frame.specs.declared.plane_slice.PlaneSlice.{PlaneSlice}
-use Rattle.av1_frame.specs.Samples.{gathered, part}
+use Rattle.av1_frame.specs.Samples.{gathered}
 use Rattle.av1_frame.specs.Areas.{IsStorage}
 use Rattle.av1_frame.specs.Planes.{IsWhole, place_at, sample_at, nearest, padded}
-use Rattle.av1_frame.specs.Slices.{IsStoredPlace, stored_column, stored_row, stored_sample, row_from, all_from, nearest_visible, slice_plane}
+use Rattle.av1_frame.specs.Slices.{IsStoredPlace, stored_column, stored_row, stored_sample, all_from, nearest_visible, slice_plane}
 use Rattle.av1_frame.proofs.Fits.{row_end_le}
 use Rattle.av1_frame.proofs.Gather.{get_or-gathered, length-gathered}
 use Rattle.av1_frame.proofs.Planes.{some_item, place_in_storage}
@@ -101,20 +101,6 @@ padded_has num p q e h x y s = ap (λ u. stored_sample num u x y) e ∙ padded_s
 
 pub padded_is_whole : {T : Type 0} (p q : Plane T) → q ≡ padded p → IsWhole p → IsWhole q
 padded_is_whole {T} p q e h = subst (λ (u : Plane T). IsStorage u.plane_cfg (length u.samples)) (sym e) (padded_whole p h)
-
--- column c of a row that is read from a place on
-pub row_from_sample : {T : Type 0} (num : T → ℕ) (p : Plane T) (x y : ℤ) (c : ℕ) → IsWhole p → IsStoredPlace p.plane_cfg x y →
-    stored_column p.plane_cfg x + c < p.plane_cfg.stride → slice_index (map num (row_from p x y)) c ≡ stored_sample num p (x +ℤ pos c) y
-row_from_sample num p x y c h s l =
-    let cfg = p.plane_cfg in
-    let i = stored_row cfg y * cfg.stride + stored_column cfg x in
-    let w = cfg.stride - stored_column cfg x in
-    let b = stored_place cfg (length p.samples) x y c h s l in
-    let d = some_item p.samples (i + c) b in
-    let e : get_or (part i w p.samples) c d ≡ get_or p.samples (i + c) d = grind (arith, places) in
-    let f : i + c ≡ stored_row cfg y * cfg.stride + stored_column cfg (x +ℤ pos c) = omega (arith, moved_right cfg.xorigin x c s.left) in
-    get_or-map num (part i w p.samples) c d 0 (grind (arith, places, b)) ∙ ap num e ∙ sym (get_or-map num p.samples (i + c) d 0 b)
-    ∙ ap (λ j. slice_index (map num p.samples) j) f
 
 rows_and_columns : (a r stride b c : ℕ) → a * stride + b + (r * stride + c) ≡ (a + r) * stride + (b + c)
 rows_and_columns a r stride b c = grind arith

@@ -41,10 +41,6 @@ pub vec_whole_is : {X : Type 0} (n : ℕ) (s t ws : List X) → s ≡ t → n �
 vec_whole_is n s t ws v e =
     update_is _ s _ (grind (arith, places)) (λ k d l. grind (arith, places, nat_tests)) ∙ ap (λ u. with_part 0 u ws) v
 
--- all of a list written over
-pub with_whole : {X : Type 0} (s ws : List X) → length ws ≡ length s → with_part 0 s ws ≡ ws
-with_whole s ws e = sym (update_is _ s ws e (λ k d l. grind (arith, places, nat_tests)))
-
 -- w elements from place `from` on, written from place `to` on: behind them, to what stands from there on,
 pub part_behind : {X : Type 0} (from to w : ℕ) (s front back ws : List X) → from + w ≤ to → from + w ≤ length s → to + w ≤ length s → front ≡ take to s
     → back ≡ drop to s → ws ≡ take w (drop from front) → front ++ (ws ++ drop w back) ≡ with_part to s (take w (drop from s))

@@ -1,6 +1,6 @@
 -- What holds of each stored sample of a plane, and what painting leaves of it.
-use Rattle.std.proofs.Common.{ℕ, ◌+◌, ◌-◌, ◌/◌, ◌%◌, ◌^◌, ◌<◌, ◌≡◌, ℤ, pos, negsuc, List, [], ◌∷◌, length, get_or, map, replicate, slice_index, min, Bool, true}
-use Rattle.std.proofs.Common.{false, cond, refl, ap, subst, sym, arith, ◌∙◌, inl, inr}
+use Rattle.std.proofs.Common.{ℕ, ◌+◌, ◌-◌, ◌/◌, ◌%◌, ◌^◌, ◌<◌, ◌≡◌, ℤ, pos, negsuc, List, [], ◌∷◌, length, get_or, map, replicate, slice_index, Bool, true}
+use Rattle.std.proofs.Common.{false, cond, refl, ap, subst, sym, arith, inl, inr}
 use Rattle.std.specs.List.{All}
 use Rattle.std.proofs.lemmas.Bool.Decides.{nat_tests}
 use Rattle.std.proofs.lemmas.Bool.{cases_lt}
@@ -74,14 +74,6 @@ pub painted_numbers_below : {T : Type 0} (num : T → ℕ) (pixel : ℕ → T) �
     → All (λ v. num v < bound) (painted_plane p a (λ r c v. pixel (f r c v))).samples
 painted_numbers_below num pixel law bound p a f all h =
     painted_plane_all (λ v. num v < bound) p a (λ r c v. pixel (f r c v)) all (λ r c v i j l. subst (λ n. n < bound) (sym (law (f r c v))) (h r c v i j l))
-
--- samples within their depth that are clipped to it are given back
-pub clipped_plane_kept : {T : Type 0} (num : T → ℕ) (pixel : ℕ → T) → ((v : T) → pixel (num v) ≡ v)
-    → (depth : ℕ) (p : Plane T) (a : VisibleArea) → All (λ v. num v < 2 ^ depth) p.samples
-    → painted_plane p a (λ r c v. pixel (min (num v) (2 ^ depth - 1))) ≡ p
-clipped_plane_kept num pixel back depth p a all =
-    painted_plane_kept (λ v. num v < 2 ^ depth) p a (λ r c v. pixel (min (num v) (2 ^ depth - 1))) all (λ r c v i j l. let e : min (num v) (2 ^ depth - 1) ≡
-    num v = omega (arith, l) in ap pixel e ∙ back v)
 
 -- ---- other planes
 

@@ -189,7 +189,6 @@ impl<'a, T: Pixel> PlaneRegion<'a, T> {
     }
 
     /// Row `y` of the rectangle, from its first row on.
-    #[tactic(auto, using(crate::proofs::Fits::row_end_le))]
     pub fn row(&self, y: usize) -> &[T]
         requires in_area { y < self.now.area.height }
         requires fits { IsReadable self.now }
@@ -239,7 +238,6 @@ impl<'a, T: Pixel> PlaneRegionMut<'a, T> {
     }
 
     /// Row `y` of the rectangle, from its first row on.
-    #[tactic(auto, using(crate::proofs::Fits::row_end_le))]
     pub fn row(&self, y: usize) -> &[T]
         requires in_area { y < self.now.area.height }
         requires fits { InStorage self.now }
@@ -251,7 +249,6 @@ impl<'a, T: Pixel> PlaneRegionMut<'a, T> {
     }
 
     /// Row `y` of the rectangle, from its first row on, to write.
-    #[tactic(auto, using(crate::proofs::Fits::row_end_le))]
     pub fn row_mut(&mut self, y: usize) -> &mut [T]
         requires in_area { y < self.old.area.height }
         requires fits { InStorage self.old }

@@ -1,62 +1,88 @@
--- Filters that are laid on a whole block, along its rows or down its columns alone.
-use Rattle.std.proofs.Common.{ℕ, zero, suc, ◌+◌, ◌*◌, ◌≡◌, ◌≢◌, ◌∙◌, ap, arith, refl, List, map, slice_index, ℤ, pos, negsuc, ◌≤ℤ◌, ◌<ℤ◌, unsigned_abs}
-use Rattle.std.proofs.Common.{to_z, of_z, w32, FitsSigned}
-use Rattle.std.proofs.lemmas.Int.{ints, to_z-of_z}
-use Rattle.av1_blocks.specs.declared.mc.FilterMode.{FilterMode}
+-- Filters that are laid on a whole block, along its rows or down its columns alone, and what is read for them.
+use Rattle.std.proofs.Common.{ℕ, zero, suc, ◌+◌, ◌*◌, ◌≡◌, ◌≢◌, ◌⊎◌, ◌≤◌, length, ap, arith, inl, inr, refl, List, map, slice_index, ℤ, pos}
 use Rattle.av1_inter.specs.declared.rounding.Rounding.{Rounding}
 use Rattle.av1_inter.specs.declared.rounding.Roundings.{Roundings}
 use Rattle.av1_inter.specs.declared.strip.Strip.{Strip}
 use Rattle.av1_inter.specs.declared.strip.Taps.{Taps}
-use Rattle.av1_inter.specs.Filters.{filter_of}
-use Rattle.av1_inter.specs.Scaffolding.{along, both_ways, doubled, down_alone, filtered, halved, IsBlock, IsFilter, IsLaid, IsRounding, sample_of, settled}
+use Rattle.av1_blocks.specs.Depths.{IsDepth}
+use Rattle.av1_inter.specs.Places.{AreWithinDepth, HoldRows, read_beside}
+use Rattle.av1_inter.specs.Scaffolding.{along, both_ways, doubled, down_alone, filtered, IsBlock, IsFilter, IsLaid, IsRounding, sample_of, settled}
 use Rattle.av1_inter.specs.Scaffolding.{value_of}
 use Rattle.av1_inter.proofs.Halves.{depth_numbers}
 use Rattle.av1_inter.proofs.Sums.{weighted_same}
 
 module _ {T : Type 0} (num : T → ℕ) (block : Strip T) (halves : List ℤ) (rounding : Rounding) where
   abbrev pub row_taps : Taps
-  row_taps = record { start = 3 * block.source_stride; step = 1; halves = halves; rounding = rounding }
+  row_taps = record { start = 0; step = 1; halves = halves; rounding = rounding }
 
   abbrev pub column_taps : Taps
-  column_taps = record { start = 3; step = block.source_stride; halves = halves; rounding = rounding }
+  column_taps = record { start = 0; step = block.source_stride; halves = halves; rounding = rounding }
 
-  row_there : (r c t : ℕ) → slice_index (map num block.source.now) (3 * block.source_stride + r * block.source_stride + c + t * 1) ≡
-      sample_of num block (c + t) (r + 3)
-  row_there r c t = ap (λ i. slice_index (map num block.source.now) i) (grind arith)
+  row_there : (r c t : ℕ) → slice_index (map num block.source.now) (0 + r * block.source_stride + c + t * 1) ≡ sample_of num block (c + t) r
+  row_there r c t = ap (λ i. slice_index (map num block.source.now) i) (omega arith)
 
   column_there : (r c t : ℕ) →
-      slice_index (map num block.source.now) (3 + r * block.source_stride + c + t * block.source_stride) ≡ sample_of num block (c + 3) (r + t)
+      slice_index (map num block.source.now) (0 + r * block.source_stride + c + t * block.source_stride) ≡ sample_of num block c (r + t)
   column_there r c t = ap (λ i. slice_index (map num block.source.now) i) (grind arith)
 
-  pub block_rows_laid : IsBlock num block → IsFilter (doubled halves) → IsRounding rounding → IsLaid num block row_taps
+  pub block_rows_laid : IsBlock num 7 0 block → IsFilter (doubled halves) → IsRounding rounding → IsLaid num block row_taps
   block_rows_laid b f s = record {
     filter = f;
     rounding = s;
-    reach = λ r k. (let m : (r + 3) * block.source_stride ≡ 3 * block.source_stride + r * block.source_stride = grind arith
-        in omega (arith, m, b.reach (r + 3) (omega (arith, k))));
-    small = λ r c t k l i. (let w = b.within (c + t) (r + 3) (omega (arith, l, i)) (omega (arith, k))
+    reach = λ r k. omega (arith, b.reach r (omega (arith, k)));
+    small = λ r c t k l i. (let w = b.within (c + t) r (omega (arith, l, i)) (omega (arith, k))
         in omega (arith, row_there r c t, w, depth_numbers block.bit_depth b.depths));
   }
 
-  pub block_columns_laid : IsBlock num block → IsFilter (doubled halves) → IsRounding rounding → IsLaid num block column_taps
+  pub block_columns_laid : IsBlock num 0 7 block → IsFilter (doubled halves) → IsRounding rounding → IsLaid num block column_taps
   block_columns_laid b f s = record {
     filter = f;
     rounding = s;
     reach = λ r k. (let m : (r + 7) * block.source_stride ≡ r * block.source_stride + 7 * block.source_stride = grind arith
         in omega (arith, m, b.reach (r + 7) (omega (arith, k))));
-    small = λ r c t k l i. (let w = b.within (c + 3) (r + t) (omega (arith, l)) (omega (arith, k, i))
+    small = λ r c t k l i. (let w = b.within c (r + t) (omega (arith, l)) (omega (arith, k, i))
         in omega (arith, column_there r c t, w, depth_numbers block.bit_depth b.depths));
   }
 
-  pub rows_are : (r c : ℕ) → filtered num block row_taps r c ≡ along rounding halves (sample_of num block) (r + 3) c
+  pub rows_are : (r c : ℕ) → filtered num block row_taps r c ≡ along rounding halves (sample_of num block) r c
   rows_are r c = ap (settled rounding) (weighted_same halves _ _ (λ t l. ap pos (row_there r c t)))
 
   pub columns_are : (r c : ℕ) → filtered num block column_taps r c ≡ down_alone rounding halves (sample_of num block) r c
   columns_are r c = ap (settled rounding) (weighted_same halves _ _ (λ t l. ap pos (column_there r c t)))
 
+-- what is read beside a block whose fractions are known to be 0, or not
+module _ {T : Type 0} (num : T → ℕ) (block : Strip T) where
+  pub read_rows : (fx fy : ℕ) → (fx ≢ 0) ⊎ (fy ≢ 0) → fy ≡ 0 → IsBlock num (read_beside fx) (read_beside fy) block → IsBlock num 7 0 block
+  read_rows zero zero (inl h) e b = absurd (h refl)
+  read_rows zero zero (inr h) e b = absurd (h refl)
+  read_rows (suc i) zero h e b = b
+  read_rows fx (suc j) h e b = absurd (omega (arith, e))
+
+  pub read_columns : (fx fy : ℕ) → fx ≡ 0 → fy ≢ 0 → IsBlock num (read_beside fx) (read_beside fy) block → IsBlock num 0 7 block
+  read_columns zero zero e h b = absurd (h refl)
+  read_columns zero (suc j) e h b = b
+  read_columns (suc i) fy e h b = absurd (omega (arith, e))
+
+  pub read_both : (fx fy : ℕ) → fx ≢ 0 → fy ≢ 0 → IsBlock num (read_beside fx) (read_beside fy) block → IsBlock num 7 7 block
+  read_both zero fy g h b = absurd (g refl)
+  read_both (suc i) zero g h b = absurd (h refl)
+  read_both (suc i) (suc j) g h b = b
+
+  pub made_block : (fx fy : ℕ) → block.area.width ≤ 128 → block.area.height ≤ 128 → block.area.height ≢ 0 → IsDepth block.bit_depth
+      → HoldRows (length block.source.now) block.source_stride (block.area.width + read_beside fx) (block.area.height + read_beside fy)
+      → AreWithinDepth block.bit_depth (sample_of num block) (block.area.width + read_beside fx) (block.area.height + read_beside fy)
+      → IsBlock num (read_beside fx) (read_beside fy) block
+  made_block fx fy wide high some depths reach within =
+      record { wide = wide; high = high; some = omega (arith, some); depths = depths; reach = reach; within = within }
+
+  pub read_alone : (fx fy : ℕ) → fx ≡ 0 → fy ≡ 0 → IsBlock num (read_beside fx) (read_beside fy) block → IsBlock num 0 0 block
+  read_alone zero zero g h b = b
+  read_alone (suc i) fy g h b = absurd (omega (arith, g))
+  read_alone zero (suc j) g h b = absurd (omega (arith, h))
+
 -- which of them a block takes
 module _ (roundings : Roundings) (depth : ℕ) (across down : List ℤ) (samples : ℕ → ℕ → ℕ) (r c : ℕ) where
-  pub value_along : (fx fy : ℕ) → fy ≡ 0 → along roundings.rows across samples (r + 3) c ≡ value_of roundings depth fx fy across down samples r c
+  pub value_along : (fx fy : ℕ) → fy ≡ 0 → along roundings.rows across samples r c ≡ value_of roundings depth fx fy across down samples r c
   value_along fx zero e = refl
   value_along fx (suc k) e = absurd (omega (arith, e))
 
@@ -70,12 +96,3 @@ module _ (roundings : Roundings) (depth : ℕ) (across down : List ℤ) (samples
   value_both fx zero e h = absurd (h refl)
   value_both zero (suc k) e h = absurd (e refl)
   value_both (suc j) (suc k) e h = refl
-
-fraction_fits : (z : ℤ) → pos 0 ≤ℤ z → z <ℤ pos 16 → FitsSigned w32 z
-fraction_fits (pos n) l h = record { sfits = omega (arith, ints, h) }
-fraction_fits (negsuc n) l h = absurd (omega (arith, ints, l))
-
--- the halves that were made for a fraction as the machine holds it
-pub halves_made : (mode : FilterMode) (z : ℤ) (side : ℕ) (halves : List ℤ) → pos 0 ≤ℤ z → z <ℤ pos 16 →
-    halves ≡ halved (filter_of mode (unsigned_abs (to_z w32 (of_z w32 z))) side) → halves ≡ halved (filter_of mode (unsigned_abs z) side)
-halves_made mode z side halves l h e = e ∙ ap (λ y. halved (filter_of mode (unsigned_abs y) side)) (to_z-of_z w32 z (fraction_fits z l h))

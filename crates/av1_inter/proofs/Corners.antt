@@ -1,7 +1,7 @@
 -- Where the taps for a block begin: the place 3 columns to the left of it and 3 rows above.
-use Rattle.std.proofs.Common.{ℕ, ◌^◌, ◌<◌, ◌≡◌, ◌∙◌, ap, sym, subst, arith, ℤ, pos, negsuc, ◌+ℤ◌, ◌-ℤ◌, ◌≤ℤ◌, w64, FitsSigned}
+use Rattle.std.proofs.Common.{ℕ, ◌^◌, ◌<◌, ◌≡◌, ◌∙◌, ap, arith, ℤ, pos, negsuc, ◌+ℤ◌, ◌-ℤ◌, ◌≤ℤ◌, w64, FitsSigned}
 use Rattle.std.proofs.lemmas.Int.{ints}
-use Rattle.av1_inter.specs.Places.{AreWithinDepth, corner_of, IsStoredFrom, samples_from}
+use Rattle.av1_inter.specs.Places.{corner_of, IsStoredFrom}
 use Rattle.av1_frame.specs.declared.plane_slice.PlaneSlice.{PlaneSlice}
 
 -- a stored place's number
@@ -27,8 +27,3 @@ pub corner_column_fits : {T : Type 0} (src : PlaneSlice T) (columns rows : ℕ) 
 corner_column_fits {T} src columns rows s =
     place_fits _ src.plane_cfg.now.xorigin src.plane_cfg.now.stride s.left (omega (arith, ints, s.right))
     (omega (arith, src.whole.few_columns, src.whole.visible_columns)) (omega (arith, src.whole.few_columns, src.whole.visible_columns))
-
--- samples from there within the depth
-pub corner_within : {T : Type 0} (num : T → ℕ) (src corner : PlaneSlice T) (depth columns rows : ℕ) → corner ≡ corner_of src →
-    AreWithinDepth depth (samples_from num (corner_of src)) columns rows → AreWithinDepth depth (samples_from num corner) columns rows
-corner_within {T} num src corner depth columns rows e h = subst (λ (p : PlaneSlice T). AreWithinDepth depth (samples_from num p) columns rows) (sym e) h

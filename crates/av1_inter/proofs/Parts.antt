@@ -32,7 +32,7 @@ module _ {T : Type 0} (num : T → ℕ) (part : Strip T) (n : ℕ) (halves : Lis
   sample_there : (r c t : ℕ) → slice_index (map num part.source.now) (0 + r * part.source_stride + c + t * 1) ≡ sample_of num part (c + t) r
   sample_there r c t = ap (λ i. slice_index (map num part.source.now) i) (omega arith)
 
-  pub rows_laid : IsBlock num part → part.area.width ≡ n → IsFilter (doubled halves) → IsRounding rounding →
+  pub rows_laid : IsBlock num 7 7 part → part.area.width ≡ n → IsFilter (doubled halves) → IsRounding rounding →
       IsLaid num (rows_of part n) (across_of halves rounding)
   rows_laid block width f s = record {
     filter = f;

@@ -8,6 +8,16 @@ use Rattle.av1_inter.specs.Scaffolding.{Between, IsRounding, IsWithin, settled}
 use Rattle.av1_inter.proofs.Halves.{short_sum_fits}
 use Rattle.av1_inter.proofs.Sums.{fits_of}
 
+-- a rounding's numbers, as they are read in 32 bits
+pub read_wide : (z w : ℤ) → w ≡ to_z w16 (of_z w16 z) → Between 8192 16384 z → w ≡ z
+read_wide z w e b = omega (arith, ints, e, b.low, b.high)
+
+pub passed_wide : (z w : ℤ) → w ≡ z → Between 8192 16384 z → to_z w32 (of_z w32 w) ≡ z
+passed_wide z w e b = omega (arith, ints, e, b.low, b.high)
+
+pub add_wide : (z : ℤ) → Between 0 512 z → Between 8192 16384 z
+add_wide z b = record { low = omega (arith, ints, b.low); high = omega (arith, ints, b.high) }
+
 -- a number of 16 bits is held as it is
 pub held_fits : (z : ℤ) → FitsSigned w16 z → saturate_signed w16 z ≡ z
 held_fits (pos n) f = ap pos (omega (arith, f.sfits))

@@ -1,5 +1,6 @@
 -- A block is its strips: what a strip reads, and what strips paint side by side.
-use Rattle.std.proofs.Common.{ℕ, zero, suc, ◌+◌, ◌-◌, ◌*◌, ◌/◌, ◌%◌, ◌<◌, ◌≤◌, ◌≡◌, ◌∙◌, ap, sym, subst, arith, inl, inr, List, [], ◌∷◌, refl, drop, length}
+use Rattle.std.proofs.Common.{ℕ, zero, suc, ◌+◌, ◌-◌, ◌*◌, ◌/◌, ◌%◌, ◌^◌, ◌<◌, ◌≤◌, ◌≡◌, ◌∙◌, ap, sym, subst, arith, inl, inr, List, [], ◌∷◌, refl, drop}
+use Rattle.std.proofs.Common.{length}
 use Rattle.std.proofs.Common.{map, slice_index, get_or, ℤ, pos, ◌-ℤ◌}
 use Rattle.std.proofs.lemmas.List.{get_or-drop, get_or-map, places}
 use Rattle.std.proofs.lemmas.Bool.{cases_lt}
@@ -11,7 +12,9 @@ use Rattle.av1_frame.proofs.Update.{get_or-update, length-update, update_is}
 use Rattle.av1_inter.specs.Motion.{bias, intermediate_bits, prepared, single, unbiased}
 use Rattle.av1_inter.specs.declared.strip.Strip.{Strip}
 use Rattle.av1_inter.specs.declared.strip.Taps.{Taps}
-use Rattle.av1_inter.specs.Scaffolding.{IsLaid, filtered, part_of, settled, strip_of}
+use Rattle.av1_blocks.specs.Depths.{IsDepth}
+use Rattle.av1_inter.specs.Places.{AreWithinDepth, IsReadFrom, read_beside}
+use Rattle.av1_inter.specs.Scaffolding.{filtered, IsBlock, IsLaid, part_of, sample_of, settled, strip_of}
 use Rattle.av1_inter.proofs.Sums.{intermediate_same, weighted_same}
 
 -- samples that agree where the taps of two places stand
@@ -35,6 +38,55 @@ module _ (depth : ℕ) (across down : List ℤ) (s t : ℕ → ℕ → ℕ) (r c
 
   pub prepared_moved : (fx fy : ℕ) → prepared depth fx fy across down s r c ≡ prepared depth fx fy across down t r d
   prepared_moved fx fy = ap (λ z. z -ℤ bias depth) (unbiased_moved fx fy)
+
+-- the place that is read for column c (or row c) of a block, in place of one of those around it
+abbrev pub kept_place : (fraction c x : ℕ) → ℕ
+kept_place zero c x = c
+kept_place (suc _) c x = x
+
+-- what is read for a sample, in place of the samples around it
+abbrev pub near : (fx fy r c : ℕ) → (ℕ → ℕ → ℕ) → ℕ → ℕ → ℕ
+near fx fy r c s = λ x y. s (kept_place fx c x) (kept_place fy r y)
+
+kept_below : (f w c x : ℕ) → c < w → x < c + 8 → kept_place f c x < w + read_beside f
+kept_below zero w c x h l = omega (arith, h)
+kept_below (suc f) w c x h l = omega (arith, h, l)
+
+-- what is read for a block decides its samples
+module _ (depth : ℕ) (across down : List ℤ) (w h r c : ℕ) (s around : ℕ → ℕ → ℕ) (k : r < h) (l : c < w) where
+  pub near_within : (fx fy : ℕ) → AreWithinDepth depth s (w + read_beside fx) (h + read_beside fy) →
+      (x y : ℕ) → x < c + 8 → y < r + 8 → near fx fy r c s x y < 2 ^ depth
+  near_within fx fy within x y m n =
+      within (kept_place fx c x) (kept_place fy r y) (kept_below fx w c x l m) (kept_below fy h r y k n)
+
+  pub single_read : (fx fy : ℕ) → IsReadFrom fx fy w h s around →
+      single depth fx fy across down (near fx fy r c s) r c ≡ single depth fx fy across down around r c
+  single_read zero zero same = same c r (omega (arith, l)) (omega (arith, k))
+  single_read zero (suc j) same =
+      ap (λ z. clip depth (round_shift z 7)) (weighted_same down _ _ (λ i m. ap pos (same c (r + i) (omega (arith, l)) (omega (arith, k, m)))))
+  single_read (suc i) zero same =
+      ap (λ z. clip depth (round_shift z (intermediate_bits depth)))
+      (intermediate_same depth (suc i) across (λ x. s x r) (λ x. around x (r + 3)) c c (λ t m. same (c + t) r (omega (arith, l, m)) (omega (arith, k))))
+  single_read (suc i) (suc j) same =
+      ap (λ z. clip depth (round_shift z (7 + intermediate_bits depth)))
+      (weighted_same down _ _ (λ t m. intermediate_same depth (suc i) across (λ x. s x (r + t)) (λ x. around x (r + t)) c c
+      (λ u n. same (c + u) (r + t) (omega (arith, l, n)) (omega (arith, k, m)))))
+
+  unbiased_read : (fx fy : ℕ) → IsReadFrom fx fy w h s around →
+      unbiased depth fx fy across down (near fx fy r c s) r c ≡ unbiased depth fx fy across down around r c
+  unbiased_read zero zero same = ap (λ n. pos (n * 2 ^ intermediate_bits depth)) (same c r (omega (arith, l)) (omega (arith, k)))
+  unbiased_read zero (suc j) same =
+      ap (λ z. round_shift z (7 - intermediate_bits depth)) (weighted_same down _ _ (λ i m. ap pos (same c (r + i) (omega (arith, l)) (omega (arith, k, m)))))
+  unbiased_read (suc i) zero same =
+      intermediate_same depth (suc i) across (λ x. s x r) (λ x. around x (r + 3)) c c (λ t m. same (c + t) r (omega (arith, l, m)) (omega (arith, k)))
+  unbiased_read (suc i) (suc j) same =
+      ap (λ z. round_shift z 7)
+      (weighted_same down _ _ (λ t m. intermediate_same depth (suc i) across (λ x. s x (r + t)) (λ x. around x (r + t)) c c
+      (λ u n. same (c + u) (r + t) (omega (arith, l, n)) (omega (arith, k, m)))))
+
+  pub prepared_read : (fx fy : ℕ) → IsReadFrom fx fy w h s around →
+      prepared depth fx fy across down (near fx fy r c s) r c ≡ prepared depth fx fy across down around r c
+  prepared_read fx fy same = ap (λ z. z -ℤ bias depth) (unbiased_read fx fy same)
 
 -- a sample that is painted in the first w columns, or in the n columns after them
 strip_at : {X : Type 0} (a : StoredArea) (w n h p q : ℕ) (f g : ℕ → ℕ → X → X) (v : X) → ((r c : ℕ) (v : X) → r < h → c < n → g r c v ≡ f r (w + c) v) →
@@ -113,20 +165,12 @@ paint_below stride a p h n f g s t new ep et en e =
     ∙ ap (painted_at (part_of a 0 h a.width n) g (k % stride) (k / stride)) (get_or-update _ s k d l)
     ∙ band_at a h n (k % stride) (k / stride) f g (get_or s k d) e)
 
--- the rows of a part of a block, in what is stored from its place on
-pub part_reaches : {T : Type 0} (source part : List T) (stride x y q w all : ℕ) → part ≡ drop (y * stride + x) source → x + w ≤ all →
-    (y + q) * stride + (all + 7) ≤ length source → q * stride + (w + 7) ≤ length part
-part_reaches source part stride x y q w all e l h =
-    let m : (y + q) * stride ≡ y * stride + q * stride = grind arith in
-    let n : length (drop (y * stride + x) source) ≡ length source - (y * stride + x) = grind (arith, places) in
-    omega (arith, ap length e, n, m, l, h)
-
 map_drop : {T : Type 0} (num : T → ℕ) (n : ℕ) (s : List T) → map num (drop n s) ≡ drop n (map num s)
 map_drop num zero s = refl
 map_drop num (suc n) [] = refl
 map_drop num (suc n) (x ∷ s) = map_drop num n s
 
--- and its samples
+-- a sample of what is left behind the first n
 pub part_sample : {T : Type 0} (num : T → ℕ) (source part : List T) (n k m : ℕ) → part ≡ drop n source → n + k ≡ m →
     slice_index (map num part) k ≡ slice_index (map num source) m
 part_sample num source part n k m e h =
@@ -166,6 +210,36 @@ module _ {T : Type 0} (num : T → ℕ) (block part : Strip T) (taps : Taps) (x 
         small = λ r c t k q i. subst (λ (n : ℕ). n < 32768) (sym (number_there r c (t * taps.step)))
             (l.small (y + r) (x + c) t (omega (arith, k, high, rows)) (omega (arith, q, wide, columns)) i);
       }
+
+-- a part of a block reads as much beside it as the block
+pub part_is_block : {T : Type 0} (num : T → ℕ) (across down : ℕ) (block part : Strip T) (x y w h : ℕ) → part.area ≡ part_of block.area x y w h
+    → part.source.now ≡ drop (y * block.source_stride + x) block.source.now → part.source_stride ≡ block.source_stride
+    → part.bit_depth ≡ block.bit_depth → IsBlock num across down block → x + w ≤ block.area.width → y + h ≤ block.area.height → 0 < h →
+    IsBlock num across down part
+part_is_block num across down block part x y w h area source stride depth b columns rows some =
+    let wide : part.area.width ≡ w = ap (λ (a : StoredArea). a.width) area in
+    let high : part.area.height ≡ h = ap (λ (a : StoredArea). a.height) area in
+    let s : ℕ = block.source_stride in
+    let there : (p q : ℕ) → sample_of num part p q ≡ sample_of num block (x + p) (y + q) =
+    λ p q. ap (λ n. slice_index (map num part.source.now) (q * n + p)) stride
+    ∙ part_sample num block.source.now part.source.now (y * s + x) (q * s + p) ((y + q) * s + (x + p)) source (grind arith) in
+    record {
+      wide = omega (arith, wide, columns, b.wide);
+      high = omega (arith, high, rows, b.high);
+      some = omega (arith, high, some);
+      depths = subst IsDepth (sym depth) b.depths;
+      reach = λ q l.
+          let long = b.reach (y + q) (omega (arith, l, high, rows)) in
+          let m : (y + q) * s ≡ y * s + q * s = grind arith in
+          let same : q * part.source_stride ≡ q * s = ap (λ n. q * n) stride in
+          let n : length (drop (y * s + x) block.source.now) ≡ length block.source.now - (y * s + x) = grind (arith, places) in
+          omega (arith, ap length source, n, m, same, long, wide, columns);
+      within = λ p q k l.
+          let e : part.bit_depth ≡ block.bit_depth = depth in
+          subst (λ (d : ℕ). sample_of num part p q < 2 ^ d) (sym e)
+          (subst (λ (v : ℕ). v < 2 ^ block.bit_depth) (sym (there p q))
+          (b.within (x + p) (y + q) (omega (arith, k, wide, columns)) (omega (arith, l, high, rows))));
+    }
 
 -- a sample behind the first n of a source, by its number
 pub copied_there : {T : Type 0} (num : T → ℕ) (pixel : ℕ → T) (back : (v : T) → pixel (num v) ≡ v) (source from : List T) (n q m : ℕ) (v : T) →

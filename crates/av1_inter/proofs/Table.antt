@@ -1,16 +1,16 @@
 -- The weights of every filter are in bounds, by computing over the table.
-use Rattle.std.proofs.Common.{ℕ, ◌+◌, ◌*◌, ◌/◌, ◌%◌, ◌*ℤ◌, ◌<◌, ◌≤◌, ◌≡◌, ◌≢◌, ◌∙◌, ap, refl, sym, arith, Bool, true, ◌&&◌, nat_eq, nat_le, List, []}
-use Rattle.std.proofs.Common.{length, slice_index_or, inl, inr, subst, ℤ, pos, negsuc, ◌≤ℤ◌, ◌<ℤ◌, unsigned_abs, w32, to_z, of_z, FitsSigned}
+use Rattle.std.proofs.Common.{ℕ, ◌+◌, ◌*◌, ◌/◌, ◌%◌, ◌*ℤ◌, ◌<◌, ◌≤◌, ◌≡◌, ◌≢◌, refl, arith, Bool, true, ◌&&◌, nat_eq, nat_le, List, []}
+use Rattle.std.proofs.Common.{length, slice_index_or, inl, inr, ℤ, pos, negsuc, ◌≤ℤ◌, ◌<ℤ◌, unsigned_abs}
 use Rattle.std.specs.Int.{int_shr}
 use Rattle.std.proofs.lemmas.Bool.{cases_lt}
 use Rattle.std.proofs.lemmas.Bool.Decides.{nat_tests}
-use Rattle.std.proofs.lemmas.Int.{ints, to_z-of_z}
+use Rattle.std.proofs.lemmas.Int.{ints}
 use Rattle.av1_lists.proofs.Below.{all_below, below}
 use Rattle.av1_blocks.specs.declared.mc.FilterMode.{FilterMode}
 use Rattle.av1_blocks.specs.declared.mc.FilterMode.TheVariants.{REGULAR, SMOOTH, SHARP, BILINEAR, SWITCHABLE}
 use Rattle.av1_blocks.specs.Filters.{filter_number, subpel_filters}
 use Rattle.av1_inter.specs.Filters.{family, filter_of, short_family}
-use Rattle.av1_inter.specs.Scaffolding.{gains, IsFilter, losses}
+use Rattle.av1_inter.specs.Scaffolding.{gains, IsFilter, IsStripWidth, losses}
 
 both_true : (a b : Bool) → (a && b) ≡ true → (a ≡ true) × (b ≡ true)
 both_true a b e = grind (arith, nat_tests)
@@ -80,21 +80,20 @@ family_small mode side =
 pub filter_of_is_filter : (mode : FilterMode) (fraction side : ℕ) → fraction < 16 → IsFilter (filter_of mode fraction side)
 filter_of_is_filter mode fraction side h = row_is_filter (family mode side) fraction (family_small mode side) h
 
--- the weights that were made for a machine's number
-pub taps_made : (mode : FilterMode) (z : ℤ) (side : ℕ) (taps : List ℤ) → FitsSigned w32 z →
-    taps ≡ filter_of mode (unsigned_abs (to_z w32 (of_z w32 z))) side → taps ≡ filter_of mode (unsigned_abs z) side
-taps_made mode z side taps h e = e ∙ ap (λ y. filter_of mode (unsigned_abs y) side) (to_z-of_z w32 z h)
+-- a fraction as it was passed on
+pub fraction_small : (z : ℤ) (n : ℕ) → n ≡ unsigned_abs z → (pos 0 ≤ℤ z) × (z <ℤ pos 16) → n < 16
+fraction_small (pos m) n e h = omega (arith, ints, e, h.1)
+fraction_small (negsuc m) n e h = absurd (omega (arith, ints, h.0))
 
--- a machine's number that is not 0
-pub some_fraction : (z : ℤ) → of_z w32 z ≢ 0 → unsigned_abs z ≢ 0
-some_fraction z h e = let k : z ≡ pos 0 = omega (arith, ints, e) in h (ap (of_z w32) k)
+-- the widths of strips
+pub strip_short : (n : ℕ) → IsStripWidth n → n ≤ 16
+strip_short n (inl e) = omega (arith, e)
+strip_short n (inr (inl e)) = omega (arith, e)
+strip_short n (inr (inr (inl e))) = omega (arith, e)
+strip_short n (inr (inr (inr e))) = omega (arith, e)
 
-pub fraction_small : (z : ℤ) → pos 0 ≤ℤ z → z <ℤ pos 16 → unsigned_abs z < 16
-fraction_small (pos n) l h = omega (arith, ints)
-fraction_small (negsuc n) l h = absurd (omega (arith, ints))
-
--- the weights that were read are those of a filter
-pub read_is_filter : (mode : FilterMode) (z : ℤ) (side : ℕ) (taps : List ℤ) → FitsSigned w32 z → pos 0 ≤ℤ z → z <ℤ pos 16 →
-    taps ≡ filter_of mode (unsigned_abs (to_z w32 (of_z w32 z))) side → IsFilter taps
-read_is_filter mode z side taps f l h e =
-    subst IsFilter (sym (taps_made mode z side taps f e)) (filter_of_is_filter mode (unsigned_abs z) side (fraction_small z l h))
+pub strip_narrow : (n : ℕ) → IsStripWidth n → n ≢ 16 → n ≤ 8
+strip_narrow n (inl e) h = absurd (h e)
+strip_narrow n (inr (inl e)) h = omega (arith, e)
+strip_narrow n (inr (inr (inl e))) h = omega (arith, e)
+strip_narrow n (inr (inr (inr e))) h = omega (arith, e)

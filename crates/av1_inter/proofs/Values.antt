@@ -1,6 +1,6 @@
 -- What the filters of a block give is what the specification says, at each depth.
-use Rattle.std.proofs.Common.{ℕ, zero, suc, ◌+◌, ◌-◌, ◌*◌, ◌/◌, ◌^◌, ◌<◌, ◌≡◌, ◌≢◌, ◌⊎◌, ◌∙◌, ap, arith, refl, sym, List, ℤ, pos, negsuc, ◌+ℤ◌, ◌-ℤ◌}
-use Rattle.std.proofs.Common.{◌*ℤ◌, inl, inr, subst, unsigned_abs, w16}
+use Rattle.std.proofs.Common.{ℕ, zero, suc, ◌+◌, ◌-◌, ◌*◌, ◌/◌, ◌^◌, ◌<◌, ◌≡◌, ◌≢◌, ◌⊎◌, ◌∙◌, ap, arith, refl, sym, List, [], ℤ, pos, negsuc, ◌+ℤ◌, ◌-ℤ◌}
+use Rattle.std.proofs.Common.{◌*ℤ◌, inl, inr, w16}
 use Rattle.std.specs.Int.{int_shr, saturate_signed}
 use Rattle.std.specs.Int.Signed.{shr_z}
 use Rattle.std.proofs.lemmas.Bool.{cases_lt}
@@ -9,13 +9,12 @@ use Rattle.std.proofs.lemmas.List.{get_or-map, length-map}
 use Rattle.av1_blocks.specs.Depths.{IsDepth}
 use Rattle.av1_frame.specs.Arithmetic.{clip, round_shift}
 use Rattle.av1_inter.specs.Motion.{bias, entry, intermediate, intermediate_bits, prepared, single, sum_to, weighted}
+use Rattle.av1_inter.specs.Places.{AreWithinDepth, IsReadFrom, read_beside}
 use Rattle.av1_inter.specs.Scaffolding.{along, Between, between_filters, doubled, halved, IsFilter}
-use Rattle.av1_inter.specs.Scaffolding.{prepared_roundings, put_roundings, sample_of, value_of}
+use Rattle.av1_inter.specs.Scaffolding.{prepared_roundings, put_roundings, value_of}
 use Rattle.av1_inter.specs.Filters.{filter_of}
-use Rattle.av1_inter.specs.declared.strip.Strip.{Strip}
-use Rattle.av1_frame.specs.declared.plane_region.StoredArea.{StoredArea}
 use Rattle.av1_blocks.specs.declared.mc.FilterMode.{FilterMode}
-use Rattle.av1_inter.proofs.Strips.{prepared_moved, single_moved}
+use Rattle.av1_inter.proofs.Strips.{near, near_within, prepared_read, single_read}
 use Rattle.av1_inter.proofs.Table.{filter_of_is_filter}
 use Rattle.av1_inter.proofs.Constants.{weighted_constant}
 use Rattle.av1_inter.proofs.Halves.{depth_numbers, doubled_sum, halves_are, rounded_twice}
@@ -206,101 +205,83 @@ module _ (depth : ℕ) (d : IsDepth depth) (across down : List ℤ) (fa : IsFilt
       weighted (halved down) (λ t. intermediate depth (suc j) across samples (r + t) c) +ℤ pos 524288
   rows_kept j = moved_sum down (λ t. intermediate depth (suc j) across samples (r + t) c) _ fd (λ t k. row_kept j (r + t) (omega (arith, k)))
 
-  pub put_value : (fx fy : ℕ) → (fx ≢ 0) ⊎ (fy ≢ 0) →
-      clip depth (value_of (put_roundings depth) depth fx fy (halved across) (halved down) samples r c) ≡
-      single depth fx fy across down samples r c
-  put_value zero zero (inl h) = absurd (h refl)
-  put_value zero zero (inr h) = absurd (h refl)
-  put_value zero (suc k) h =
-      let w = weighted (halved down) (λ t. pos (samples (c + 3) (r + t))) in
-      let e = whole_sum down (λ t. pos (samples (c + 3) (r + t))) fd in
-      clip_saturated depth d _
-      ∙ ap (clip depth)
-      (less_none _ ∙ sym (half_128 (weighted down (λ t. pos (samples (c + 3) (r + t))) +ℤ pos 64) (w +ℤ pos 32) (omega (arith, ints, e))))
-  put_value (suc j) zero h =
-      clip_saturated depth d _
-      ∙ ap (clip depth) (less_none _ ∙ twice_rounded (weighted (halved across) (λ t. pos (samples (c + t) (r + 3)))) _ (whole_sum across _ fa) depth d)
-  put_value (suc j) (suc k) h =
-      clip_saturated depth d _
-      ∙ ap (clip depth)
-      (moved_back (weighted (halved down) (λ t. intermediate depth (suc j) across samples (r + t) c)) _ (whole_sum down _ fd) depth d _ (rows_kept j))
-
-  pub prepared_value : (fx fy : ℕ) → (fx ≢ 0) ⊎ (fy ≢ 0) →
-      value_of (prepared_roundings depth) depth fx fy (halved across) (halved down) samples r c ≡
-      prepared depth fx fy across down samples r c
-  prepared_value zero zero (inl h) = absurd (h refl)
-  prepared_value zero zero (inr h) = absurd (h refl)
-  prepared_value zero (suc k) h =
-      ap (λ z. saturate_signed w16 (z -ℤ bias depth)) (once (weighted (halved down) (λ t. pos (samples (c + 3) (r + t)))) _ (whole_sum down _ fd) depth d)
-      ∙ held_fits _ (prepared_fits depth d 0 (suc k) across down samples r c fa fd within)
-  prepared_value (suc j) zero h =
-      ap (λ z. saturate_signed w16 (z -ℤ bias depth)) (once (weighted (halved across) (λ t. pos (samples (c + t) (r + 3)))) _ (whole_sum across _ fa) depth d)
-      ∙ held_fits _ (prepared_fits depth d (suc j) 0 across down samples r c fa fd within)
-  prepared_value (suc j) (suc k) h =
-      ap (saturate_signed w16)
-      (moved_prepared (weighted (halved down) (λ t. intermediate depth (suc j) across samples (r + t) c)) _ (whole_sum down _ fd)
-      (bias depth) _ (rows_kept j))
-      ∙ held_fits _ (prepared_fits depth d (suc j) (suc k) across down samples r c fa fd within)
-
 -- the samples of a block that is not filtered, and what is prepared of them
-module _ (depth : ℕ) (across down : List ℤ) (samples : ℕ → ℕ → ℕ) (r c : ℕ) where
-  pub put_copied : (fx fy : ℕ) → fx ≡ 0 → fy ≡ 0 → samples (c + 3) (r + 3) ≡ single depth fx fy across down samples r c
-  put_copied zero zero h e = refl
-  put_copied (suc j) fy h e = absurd (omega (arith, h))
-  put_copied zero (suc k) h e = absurd (omega (arith, e))
+module _ (depth : ℕ) (across down : List ℤ) (w h : ℕ) (s around : ℕ → ℕ → ℕ) (r c : ℕ) (k : r < h) (l : c < w) where
+  copied_single : (fx fy : ℕ) → fx ≡ 0 → fy ≡ 0 → IsReadFrom fx fy w h s around → s c r ≡ single depth fx fy across down around r c
+  copied_single zero zero ex ey same = same c r (omega (arith, l)) (omega (arith, k))
+  copied_single (suc i) fy ex ey same = absurd (omega (arith, ex))
+  copied_single zero (suc j) ex ey same = absurd (omega (arith, ey))
 
-  pub prepared_copied : (fx fy : ℕ) → fx ≡ 0 → fy ≡ 0 →
-      pos (samples (c + 3) (r + 3) * 2 ^ intermediate_bits depth) -ℤ bias depth ≡ prepared depth fx fy across down samples r c
-  prepared_copied zero zero h e = refl
-  prepared_copied (suc j) fy h e = absurd (omega (arith, h))
-  prepared_copied zero (suc k) h e = absurd (omega (arith, e))
+  copied_prepared : (fx fy : ℕ) → fx ≡ 0 → fy ≡ 0 → IsReadFrom fx fy w h s around →
+      pos (s c r * 2 ^ intermediate_bits depth) -ℤ bias depth ≡ prepared depth fx fy across down around r c
+  copied_prepared zero zero ex ey same = ap (λ n. pos (n * 2 ^ intermediate_bits depth) -ℤ bias depth) (same c r (omega (arith, l)) (omega (arith, k)))
+  copied_prepared (suc i) fy ex ey same = absurd (omega (arith, ex))
+  copied_prepared zero (suc j) ex ey same = absurd (omega (arith, ey))
 
--- the sample that a block's filters give
-abbrev pub put_of : (depth : ℕ) → StoredArea → (x y : ℤ) → (mode_x mode_y : FilterMode) → (ℕ → ℕ → ℕ) → (r c : ℕ) → ℕ
-put_of depth a x y mode_x mode_y samples r c =
-    clip depth (value_of (put_roundings depth) depth (unsigned_abs x) (unsigned_abs y)
-    (halved (filter_of mode_x (unsigned_abs x) a.width)) (halved (filter_of mode_y (unsigned_abs y) a.height)) samples r c)
+-- what a block's filters give over the samples that it reads
+module _ (depth : ℕ) (d : IsDepth depth) (across down : List ℤ) (fa : IsFilter across) (fd : IsFilter down) (s : ℕ → ℕ → ℕ) (r c : ℕ) where
+  pub put_value : (fx fy : ℕ) → (fx ≢ 0) ⊎ (fy ≢ 0) → ((x y : ℕ) → x < c + 8 → y < r + 8 → near fx fy r c s x y < 2 ^ depth) →
+      clip depth (value_of (put_roundings depth) depth fx fy (halved across) (halved down) s r c) ≡
+      single depth fx fy across down (near fx fy r c s) r c
+  put_value zero zero (inl h) within = absurd (h refl)
+  put_value zero zero (inr h) within = absurd (h refl)
+  put_value zero (suc k) h within =
+      let w = weighted (halved down) (λ t. pos (s c (r + t))) in
+      let e = whole_sum down (λ t. pos (s c (r + t))) fd in
+      clip_saturated depth d _
+      ∙ ap (clip depth)
+      (less_none _ ∙ sym (half_128 (weighted down (λ t. pos (s c (r + t))) +ℤ pos 64) (w +ℤ pos 32) (omega (arith, ints, e))))
+  put_value (suc j) zero h within =
+      clip_saturated depth d _
+      ∙ ap (clip depth) (less_none _ ∙ twice_rounded (weighted (halved across) (λ t. pos (s (c + t) r))) _ (whole_sum across _ fa) depth d)
+  put_value (suc j) (suc k) h within =
+      clip_saturated depth d _
+      ∙ ap (clip depth)
+      (moved_back (weighted (halved down) (λ t. intermediate depth (suc j) across s (r + t) c)) _ (whole_sum down _ fd) depth d _
+      (rows_kept depth d across down fa fd s r c within j))
 
--- and the value that is prepared of it
-abbrev pub prepared_of : (depth : ℕ) → StoredArea → (x y : ℤ) → (mode_x mode_y : FilterMode) → (ℕ → ℕ → ℕ) → (r c : ℕ) → ℤ
-prepared_of depth a x y mode_x mode_y samples r c =
-    value_of (prepared_roundings depth) depth (unsigned_abs x) (unsigned_abs y)
-    (halved (filter_of mode_x (unsigned_abs x) a.width)) (halved (filter_of mode_y (unsigned_abs y) a.height)) samples r c
+  pub prepared_value : (fx fy : ℕ) → (fx ≢ 0) ⊎ (fy ≢ 0) → ((x y : ℕ) → x < c + 8 → y < r + 8 → near fx fy r c s x y < 2 ^ depth) →
+      value_of (prepared_roundings depth) depth fx fy (halved across) (halved down) s r c ≡
+      prepared depth fx fy across down (near fx fy r c s) r c
+  prepared_value zero zero (inl h) within = absurd (h refl)
+  prepared_value zero zero (inr h) within = absurd (h refl)
+  prepared_value zero (suc k) h within =
+      ap (λ z. saturate_signed w16 (z -ℤ bias depth)) (once (weighted (halved down) (λ t. pos (s c (r + t)))) _ (whole_sum down _ fd) depth d)
+      ∙ held_fits _ (prepared_fits depth d 0 (suc k) across down (near 0 (suc k) r c s) r c fa fd within)
+  prepared_value (suc j) zero h within =
+      ap (λ z. saturate_signed w16 (z -ℤ bias depth)) (once (weighted (halved across) (λ t. pos (s (c + t) r))) _ (whole_sum across _ fa) depth d)
+      ∙ held_fits _ (prepared_fits depth d (suc j) 0 across down (near (suc j) 0 r c s) r c fa fd within)
+  prepared_value (suc j) (suc k) h within =
+      ap (saturate_signed w16)
+      (moved_prepared (weighted (halved down) (λ t. intermediate depth (suc j) across s (r + t) c)) _ (whole_sum down _ fd)
+      (bias depth) _ (rows_kept depth d across down fa fd s r c within j))
+      ∙ held_fits _ (prepared_fits depth d (suc j) (suc k) across down s r c fa fd within)
 
--- The values of a block as it was made: its rectangle, its depth and its samples are those that a contract names.
-module _ {T : Type 0} (num : T → ℕ) (block : Strip T) (area : StoredArea) (depth : ℕ) (ea : block.area ≡ area) (ed : block.bit_depth ≡ depth)
-    (d : IsDepth depth) (mode_x mode_y : FilterMode) (fx fy : ℕ) (lx : fx < 16) (ly : fy < 16)
-    (some : (fx ≢ 0) ⊎ (fy ≢ 0)) (samples : ℕ → ℕ → ℕ) (same : (x y : ℕ) → x < area.width + 7 → y < area.height + 7 → sample_of num block x y ≡ samples x y)
-    (within : (x y : ℕ) → x < area.width + 7 → y < area.height + 7 → samples x y < 2 ^ depth) (r c : ℕ) (h : r < area.height) (l : c < area.width) where
-  within_here : (x y : ℕ) → x < c + 8 → y < r + 8 → sample_of num block x y < 2 ^ depth
-  within_here x y k i =
-      subst (λ (n : ℕ). n < 2 ^ depth) (sym (same x y (omega (arith, k, l)) (omega (arith, i, h)))) (within x y (omega (arith, k, l)) (omega (arith, i, h)))
+-- A block's samples and its prepared values, as a contract names them: `s` is what is read, `around` are all samples round the block.
+module _ (depth : ℕ) (d : IsDepth depth) (mode_x mode_y : FilterMode) (w h fx fy : ℕ) (s around : ℕ → ℕ → ℕ) (same : IsReadFrom fx fy w h s around)
+    (within : AreWithinDepth depth s (w + read_beside fx) (h + read_beside fy)) (r c : ℕ) (k : r < h) (l : c < w) where
+  pub put_here : fx < 16 → fy < 16 → (fx ≢ 0) ⊎ (fy ≢ 0) →
+      clip depth (value_of (put_roundings depth) depth fx fy (halved (filter_of mode_x fx w)) (halved (filter_of mode_y fy h)) s r c) ≡
+      single depth fx fy (filter_of mode_x fx w) (filter_of mode_y fy h) around r c
+  put_here lx ly some =
+      put_value depth d (filter_of mode_x fx w) (filter_of mode_y fy h) (filter_of_is_filter mode_x fx w lx)
+      (filter_of_is_filter mode_y fy h ly) s r c fx fy some
+      (near_within depth [] [] w h r c s around k l fx fy within)
+      ∙ single_read depth (filter_of mode_x fx w) (filter_of mode_y fy h) w h r c s around k l fx fy same
 
-  same_here : (x y : ℕ) → x < 8 → y < 8 → sample_of num block (c + x) (r + y) ≡ samples (c + x) (r + y)
-  same_here x y k i = same (c + x) (r + y) (omega (arith, k, l)) (omega (arith, i, h))
+  pub prepared_here : fx < 16 → fy < 16 → (fx ≢ 0) ⊎ (fy ≢ 0) →
+      value_of (prepared_roundings depth) depth fx fy (halved (filter_of mode_x fx w)) (halved (filter_of mode_y fy h)) s r c ≡
+      prepared depth fx fy (filter_of mode_x fx w) (filter_of mode_y fy h) around r c
+  prepared_here lx ly some =
+      prepared_value depth d (filter_of mode_x fx w) (filter_of mode_y fy h) (filter_of_is_filter mode_x fx w lx)
+      (filter_of_is_filter mode_y fy h ly) s r c fx fy some
+      (near_within depth [] [] w h r c s around k l fx fy within)
+      ∙ prepared_read depth (filter_of mode_x fx w) (filter_of mode_y fy h) w h r c s around k l fx fy same
 
-  pub put_here : clip block.bit_depth
-      (value_of (put_roundings block.bit_depth) block.bit_depth fx fy (halved (filter_of mode_x fx block.area.width))
-      (halved (filter_of mode_y fy block.area.height)) (sample_of num block) r c)
-      ≡ single depth fx fy (filter_of mode_x fx area.width) (filter_of mode_y fy area.height) samples r c
-  put_here =
-      let value =
-      λ (b : ℕ)
-      (a : StoredArea). clip b (value_of (put_roundings b) b fx fy (halved (filter_of mode_x fx a.width))
-      (halved (filter_of mode_y fy a.height)) (sample_of num block) r c) in
-      ap (λ b. value b block.area) ed ∙ ap (value depth) ea
-      ∙ put_value depth d (filter_of mode_x fx area.width) (filter_of mode_y fy area.height) (filter_of_is_filter mode_x fx area.width lx)
-      (filter_of_is_filter mode_y fy area.height ly) (sample_of num block) r c within_here fx fy some
-      ∙ single_moved depth (filter_of mode_x fx area.width) (filter_of mode_y fy area.height) (sample_of num block) samples r c c same_here fx fy
+  -- where it is not moved by part of a sample
+  pub put_copied : fx ≡ 0 → fy ≡ 0 → s c r ≡ single depth fx fy (filter_of mode_x fx w) (filter_of mode_y fy h) around r c
+  put_copied ex ey = copied_single depth (filter_of mode_x fx w) (filter_of mode_y fy h) w h s around r c k l fx fy ex ey same
 
-  pub prepared_here : value_of (prepared_roundings block.bit_depth) block.bit_depth fx fy (halved (filter_of mode_x fx block.area.width))
-      (halved (filter_of mode_y fy block.area.height))
-      (sample_of num block) r c
-      ≡ prepared depth fx fy (filter_of mode_x fx area.width) (filter_of mode_y fy area.height) samples r c
-  prepared_here =
-      let value = λ (b : ℕ) (a : StoredArea). value_of (prepared_roundings b) b fx fy (halved (filter_of mode_x fx a.width))
-      (halved (filter_of mode_y fy a.height)) (sample_of num block) r c in
-      ap (λ b. value b block.area) ed ∙ ap (value depth) ea
-      ∙ prepared_value depth d (filter_of mode_x fx area.width) (filter_of mode_y fy area.height) (filter_of_is_filter mode_x fx area.width lx)
-      (filter_of_is_filter mode_y fy area.height ly) (sample_of num block) r c within_here fx fy some
-      ∙ prepared_moved depth (filter_of mode_x fx area.width) (filter_of mode_y fy area.height) (sample_of num block) samples r c c same_here fx fy
+  pub prepared_copied : fx ≡ 0 → fy ≡ 0 →
+      pos (s c r * 2 ^ intermediate_bits depth) -ℤ bias depth ≡ prepared depth fx fy (filter_of mode_x fx w) (filter_of mode_y fy h) around r c
+  prepared_copied ex ey = copied_prepared depth (filter_of mode_x fx w) (filter_of mode_y fy h) w h s around r c k l fx fy ex ey same

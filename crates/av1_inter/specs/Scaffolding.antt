@@ -12,7 +12,7 @@ use Rattle.av1_inter.specs.declared.strip.Taps.{Taps}
 use Rattle.av1_inter.specs.declared.two_filters.Halves.{Halves}
 use Rattle.av1_frame.specs.Arithmetic.{clip}
 use Rattle.av1_inter.specs.Motion.{bias, entry, intermediate_bits, weighted}
-use Rattle.av1_inter.specs.Places.{AreWithinDepth}
+use Rattle.av1_inter.specs.Places.{AreWithinDepth, HoldRows, sample_in}
 
 -- the sum of a filter's positive weights, and then of its negative weights without their sign
 abbrev pub gains : List ℤ → ℕ
@@ -146,35 +146,38 @@ pub record IsLaid {T : Type 0} (num : T → ℕ) (strip : Strip T) (taps : Taps)
 
 -- the number at column x and row y of a strip's source
 abbrev pub sample_of : {T : Type 0} → (T → ℕ) → Strip T → (x y : ℕ) → ℕ
-sample_of num strip x y = slice_index (map num strip.source.now) (y * strip.source_stride + x)
+sample_of num strip = sample_in num strip.source.now strip.source_stride
 
--- A block whose taps are stored: 7 columns and 7 rows more than the block has, with samples of the depth.
-pub record IsBlock {T : Type 0} (num : T → ℕ) (block : Strip T) : Type 0 where
+-- A block whose source has `across` columns and `down` rows more than the block, with samples of the depth.
+pub record IsBlock {T : Type 0} (num : T → ℕ) (across down : ℕ) (block : Strip T) : Type 0 where
   pub wide : block.area.width ≤ 128
   pub high : block.area.height ≤ 128
+  pub some : 0 < block.area.height
   pub depths : IsDepth block.bit_depth
-  pub reach : (y : ℕ) → y < block.area.height + 7 →
-      y * block.source_stride + (block.area.width + 7) ≤ length block.source.now
-  pub within : AreWithinDepth block.bit_depth (sample_of num block) (block.area.width + 7) (block.area.height + 7)
+  pub reach : HoldRows (length block.source.now) block.source_stride (block.area.width + across)
+      (block.area.height + down)
+  pub within : AreWithinDepth block.bit_depth (sample_of num block) (block.area.width + across)
+      (block.area.height + down)
 
 -- half of each weight
 abbrev pub halved : List ℤ → List ℤ
 halved taps = map (λ z. int_shr z 1) taps
 
--- The values that filters give for row r and column c of a block, over its samples and by halved weights: only along
--- its rows, only down its columns, and both ways. Between the two filters, values are kept as numbers of 15 bits.
+-- The values that filters give for row r and column c of a block, over the samples that it reads and by halved weights:
+-- only along its rows, only down its columns, and both ways. Between the two filters, values are kept as numbers of 15
+-- bits.
 abbrev pub along : Rounding → List ℤ → (ℕ → ℕ → ℕ) → (y c : ℕ) → ℤ
 along rounding halves samples y c = settled rounding (weighted halves (λ t. pos (samples (c + t) y)))
 
 abbrev pub down_alone : Rounding → List ℤ → (ℕ → ℕ → ℕ) → (r c : ℕ) → ℤ
-down_alone rounding halves samples r c = settled rounding (weighted halves (λ t. pos (samples (c + 3) (r + t))))
+down_alone rounding halves samples r c = settled rounding (weighted halves (λ t. pos (samples c (r + t))))
 
 abbrev pub both_ways : Rounding → (depth : ℕ) → (across down : List ℤ) → (ℕ → ℕ → ℕ) → (r c : ℕ) → ℤ
 both_ways rounding depth across down samples r c =
     settled rounding (weighted down (λ t. pos (clip 15 (along (between_filters depth) across samples (r + t) c))))
 
 abbrev pub value_of : Roundings → (depth fx fy : ℕ) → (across down : List ℤ) → (ℕ → ℕ → ℕ) → (r c : ℕ) → ℤ
-value_of roundings depth fx zero across down samples r c = along roundings.rows across samples (r + 3) c
+value_of roundings depth fx zero across down samples r c = along roundings.rows across samples r c
 value_of roundings depth zero (suc _) across down samples r c = down_alone roundings.columns down samples r c
 value_of roundings depth (suc _) (suc _) across down samples r c =
     both_ways roundings.both depth across down samples r c

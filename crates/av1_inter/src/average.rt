@@ -15,6 +15,7 @@ ghost use Rattle.av1_blocks.specs.Depths.{IsDepth};
 
 use crate::copies::copy_each;
 use crate::rounding::{greatest, intermediate_bits};
+use crate::writer::depth_of;
 use av1_frame::{Pixel, PlaneRegionMut, StoredArea};
 
 /// The sum of two numbers, or the nearest number of 16 bits.
@@ -43,26 +44,19 @@ fn rise(bit_depth: usize) -> i16
     }
 }
 
-/// The sum of a number and such a rise, or the greatest number of 16 bits.
+/// The number of the sample that is the average of two prepared values. A compiler knows all but the shift if samples
+/// have one byte: a known shift next to the limits makes it form these in a longer way.
 #[inline(always)]
-fn raised(number: i16, rise: i16) -> i16
-    requires { Between 0 16400 rise }
-    ensures { result ≡ saturate_signed w16 (number +ℤ rise) }
-{
-    // The number is cut before the sum, so the sum never leaves 16 bits.
-    number.min(32767 - rise) + rise
-}
-
-/// The number of the sample that is the average of two prepared values.
-#[inline(always)]
-fn average_number(first: i16, second: i16, bit_depth: usize) -> i16
-    requires { IsDepth bit_depth }
+fn average_number<T: Pixel>(first: i16, second: i16, bit_depth: usize) -> i16
+    requires depths { IsDepth bit_depth }
+    requires depth { bit_depth ≤ T.BITS }
     ensures { result ≡ pos (averaged bit_depth first second) }
 {
-    let sum = raised(held_sum(first, second), rise(bit_depth));
+    let known = depth_of::<T>(bit_depth);
+    let sum = held_sum(held_sum(first, second), rise(known));
     (sum >> (intermediate_bits(bit_depth) + 1))
         .max(0)
-        .min(greatest(bit_depth))
+        .min(greatest(known))
 }
 
 /// The sample that is the average of two prepared values.
@@ -72,7 +66,7 @@ fn average_of<T: Pixel>(first: i16, second: i16, bit_depth: usize) -> T
     requires depth { bit_depth ≤ T.BITS }
     ensures { result ≡ T.pixel (averaged bit_depth first second) }
 {
-    T::from_u32(average_number(first, second, bit_depth) as u32)
+    T::from_u32(average_number::<T>(first, second, bit_depth) as u32)
 }
 
 /// Sets the first `width` samples of the row to the averages of the values from `start` on.

@@ -2,10 +2,11 @@
 //!
 //! AV1 specification: block inter prediction process.
 
-ghost use Rattle.std.specs.Prelude.{◌≡◌, ◌≢◌, ◌⊎◌, ◌≤ℤ◌, ◌<ℤ◌, pos, length, unsigned_abs};
+ghost use Rattle.std.specs.Prelude.{◌≡◌, ◌≢◌, ◌⊎◌, ◌<◌, length, unsigned_abs};
 ghost use Rattle.av1_frame.specs.Areas.{AreRows};
 ghost use Rattle.av1_frame.specs.Samples.{paint};
 ghost use Rattle.av1_inter.specs.Filters.{filter_of};
+ghost use Rattle.av1_inter.specs.Places.{read_beside};
 ghost use Rattle.av1_inter.specs.Scaffolding.{halved, IsBlock, sample_of, value_of};
 
 use crate::filter::get_filter;
@@ -16,17 +17,43 @@ use crate::writer::Writer;
 use av1_blocks::FilterMode;
 use av1_frame::Pixel;
 
-/// How far a block is moved, in sixteenths of a sample to the right and down, and the filters for these directions.
+/// How far a block is moved from the place at which it is read, and the filters for these directions.
 #[derive(Clone, Copy)]
-pub(crate) struct Moved {
-    pub(crate) col_frac: i32,
-    pub(crate) row_frac: i32,
-    pub(crate) mode_x: FilterMode,
-    pub(crate) mode_y: FilterMode,
+pub struct Moved {
+    /// How far it is moved right, in sixteenths of a sample: below 16.
+    pub col_frac: usize,
+    /// How far it is moved down, in sixteenths of a sample: below 16.
+    pub row_frac: usize,
+    /// The filter along its rows.
+    pub mode_x: FilterMode,
+    /// The filter down its columns.
+    pub mode_y: FilterMode,
 }
 
-/// Writes the entries of a block that is moved by part of a sample.
+/// The same as `Moved`, from fractions as rav1e passes them.
 #[inline(always)]
+pub(crate) fn moved_by(
+    col_frac: i32,
+    row_frac: i32,
+    mode_x: FilterMode,
+    mode_y: FilterMode,
+) -> Moved
+    ensures col_frac { result.col_frac ≡ unsigned_abs col_frac }
+    ensures row_frac { result.row_frac ≡ unsigned_abs row_frac }
+    ensures mode_x { result.mode_x ≡ mode_x }
+    ensures mode_y { result.mode_y ≡ mode_y }
+{
+    Moved {
+        col_frac: col_frac.unsigned_abs() as usize,
+        row_frac: row_frac.unsigned_abs() as usize,
+        mode_x,
+        mode_y,
+    }
+}
+
+/// Writes the entries of a block that is moved by part of a sample. In a direction in which it isn't, nothing is read
+/// beside the block.
+#[inline(never)]
 pub(crate) fn filter_block<T: Pixel, E: Copy, W: Writer<E>>(
     target: &mut [E],
     stride: usize,
@@ -34,19 +61,20 @@ pub(crate) fn filter_block<T: Pixel, E: Copy, W: Writer<E>>(
     moved: Moved,
 )
     requires rows { AreRows stride block.now.area (length target.old) }
-    requires block { IsBlock T.num block.now }
+    requires block { IsBlock T.num (read_beside moved.col_frac) (read_beside moved.row_frac) block.now }
     requires serves { W.serves block.now.bit_depth }
-    requires col_frac { (pos 0 ≤ℤ moved.col_frac) × (moved.col_frac <ℤ pos 16) }
-    requires row_frac { (pos 0 ≤ℤ moved.row_frac) × (moved.row_frac <ℤ pos 16) }
-    requires some { (moved.col_frac ≢ pos 0) ⊎ (moved.row_frac ≢ pos 0) }
-    ensures { let depth = block.now.bit_depth in let a = block.now.area in let fx = unsigned_abs moved.col_frac in let fy = unsigned_abs moved.row_frac in
-        target.new ≡ paint stride a (λ r c _. W.written depth (value_of (W.roundings depth) depth fx fy
-        (halved (filter_of moved.mode_x fx a.width)) (halved (filter_of moved.mode_y fy a.height)) (sample_of T.num block.now) r c)) target.old }
+    requires col_frac { moved.col_frac < 16 }
+    requires row_frac { moved.row_frac < 16 }
+    requires some { (moved.col_frac ≢ 0) ⊎ (moved.row_frac ≢ 0) }
+    ensures { let depth = block.now.bit_depth in let a = block.now.area in
+        target.new ≡ paint stride a (λ r c _. W.written depth (value_of (W.roundings depth) depth moved.col_frac moved.row_frac
+        (halved (filter_of moved.mode_x moved.col_frac a.width)) (halved (filter_of moved.mode_y moved.row_frac a.height))
+        (sample_of T.num block.now) r c)) target.old }
 {
     let depth = block.bit_depth;
     if moved.row_frac == 0 {
         let taps = Taps {
-            start: 3 * block.source_stride,
+            start: 0,
             step: 1,
             halves: get_filter(moved.mode_x, moved.col_frac, block.area.width),
             rounding: W::roundings(depth).rows,
@@ -54,7 +82,7 @@ pub(crate) fn filter_block<T: Pixel, E: Copy, W: Writer<E>>(
         filter_once::<T, E, W>(target, stride, block, &taps);
     } else if moved.col_frac == 0 {
         let taps = Taps {
-            start: 3,
+            start: 0,
             step: block.source_stride,
             halves: get_filter(moved.mode_y, moved.row_frac, block.area.height),
             rounding: W::roundings(depth).columns,

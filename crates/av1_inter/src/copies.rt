@@ -2,15 +2,15 @@
 //!
 //! AV1 specification: block inter prediction process.
 
-ghost use Rattle.std.specs.Prelude.{◌≡◌, ◌+◌, ◌*◌, ◌^◌, ◌≤◌, ◌<◌, pos, ◌-ℤ◌, ℕ, length, map, slice_index, slice_index_or};
+ghost use Rattle.std.specs.Prelude.{◌≡◌, false, ◌+◌, ◌*◌, ◌^◌, ◌≤◌, ◌<◌, pos, ◌-ℤ◌, ℕ, length, map, slice_index, slice_index_or};
 ghost use Rattle.av1_blocks.specs.Depths.{IsDepth};
 ghost use Rattle.av1_frame.specs.Areas.{AreRows};
 ghost use Rattle.av1_frame.specs.Samples.{paint, paint_row};
-ghost use Rattle.av1_inter.specs.Motion.{bias, entry, intermediate_bits};
-ghost use Rattle.av1_inter.specs.Scaffolding.{IsBlock, IsStripWidth, sample_of};
+ghost use Rattle.av1_inter.specs.Motion.{bias, intermediate_bits};
+ghost use Rattle.av1_inter.specs.Scaffolding.{IsBlock, sample_of};
 
 use crate::rounding::{intermediate_bits, prep_bias};
-use crate::strip::{Strip, part_at, strip_width};
+use crate::strip::Strip;
 use av1_frame::{Pixel, copy_row};
 
 /// Sets the first `N` samples of the row to those of `source`.
@@ -78,13 +78,13 @@ fn copy_rows<T: Pixel, const N: usize>(samples: &mut [T], stride: usize, block: 
     requires rows { AreRows stride block.now.area (length samples.old) }
     requires width { block.now.area.width ≡ N }
     requires some { 0 < N }
-    requires block { IsBlock T.num block.now }
-    ensures { samples.new ≡ paint stride block.now.area (λ r c _. T.pixel (sample_of T.num block.now (c + 3) (r + 3))) samples.old }
+    requires block { IsBlock T.num 0 0 block.now }
+    ensures { samples.new ≡ paint stride block.now.area (λ r c _. T.pixel (sample_of T.num block.now c r)) samples.old }
 {
     let block = *block;
     for r in 0..block.area.height {
         let (_, row) = samples.split_at_mut((block.area.y + r) * stride + block.area.x);
-        let (_, from) = block.source.split_at((r + 3) * block.source_stride + 3);
+        let (_, from) = block.source.split_at(r * block.source_stride);
         copy_line::<T, N>(row, from);
     }
 }
@@ -93,22 +93,23 @@ fn copy_rows<T: Pixel, const N: usize>(samples: &mut [T], stride: usize, block: 
 #[tactic(auto, using(av1_frame::proofs::Paint::rectangle_painting))]
 fn copy_any_rows<T: Pixel>(samples: &mut [T], stride: usize, block: &Strip<'_, T>)
     requires rows { AreRows stride block.now.area (length samples.old) }
-    requires block { IsBlock T.num block.now }
-    ensures { samples.new ≡ paint stride block.now.area (λ r c _. T.pixel (sample_of T.num block.now (c + 3) (r + 3))) samples.old }
+    requires block { IsBlock T.num 0 0 block.now }
+    ensures { samples.new ≡ paint stride block.now.area (λ r c _. T.pixel (sample_of T.num block.now c r)) samples.old }
 {
     for r in 0..block.area.height {
         let (_, row) = samples.split_at_mut((block.area.y + r) * stride + block.area.x);
-        let (_, from) = block.source.split_at((r + 3) * block.source_stride + 3);
+        let (_, from) = block.source.split_at(r * block.source_stride);
         copy_row(row, from, block.area.width);
     }
 }
 
-/// Writes the samples of a block that is not moved by part of a sample.
-#[inline(always)]
+/// Writes the samples of a block that is not moved by part of a sample. As part of one function with the filters, its
+/// loops would keep numbers in memory.
+#[inline(never)]
 pub(crate) fn put_copy<T: Pixel>(samples: &mut [T], stride: usize, block: &Strip<'_, T>)
     requires rows { AreRows stride block.now.area (length samples.old) }
-    requires block { IsBlock T.num block.now }
-    ensures { samples.new ≡ paint stride block.now.area (λ r c _. T.pixel (sample_of T.num block.now (c + 3) (r + 3))) samples.old }
+    requires block { IsBlock T.num 0 0 block.now }
+    ensures { samples.new ≡ paint stride block.now.area (λ r c _. T.pixel (sample_of T.num block.now c r)) samples.old }
 {
     match block.area.width {
         4 => copy_rows::<T, 4>(samples, stride, block),
@@ -133,74 +134,98 @@ fn widen<T: Pixel>(sample: T, bit_depth: usize) -> i16
     value as i16
 }
 
-/// The first `N` samples of a row in the intermediate bits, less the bias.
+/// Sets the first `width` entries of the row to the prepared values of the samples.
 #[inline(always)]
-fn widen_row<T: Pixel, const N: usize>(source: &[T], bit_depth: usize) -> [i16; N]
-    requires short { N ≤ 128 }
+#[tactic(auto, using(av1_frame::proofs::Paint::row_painting))]
+fn widen_row<T: Pixel>(row: &mut [i16], source: &[T], width: usize, bit_depth: usize)
+    requires row_long { width ≤ length row.old }
+    requires source_long { width ≤ length source.now }
     requires depths { IsDepth bit_depth }
+    requires within { (c : ℕ) → c < width → slice_index (map T.num source.now) c < 2 ^ bit_depth }
+    ensures { row.new ≡ paint_row width (λ c _. pos (slice_index (map T.num source.now) c * 2 ^ intermediate_bits bit_depth) -ℤ bias bit_depth) row.old }
+{
+    for c in 0..width {
+        row[c] = widen(source[c], bit_depth);
+    }
+}
+
+/// As `widen_row`, through an array of its own, so that nothing that is read can be what is written.
+#[inline(always)]
+fn widen_by_array<T: Pixel, const N: usize>(row: &mut [i16], source: &[T], bit_depth: usize)
+    requires row_long { N ≤ length row.old }
+    requires short { N ≤ 128 }
     requires source_long { N ≤ length source.now }
+    requires depths { IsDepth bit_depth }
     requires within { (c : ℕ) → c < N → slice_index (map T.num source.now) c < 2 ^ bit_depth }
-    ensures { (c : ℕ) → c < N → entry result c ≡ pos (slice_index (map T.num source.now) c * 2 ^ intermediate_bits bit_depth) -ℤ bias bit_depth }
+    ensures { row.new ≡ paint_row N (λ c _. pos (slice_index (map T.num source.now) c * 2 ^ intermediate_bits bit_depth) -ℤ bias bit_depth) row.old }
 {
-    let mut values = [0; N];
-    for c in 0..N {
-        values[c] = widen(source[c], bit_depth);
-    }
-    values
+    let mut line = [0; N];
+    widen_row(&mut line, source, N, bit_depth);
+    copy_each::<i16, N>(row, &line);
 }
 
-/// Writes the prepared values of a strip of `N` columns.
-#[tactic(auto, using(av1_frame::proofs::Paint::rectangle_painting))]
-fn widen_rows<T: Pixel, const N: usize>(tmp: &mut [i16], stride: usize, strip: &Strip<'_, T>)
-    requires rows { AreRows stride strip.now.area (length tmp.old) }
-    requires width { strip.now.area.width ≡ N }
-    requires strip { IsBlock T.num strip.now }
-    ensures { tmp.new ≡
-        paint stride strip.now.area
-        (λ r c _. pos (sample_of T.num strip.now (c + 3) (r + 3) * 2 ^ intermediate_bits strip.now.bit_depth) -ℤ bias strip.now.bit_depth) tmp.old }
+/// As `widen_row`. If `ANY` is false, `width` is `N`, and the values go through an array.
+#[inline(always)]
+fn widen_row_of<T: Pixel, const N: usize, const ANY: bool>(
+    row: &mut [i16],
+    source: &[T],
+    width: usize,
+    bit_depth: usize,
+)
+    requires row_long { width ≤ length row.old }
+    requires width { ANY ≡ false → width ≡ N }
+    requires short { N ≤ 128 }
+    requires source_long { width ≤ length source.now }
+    requires depths { IsDepth bit_depth }
+    requires within { (c : ℕ) → c < width → slice_index (map T.num source.now) c < 2 ^ bit_depth }
+    ensures { row.new ≡ paint_row width (λ c _. pos (slice_index (map T.num source.now) c * 2 ^ intermediate_bits bit_depth) -ℤ bias bit_depth) row.old }
 {
-    let strip = *strip;
-    for r in 0..strip.area.height {
-        let (_, from) = strip.source.split_at((r + 3) * strip.source_stride + 3);
-        let values = widen_row::<T, N>(from, strip.bit_depth);
-        let (_, row) = tmp.split_at_mut((strip.area.y + r) * stride + strip.area.x);
-        copy_each::<i16, N>(row, &values);
-    }
-}
-
-/// Writes the prepared values of a strip of 16, 8, 4 or 1 columns.
-fn widen_columns<T: Pixel>(tmp: &mut [i16], stride: usize, strip: &Strip<'_, T>)
-    requires rows { AreRows stride strip.now.area (length tmp.old) }
-    requires kind { IsStripWidth strip.now.area.width }
-    requires strip { IsBlock T.num strip.now }
-    ensures { tmp.new ≡
-        paint stride strip.now.area
-        (λ r c _. pos (sample_of T.num strip.now (c + 3) (r + 3) * 2 ^ intermediate_bits strip.now.bit_depth) -ℤ bias strip.now.bit_depth) tmp.old }
-{
-    if strip.area.width == 16 {
-        widen_rows::<T, 16>(tmp, stride, strip);
-    } else if strip.area.width == 8 {
-        widen_rows::<T, 8>(tmp, stride, strip);
-    } else if strip.area.width == 4 {
-        widen_rows::<T, 4>(tmp, stride, strip);
+    if ANY {
+        widen_row(row, source, width, bit_depth);
     } else {
-        widen_rows::<T, 1>(tmp, stride, strip);
+        widen_by_array::<T, N>(row, source, bit_depth);
+    }
+}
+
+/// Writes the prepared values of a block. It has `N` columns unless `ANY` is true.
+#[tactic(auto, using(av1_frame::proofs::Paint::rectangle_painting))]
+fn widen_rows<T: Pixel, const N: usize, const ANY: bool>(
+    tmp: &mut [i16],
+    stride: usize,
+    block: &Strip<'_, T>,
+)
+    requires rows { AreRows stride block.now.area (length tmp.old) }
+    requires width { ANY ≡ false → block.now.area.width ≡ N }
+    requires short { N ≤ 128 }
+    requires block { IsBlock T.num 0 0 block.now }
+    ensures { tmp.new ≡
+        paint stride block.now.area
+        (λ r c _. pos (sample_of T.num block.now c r * 2 ^ intermediate_bits block.now.bit_depth) -ℤ bias block.now.bit_depth) tmp.old }
+{
+    let block = *block;
+    for r in 0..block.area.height {
+        let (_, from) = block.source.split_at(r * block.source_stride);
+        let (_, row) = tmp.split_at_mut((block.area.y + r) * stride + block.area.x);
+        widen_row_of::<T, N, ANY>(row, from, block.area.width, block.bit_depth);
     }
 }
 
 /// Writes the prepared values of a block that is not moved by part of a sample.
+#[inline(never)]
 pub(crate) fn prepare_copy<T: Pixel>(tmp: &mut [i16], stride: usize, block: &Strip<'_, T>)
     requires rows { AreRows stride block.now.area (length tmp.old) }
-    requires block { IsBlock T.num block.now }
+    requires block { IsBlock T.num 0 0 block.now }
     ensures { tmp.new ≡
         paint stride block.now.area
-        (λ r c _. pos (sample_of T.num block.now (c + 3) (r + 3) * 2 ^ intermediate_bits block.now.bit_depth) -ℤ bias block.now.bit_depth) tmp.old }
+        (λ r c _. pos (sample_of T.num block.now c r * 2 ^ intermediate_bits block.now.bit_depth) -ℤ bias block.now.bit_depth) tmp.old }
 {
-    let mut start = 0;
-    while start < block.area.width {
-        let columns = strip_width(block.area.width - start);
-        let strip = part_at(block, start, 0, columns, block.area.height);
-        widen_columns(tmp, stride, &strip);
-        start += columns;
+    match block.area.width {
+        4 => widen_rows::<T, 4, false>(tmp, stride, block),
+        8 => widen_rows::<T, 8, false>(tmp, stride, block),
+        16 => widen_rows::<T, 16, false>(tmp, stride, block),
+        32 => widen_rows::<T, 32, false>(tmp, stride, block),
+        64 => widen_rows::<T, 64, false>(tmp, stride, block),
+        128 => widen_rows::<T, 128, false>(tmp, stride, block),
+        _ => widen_rows::<T, 0, true>(tmp, stride, block),
     }
 }

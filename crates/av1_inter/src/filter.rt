@@ -2,7 +2,7 @@
 //!
 //! AV1 specification: block inter prediction process.
 
-ghost use Rattle.std.specs.Prelude.{◌≡◌, ◌≤◌, ◌<◌, pos, ◌≤ℤ◌, ◌<ℤ◌, unsigned_abs};
+ghost use Rattle.std.specs.Prelude.{◌≡◌, ◌≤◌, ◌<◌};
 ghost use Rattle.std.specs.Int.{int_shr};
 ghost use Rattle.av1_inter.specs.Filters.{family, filter_of, mode_along, short_family};
 ghost use Rattle.av1_inter.specs.Motion.{entry};
@@ -53,13 +53,12 @@ fn family(mode: FilterMode, length: usize) -> usize
 }
 
 /// The weights of a mode at `frac` sixteenths, along a side of `length` samples.
-fn taps_at(mode: FilterMode, frac: i32, length: usize) -> [i32; SUBPEL_FILTER_SIZE]
-    requires low { pos 0 ≤ℤ frac }
-    requires high { frac <ℤ pos 16 }
-    ensures { result ≡ filter_of mode (unsigned_abs frac) length }
+fn taps_at(mode: FilterMode, frac: usize, length: usize) -> [i32; SUBPEL_FILTER_SIZE]
+    requires { frac < 16 }
+    ensures { result ≡ filter_of mode frac length }
 {
     let filters = &SUBPEL_FILTERS;
-    filters[family(mode, length)][frac as usize]
+    filters[family(mode, length)][frac]
 }
 
 /// Half of a weight.
@@ -89,10 +88,9 @@ fn halves_of(taps: &[i32; SUBPEL_FILTER_SIZE]) -> [i16; SUBPEL_FILTER_SIZE]
 /// Half of each weight of the filter of a mode at `frac` sixteenths, along a side of `length` samples. The weights
 /// belong to the samples at the offsets -3 to 4. The halves are in parts of 64.
 #[inline(always)]
-pub(crate) fn get_filter(mode: FilterMode, frac: i32, length: usize) -> [i16; SUBPEL_FILTER_SIZE]
-    requires low { pos 0 ≤ℤ frac }
-    requires high { frac <ℤ pos 16 }
-    ensures value { result ≡ halved (filter_of mode (unsigned_abs frac) length) }
+pub(crate) fn get_filter(mode: FilterMode, frac: usize, length: usize) -> [i16; SUBPEL_FILTER_SIZE]
+    requires { frac < 16 }
+    ensures value { result ≡ halved (filter_of mode frac length) }
     ensures filter { IsFilter (doubled result) }
 {
     halves_of(&taps_at(mode, frac, length))

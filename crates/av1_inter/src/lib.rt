@@ -10,8 +10,9 @@
 //!   block's position in the reference. All other samples are unchanged.
 //! - `prep_8tap` writes `prepared` of them, row by row, to the first entries of a buffer. The others are unchanged.
 //! - `mc_avg` sets each sample of a block to `averaged` of two prepared values.
-//! - `put_8tap_to` and `mc_avg_to` do the same to a rectangle of a slice, in memory of any caller. `put_8tap` and
-//!   `mc_avg` lend them the samples of a region.
+//! - `put_8tap_to`, `prep_8tap_from` and `mc_avg_to` do the same from or to slices, in memory of any caller.
+//!   `put_8tap`, `prep_8tap` and `mc_avg` lend them the samples of a plane or a region. The first two read only what
+//!   the fractions need (`IsReadFrom` of `specs/Places.antt`).
 //! - `predict_inter_single`, `predict_inter_compound` and `predict_inter` predict a block from the planes in a frame's
 //!   slots, moved by vectors (`PredictsSingle` and `PredictsCompound` of `specs/Prediction.antt`). The planes are
 //!   padded, and for every vector a position outside the frame reads the nearest visible sample. If the slot of a
@@ -27,8 +28,9 @@
 //!
 //! No intermediate value wraps, and every prepared value fits 16 bits. Only `InterCompoundBuffers::new` allocates, and
 //! no other call can fail. Widths, heights and positions are counted in samples, vectors in eighths of a luma sample,
-//! fractions in sixteenths of a sample. A filter has eight taps, so a block needs 3 stored columns and rows before it
-//! and 4 after it, at every fraction.
+//! fractions in sixteenths of a sample. A filter has eight taps, so in a direction in which a block is moved by part of
+//! a sample, it reads 3 columns or rows before it and 4 after it. `put_8tap` and `prep_8tap` need these stored at every
+//! fraction.
 //!
 //! Fractions, width and height, and the bytes of a sample choose the functions that compute a block. `put_8tap` and
 //! `prep_8tap` share the filters, and a `Writer` turns the filtered values into samples or prepared values:
@@ -37,7 +39,7 @@
 //! |---|---|---|---|
 //! | none, put | a width of 4, 8, 16, 32, 64 or 128 | `put_copy`: `copy_rows` | the same |
 //! | none, put | any other width | `put_copy`: `copy_any_rows` | the same |
-//! | none, prepared | any: strips of 16, 8, 4 or 1 columns | `prepare_copy`: `widen_rows` | the same |
+//! | none, prepared | any | `prepare_copy`: `widen_rows`, by an array if the width is one of these six | the same |
 //! | only one | 4x4, by four weights | `filter_by`: `filter_four` or `filter_words` | as other sides |
 //! | only across | any other: strips of 16 or 8 columns | `filter_once`: `filter_bytes` | `filter_once`: `filter_words` |
 //! | only across | the rest: strips of 4 columns or 1 | `filter_once`: `filter_four` or `filter_words` | `filter_once`: `filter_words` |
@@ -69,6 +71,7 @@ mod words;
 mod writer;
 
 pub use average::{mc_avg, mc_avg_to};
+pub use block::Moved;
 pub use buffers::InterCompoundBuffers;
 pub use filter::mode_along;
 pub use laws::{
@@ -76,5 +79,5 @@ pub use laws::{
 };
 pub use moved::sixteenths;
 pub use predict::{predict_inter, predict_inter_compound, predict_inter_single};
-pub use prepare::prep_8tap;
+pub use prepare::{prep_8tap, prep_8tap_from};
 pub use put::{put_8tap, put_8tap_to};

@@ -9,7 +9,7 @@ ghost use Rattle.av1_blocks.specs.Depths.{IsDepth};
 ghost use Rattle.av1_frame.specs.Areas.{AreRows};
 ghost use Rattle.av1_frame.specs.Samples.{corner, paint, paint_row};
 ghost use Rattle.av1_inter.specs.Motion.{entry};
-ghost use Rattle.av1_inter.specs.Scaffolding.{AreZero, doubled, filtered, IsAlone, IsBlock, IsFilter, IsLaid, IsRounding, IsStripWidth, settled, sum_from};
+ghost use Rattle.av1_inter.specs.Scaffolding.{AreZero, doubled, filtered, IsAlone, IsFilter, IsLaid, IsRounding, IsStripWidth, settled, sum_from};
 
 use crate::bytes::filter_bytes;
 use crate::filter::outer_zeros;
@@ -29,7 +29,7 @@ fn filter_line<T: Pixel, const N: usize, const ZEROS: usize>(
     requires few { ZEROS ≤ 2 }
     requires zeros { AreZero ZEROS taps.now.halves }
     requires rounding { IsRounding taps.now.rounding }
-    requires short { N ≤ 128 }
+    requires kind { IsStripWidth N }
     requires reach { start + N + 7 * taps.now.step ≤ length source.now }
     requires small { (c t : ℕ) → c < N → t < 8 → slice_index (map T.num source.now) (start + c + t * taps.now.step) < 32768 }
     ensures { (c : ℕ) → c < N →
@@ -76,7 +76,7 @@ fn filter_row<T: Pixel, E: Copy, W: Writer<E>, const N: usize, const ZEROS: usiz
 )
     requires rows { AreRows stride strip.now.area (length target.old) }
     requires width { strip.now.area.width ≡ N }
-    requires short { N ≤ 128 }
+    requires kind { IsStripWidth N }
     requires few { ZEROS ≤ 2 }
     requires zeros { AreZero ZEROS taps.now.halves }
     requires laid { IsLaid T.num strip.now taps.now }
@@ -130,7 +130,7 @@ fn filter_by<
 >(target: &mut [E], stride: usize, strip: &Strip<'_, T>, taps: &Taps)
     requires rows { AreRows stride strip.now.area (length target.old) }
     requires width { strip.now.area.width ≡ N }
-    requires short { N ≤ 128 }
+    requires kind { IsStripWidth N }
     requires few { ZEROS ≤ 2 }
     requires zeros { AreZero ZEROS taps.now.halves }
     requires laid { IsLaid T.num strip.now taps.now }
@@ -158,7 +158,7 @@ pub(crate) fn filter_strip<T: Pixel, E: Copy, W: Writer<E>, const N: usize, cons
 )
     requires rows { AreRows stride strip.now.area (length target.old) }
     requires width { strip.now.area.width ≡ N }
-    requires short { N ≤ 128 }
+    requires kind { IsStripWidth N }
     requires laid { IsLaid T.num strip.now taps.now }
     requires depths { IsDepth strip.now.bit_depth }
     requires serves { W.serves strip.now.bit_depth }
@@ -212,7 +212,8 @@ pub(crate) fn filter_once<T: Pixel, E: Copy, W: Writer<E>>(
     taps: &Taps,
 )
     requires rows { AreRows stride block.now.area (length target.old) }
-    requires block { IsBlock T.num block.now }
+    requires some { 0 < block.now.area.height }
+    requires depths { IsDepth block.now.bit_depth }
     requires laid { IsLaid T.num block.now taps.now }
     requires serves { W.serves block.now.bit_depth }
     requires alone { IsAlone (W.roundings block.now.bit_depth) taps.now.rounding }

@@ -1,20 +1,18 @@
 //! Rectangles that are filtered, and filters that are laid on them.
 
-ghost use Rattle.std.specs.Prelude.{◌≡◌, ℕ, ◌+◌, ◌*◌, ◌^◌, ◌≤◌, ◌<◌, drop};
-ghost use Rattle.av1_inter.specs.Places.{AreWithinDepth, IsStoredFrom, samples_from};
-ghost use Rattle.av1_blocks.specs.Depths.{IsDepth};
-ghost use Rattle.av1_inter.specs.Scaffolding.{IsBlock, IsStripWidth, part_of, sample_of};
+ghost use Rattle.std.specs.Prelude.{◌≡◌, ℕ, ◌+◌, ◌*◌, ◌^◌, ◌≤◌, ◌<◌, drop, length};
+ghost use Rattle.av1_inter.specs.Scaffolding.{IsStripWidth, part_of, sample_of};
 
 use crate::rounding::Rounding;
 use av1_blocks::SUBPEL_FILTER_SIZE;
-use av1_frame::{Pixel, PlaneSlice, StoredArea};
+use av1_frame::{Pixel, StoredArea};
 
 /// A rectangle that is filtered, and the samples that it is filtered from.
 #[derive(Clone, Copy)]
 pub(crate) struct Strip<'a, T> {
     /// The rectangle to which its values are written.
     pub(crate) area: StoredArea,
-    /// All stored samples from the position 3 columns left of and 3 rows above its position in the reference on.
+    /// The samples that it reads, from the first one on.
     pub(crate) source: &'a [T],
     /// The distance between the rows of `source`.
     pub(crate) source_stride: usize,
@@ -32,32 +30,6 @@ pub(crate) struct Taps {
     pub(crate) rounding: Rounding,
 }
 
-/// A block whose taps begin at `corner`.
-#[inline(always)]
-#[tactic(auto, using(crate::proofs::Sources::strip_sources))]
-pub(crate) fn block_at<'a, T: Pixel>(
-    corner: &'a PlaneSlice<'_, T>,
-    area: StoredArea,
-    bit_depth: usize,
-) -> Strip<'a, T>
-    requires wide { area.width ≤ 128 }
-    requires high { area.height ≤ 128 }
-    requires stored { IsStoredFrom corner.now (area.width + 7) (area.height + 7) }
-    requires depths { IsDepth bit_depth }
-    requires within { AreWithinDepth bit_depth (samples_from T.num corner.now) (area.width + 7) (area.height + 7) }
-    ensures block { IsBlock T.num result }
-    ensures area { result.area ≡ area }
-    ensures depth { result.bit_depth ≡ bit_depth }
-    ensures samples { (x y : ℕ) → x < area.width + 7 → y < area.height + 7 → sample_of T.num result x y ≡ samples_from T.num corner.now x y }
-{
-    Strip {
-        area,
-        source: corner.samples(),
-        source_stride: corner.stride(),
-        bit_depth,
-    }
-}
-
 /// The part of a block that begins at its column `x` and row `y`.
 #[inline(always)]
 pub(crate) fn part_at<'a, T: Pixel>(
@@ -67,11 +39,10 @@ pub(crate) fn part_at<'a, T: Pixel>(
     width: usize,
     height: usize,
 ) -> Strip<'a, T>
-    requires block { IsBlock T.num block.now }
+    requires start { y * block.now.source_stride + x ≤ length block.now.source.now }
     requires fits { (block.now.area.x + block.now.area.width < 2 ^ 64) × (block.now.area.y + block.now.area.height < 2 ^ 64) }
     requires columns { x + width ≤ block.now.area.width }
     requires rows { y + height ≤ block.now.area.height }
-    ensures block { IsBlock T.num result }
     ensures area { result.area ≡ part_of block.now.area x y width height }
     ensures source { result.source.now ≡ drop (y * block.now.source_stride + x) block.now.source.now }
     ensures stride { result.source_stride ≡ block.now.source_stride }

@@ -1,10 +1,12 @@
-//! The position at which the taps for a block begin.
+//! The samples of a reference that are read for a block.
 //!
 //! AV1 specification: block inter prediction process.
 
-ghost use Rattle.std.specs.Prelude.{◌≡◌, ℕ};
-ghost use Rattle.av1_inter.specs.Places.{AreWithinDepth, corner_of, IsStoredFrom, samples_from};
+ghost use Rattle.std.specs.Prelude.{◌≡◌, ℕ, ◌+◌, ◌*◌, ◌-◌, drop};
+ghost use Rattle.av1_frame.specs.Slices.{all_from, slice_plane};
+ghost use Rattle.av1_inter.specs.Places.{corner_of, IsStoredFrom, read_before};
 
+use crate::block::Moved;
 use av1_frame::{Pixel, PlaneSlice};
 
 /// The position 3 columns to the left of a block and 3 rows above it.
@@ -13,8 +15,28 @@ pub(crate) fn taps_of_block<T: Pixel>(src: PlaneSlice<'_, T>) -> PlaneSlice<'_, 
     requires { (columns : ℕ) × (rows : ℕ) × IsStoredFrom (corner_of src) columns rows }
     ensures place { result ≡ corner_of src.entry }
     ensures stored { (columns rows : ℕ) → IsStoredFrom (corner_of src.entry) columns rows → IsStoredFrom result columns rows }
-    ensures within { (depth columns rows : ℕ) → AreWithinDepth depth (samples_from T.num (corner_of src.entry)) columns rows →
-        AreWithinDepth depth (samples_from T.num result) columns rows }
 {
     src.go_left(3).go_up(3)
+}
+
+/// How many columns (or rows) round a block come before the first that is read, at a fraction.
+#[inline(always)]
+fn skipped(frac: usize) -> usize
+    ensures { result ≡ 3 - read_before frac }
+{
+    if frac == 0 { 3 } else { 0 }
+}
+
+/// All that is stored from the first sample on that is read for a block. `corner` is 3 columns to the left of the block
+/// and 3 rows above it.
+#[inline(always)]
+pub(crate) fn read_from<'a, T: Pixel>(corner: &'a PlaneSlice<'_, T>, moved: Moved) -> &'a [T]
+    requires { (columns : ℕ) × (rows : ℕ) × IsStoredFrom corner.now (columns + 7) (rows + 7) }
+    ensures { result.now ≡
+        drop ((3 - read_before moved.row_frac) * corner.now.plane_cfg.now.stride + (3 - read_before moved.col_frac))
+        (all_from (slice_plane corner.now) corner.now.x corner.now.y) }
+{
+    let start = skipped(moved.row_frac) * corner.stride() + skipped(moved.col_frac);
+    let (_, source) = corner.samples().split_at(start);
+    source
 }

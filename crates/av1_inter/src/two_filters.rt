@@ -43,9 +43,9 @@ fn filter_part<T: Pixel, E: Copy, W: Writer<E>, const N: usize>(
 )
     requires rows { AreRows stride part.now.area (length target.old) }
     requires width { part.now.area.width ≡ N }
-    requires narrow { N ≤ 16 }
+    requires kind { IsStripWidth N }
     requires low { part.now.area.height ≤ 32 }
-    requires part { IsBlock T.num part.now }
+    requires part { IsBlock T.num 7 7 part.now }
     requires filters { AreFilters halves.now }
     requires serves { W.serves part.now.bit_depth }
     ensures { let b = part.now
@@ -95,7 +95,7 @@ fn filter_part_of<T: Pixel, E: Copy, W: Writer<E>>(
     requires rows { AreRows stride part.now.area (length target.old) }
     requires kind { IsStripWidth part.now.area.width }
     requires low { part.now.area.height ≤ 32 }
-    requires part { IsBlock T.num part.now }
+    requires part { IsBlock T.num 7 7 part.now }
     requires filters { AreFilters halves.now }
     requires serves { W.serves part.now.bit_depth }
     ensures { let b = part.now
@@ -121,7 +121,7 @@ fn filter_parts<T: Pixel, E: Copy, W: Writer<E>>(
 )
     requires rows { AreRows stride strip.now.area (length target.old) }
     requires kind { IsStripWidth strip.now.area.width }
-    requires strip { IsBlock T.num strip.now }
+    requires strip { IsBlock T.num 7 7 strip.now }
     requires filters { AreFilters halves.now }
     requires serves { W.serves strip.now.bit_depth }
     ensures { let b = strip.now
@@ -137,6 +137,7 @@ fn filter_parts<T: Pixel, E: Copy, W: Writer<E>>(
 }
 
 /// Writes the entries of a block, strip by strip.
+#[inline(always)]
 pub(crate) fn filter_twice<T: Pixel, E: Copy, W: Writer<E>>(
     target: &mut [E],
     stride: usize,
@@ -144,7 +145,7 @@ pub(crate) fn filter_twice<T: Pixel, E: Copy, W: Writer<E>>(
     halves: &Halves,
 )
     requires rows { AreRows stride block.now.area (length target.old) }
-    requires block { IsBlock T.num block.now }
+    requires block { IsBlock T.num 7 7 block.now }
     requires filters { AreFilters halves.now }
     requires serves { W.serves block.now.bit_depth }
     ensures { let b = block.now

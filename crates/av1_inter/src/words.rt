@@ -8,7 +8,7 @@
 
 ghost use Rattle.std.specs.Prelude.{◌≡◌, ℕ, ◌+◌, ◌*◌, ◌^◌, ◌≤◌, ◌<◌, nat_lt, if◌then◌else◌, pos, ◌+ℤ◌, ◌*ℤ◌, length, map, slice_index};
 ghost use Rattle.av1_inter.specs.Motion.{entry};
-ghost use Rattle.av1_inter.specs.Scaffolding.{AreZero, Between, crossed, doubled, IsFilter, IsRounding, IsWithin, settled, sum_from};
+ghost use Rattle.av1_inter.specs.Scaffolding.{AreZero, Between, crossed, doubled, IsFilter, IsRounding, IsStripWidth, IsWithin, settled, sum_from};
 
 use crate::rounding::Rounding;
 use av1_blocks::SUBPEL_FILTER_SIZE;
@@ -389,32 +389,6 @@ pub(crate) fn filter_four<T: Pixel, const N: usize, const ZEROS: usize>(
     settle_first::<N>(&sums, rounding)
 }
 
-/// As `filter_group`, from any number of positions on, one by one. No strip is so wide.
-#[inline(never)]
-fn filter_each<T: Pixel, const N: usize, const ZEROS: usize>(
-    source: &[T],
-    start: usize,
-    step: usize,
-    halves: &[i16; SUBPEL_FILTER_SIZE],
-    rounding: Rounding,
-) -> [i16; N]
-    requires filter { IsFilter (doubled halves.now) }
-    requires few { ZEROS ≤ 2 }
-    requires zeros { AreZero ZEROS halves.now }
-    requires rounding { IsRounding rounding }
-    requires short { N ≤ 128 }
-    requires reach { start + N + 7 * step ≤ length source.now }
-    requires small { (c t : ℕ) → c < N → t < 8 → slice_index (map T.num source.now) (start + c + t * step) < 32768 }
-    ensures { (c : ℕ) → c < N → entry result c ≡ settled rounding (sum_from halves.now (λ i. pos (slice_index (map T.num source.now) i)) (start + c) step) }
-{
-    let mut values = [0; N];
-    for c in 0..N {
-        let one = filter_group::<T, 1, ZEROS>(source, start + c, step, halves, rounding);
-        values[c] = one[0];
-    }
-    values
-}
-
 /// As `filter_group`, at once if there are 16 positions.
 #[inline(always)]
 pub(crate) fn filter_words<T: Pixel, const N: usize, const ZEROS: usize>(
@@ -428,7 +402,7 @@ pub(crate) fn filter_words<T: Pixel, const N: usize, const ZEROS: usize>(
     requires few { ZEROS ≤ 2 }
     requires zeros { AreZero ZEROS halves.now }
     requires rounding { IsRounding rounding }
-    requires short { N ≤ 128 }
+    requires kind { IsStripWidth N }
     requires reach { start + N + 7 * step ≤ length source.now }
     requires small { (c t : ℕ) → c < N → t < 8 → slice_index (map T.num source.now) (start + c + t * step) < 32768 }
     ensures { (c : ℕ) → c < N → entry result c ≡ settled rounding (sum_from halves.now (λ i. pos (slice_index (map T.num source.now) i)) (start + c) step) }
@@ -436,9 +410,7 @@ pub(crate) fn filter_words<T: Pixel, const N: usize, const ZEROS: usize>(
     if N == 16 {
         let sums = sixteen_sums::<T, ZEROS>(source, start, step, halves);
         first_of::<16, N>(&settle_sixteen(&sums, rounding))
-    } else if N <= 8 {
-        filter_group::<T, N, ZEROS>(source, start, step, halves, rounding)
     } else {
-        filter_each::<T, N, ZEROS>(source, start, step, halves, rounding)
+        filter_group::<T, N, ZEROS>(source, start, step, halves, rounding)
     }
 }

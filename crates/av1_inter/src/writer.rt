@@ -35,7 +35,7 @@ pub(crate) trait Writer<E: Copy> {
 
 /// The depth of samples of a type, which the compiler knows if they have one byte.
 #[inline(always)]
-fn depth_of<T: Pixel>(bit_depth: usize) -> usize
+pub(crate) fn depth_of<T: Pixel>(bit_depth: usize) -> usize
     requires depths { IsDepth bit_depth }
     requires fits { bit_depth ≤ T.BITS }
     ensures { result ≡ bit_depth }

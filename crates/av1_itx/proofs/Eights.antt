@@ -1,28 +1,24 @@
 -- Columns n at a time.
 use Rattle.std.proofs.Common.{ℕ, true, refl, cond, ltb, leb, ◌&&◌, ◌≡◌, ◌+◌, ◌-◌, ◌*◌, ◌/◌, ◌<◌, ◌≤◌, ℤ, List, ◌++◌, take, length, arith, ap}
 use Rattle.std.proofs.Common.{sym, ◌∙◌, inl}
-use Rattle.std.proofs.Common.{inr, subst, pos, ◌^◌}
+use Rattle.std.proofs.Common.{inr, subst, ◌^◌}
 use Rattle.std.specs.List.{All}
 use Rattle.std.proofs.Math.Nat.{mul-le-mul_left, mul-le-mul_right}
 use Rattle.std.proofs.lemmas.Bool.{cases_lt}
 use Rattle.std.proofs.lemmas.Bool.Decides.{nat_tests}
-use Rattle.std.proofs.lemmas.List.{take_at, take_all, length-map, get_or_past}
-use Rattle.av1_dct.specs.Arithmetic.{at, clamp_value, FitsBits}
-use Rattle.av1_dct.specs.Columns.{column_of}
+use Rattle.std.proofs.lemmas.List.{take_at}
+use Rattle.av1_dct.specs.Arithmetic.{at, FitsBits}
 use Rattle.av1_dct.specs.Cosine.{cosine}
-use Rattle.av1_dct.specs.Operations.{half_btf}
-use Rattle.av1_dct.proofs.Places.{at-by_index}
-use Rattle.av1_dct.proofs.Single.{IsSingle, single}
 use Rattle.av1_lists.specs.Lists.{by_index}
 use Rattle.av1_dct.specs.Word.{column}
 use Rattle.av1_itx.specs.declared.kinds.TxType1D.{TxType1D}
 use Rattle.av1_itx.specs.declared.kinds.TxType1D.TheVariants.{DCT}
 use Rattle.av1_itx.specs.LaneGroups.{is_cosine}
 use Rattle.av1_itx.specs.declared.columns.Columns.{Columns}
-use Rattle.av1_itx.specs.Networks.{HasNetwork, network, network_with}
+use Rattle.av1_itx.specs.Networks.{network, network_with}
 use Rattle.av1_itx.specs.Scaffolding.{AreColumns}
 use Rattle.av1_itx.proofs.Lines.{column_written}
-use Rattle.av1_lists.proofs.Lists.{by_index-all, by_index-same, length-by_index}
+use Rattle.av1_lists.proofs.Lists.{by_index-all, by_index-same}
 
 -- one more group of m columns
 pub groups_more : (w c d m h : ℕ) (F G D : ℕ → ℕ → ℤ) (old new : List ℤ) → d ≡ c + m

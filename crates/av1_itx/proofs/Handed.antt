@@ -26,6 +26,12 @@ groups size =
     elim size as (λ t. (4 * (tx_width t / 4) ≡ tx_width t) × (8 ≤ tx_width t → 8 * (tx_width t / 8) ≡ tx_width t) × (tx_width t ≤ 64))
     [ TX_4X4 ↦ (refl, (λ h. omega arith), omega arith) | _ ↦ (refl, (λ h. omega arith), omega arith) ]
 
+-- how many samples and coefficients a block has at most
+pub areas : (size : TxSize) → (tx_height size * tx_width size ≤ 4096) × (tx_width size * coded (tx_height size) ≤ 2048)
+areas size =
+    elim size as (λ t. (tx_height t * tx_width t ≤ 4096) × (tx_width t * coded (tx_height t) ≤ 2048))
+    [ TX_4X4 ↦ (omega arith, omega arith) | _ ↦ (omega arith, omega arith) ]
+
 pub coefficients_are : {C : Type 0} (val : C → ℤ) (block : Block) (input : List C) → IsDepth block.bd
     → IsTrue (valid_av1_transform block.tx_size block.tx_type) → (block.tx_type ≡ WHT_WHT → block.tx_size ≡ TX_4X4)
     → ((i : ℕ) → i < coded_area block.tx_size → FitsBits (block.bd + 8) (at (map val input) i)) → AreCoefficients val block input

@@ -16,7 +16,6 @@ pub mod ExactRows
 pub mod Passes
 pub mod Tiles
 pub mod Eights
-pub mod Copies
 pub mod Sizes
 pub mod Unclamped
 pub mod Handed

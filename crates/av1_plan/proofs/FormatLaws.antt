@@ -1,7 +1,6 @@
 -- Laws of formats: what a format goes on with, and formats of lists, one behind the other.
-use Rattle.std.proofs.Common.{◌≡◌, List, [], ◌++◌, refl, sym, ap, ◌∙◌, append_assoc}
+use Rattle.std.proofs.Common.{◌≡◌, List, ◌++◌, refl, sym, ap, ◌∙◌, append_assoc}
 use mathlib.Core.Path.{fun_ext}
-use Rattle.std.proofs.lemmas.List.{append-nil}
 use Rattle.av1_plan.specs.Format.{Format, done, asks, ◌>>=◌, nothing, ◌++>◌}
 
 -- ---- formats one behind the other
@@ -21,9 +20,6 @@ bind_done (asks kind next) = ap (asks kind) (fun_ext (λ v. bind_done (next v)))
 
 pub nothing_before : {A : Type 0} (f : Format (List A)) → nothing ++> f ≡ f
 nothing_before f = bind_done f
-
-pub nothing_behind : {A : Type 0} (f : Format (List A)) → f ++> nothing ≡ f
-nothing_behind f = bind_same f (λ xs. done (xs ++ [])) (λ xs. done xs) (λ xs. ap (λ (ys : List _). done ys) (append-nil xs)) ∙ bind_done f
 
 pub both_assoc : {A : Type 0} (f g k : Format (List A)) → f ++> g ++> k ≡ f ++> (g ++> k)
 both_assoc {A} f g k =

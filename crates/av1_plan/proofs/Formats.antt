@@ -1,5 +1,5 @@
 -- Reading one format after another.
-use Rattle.std.proofs.Common.{◌≡◌, ℕ, suc, ◌+◌, ◌-◌, ◌<◌, ◌≤◌, List, [], ◌∷◌, ◌++◌, Ok, Err, refl, sym, ap, ◌∙◌, append_assoc, arith}
+use Rattle.std.proofs.Common.{◌≡◌, ℕ, suc, ◌+◌, ◌-◌, ◌<◌, ◌≤◌, List, [], ◌∷◌, ◌++◌, Ok, Err, refl, sym, ap, subst, ◌∙◌, append_assoc, arith}
 use Rattle.std.proofs.lemmas.List.{append-nil}
 use Rattle.av1_plan.specs.declared.error.PlanError.{PlanError}
 use Rattle.av1_plan.specs.declared.error.PlanError.TheVariants as errors
@@ -95,6 +95,27 @@ unfolding in_turn
 turns_end f count i s total le so_far =
     let k : count - i ≡ 0 = omega arith in
     sym so_far ∙ rw k (add_nothing s.0 s.1)
+
+-- one more item, which is a turn of its own
+pub turn_more : {A : Type 0} (f : ℕ → Format (List A)) (g : Format A) (count i : ℕ) (xs ys : List A) (x : A) (a b : Input) (total : Reading (List A × Input))
+    → f i ≡ lone g → i < count → read g a ≡ Ok (x, b) → ys ≡ xs ++ x ∷ [] → add (in_turn f i (count - i)) (xs, a) ≡ total →
+    add (in_turn f (i + 1) (count - (i + 1))) (ys, b) ≡ total
+turn_more {A} f g count i xs ys x a b total is lt got more so_far =
+    let one : add (f i) (xs, a) ≡ Ok (ys, b) = ap (λ (h : Format (List A)). add h (xs, a)) is ∙ add_lone g xs a
+    ∙ ap (λ (r : Reading (A × Input)). on_ok r (λ p. let q : List A × Input = (xs ++ p.0 ∷ [], p.1) in Ok q)) got
+    ∙ ap (λ (zs : List A). let q : List A × Input = (zs, b) in Ok q) (sym more) in
+    sym
+    (turn f count i (xs, a) lt
+    ∙ ap (λ (r : Reading (List A × Input)). on_ok r (λ p. add (in_turn f (i + 1) (count - (i + 1))) p)) one) ∙ so_far
+
+-- where such a turn fails, all of them do
+pub turn_fails : {A : Type 0} (f : ℕ → Format (List A)) (g : Format A) (count i : ℕ) (xs : List A) (a : Input) (total : Reading (List A × Input))
+    (e : PlanError) → f i ≡ lone g → i < count → Fails e (read g a) → add (in_turn f i (count - i)) (xs, a) ≡ total → Fails e total
+turn_fails {A} f g count i xs a total e is lt fails so_far =
+    let P : Reading (List A × Input) → Type 0 = λ r. Fails e r in
+    let one : Fails e (add (f i) (xs, a)) = subst P (sym (ap (λ (h : Format (List A)). add h (xs, a)) is ∙ add_lone g xs a))
+    (fails_on e (read g a) (λ p. let q : List A × Input = (xs ++ p.0 ∷ [], p.1) in Ok q) fails) in
+    subst P (sym (turn f count i (xs, a) lt) ∙ so_far) (fails_on e (add (f i) (xs, a)) (λ p. add (in_turn f (i + 1) (count - (i + 1))) p) one)
 
 -- one after the other, behind others
 pub ruleset adding = (read_bind, add_bind, add_lone, add_both, add_nothing)

@@ -22,12 +22,13 @@ use Rattle.av1_plan.specs.CodingOrder.{IsOnGrid, IsQuarterInside, IsTwoToOne}
 use Rattle.av1_plan.specs.Grammar.{is_depth, plan}
 use Rattle.av1_plan.specs.Plan.{LeafValue, PlanValue, slot_value, slot_values, planes_value, carried_plane}
 use Rattle.av1_plan.specs.ReadPlans.{IsSide, IsShown, AreSlots, IsReadFrame, ArePlane, IsReadReference, IsReadChroma, IsReadKind, AreThree, IsReadLeaf}
+use Rattle.av1_plan.specs.ReadPlans.{AreStoredSlots, IsStoredSlot}
 use Rattle.av1_plan.specs.Spelling.{IsSpelled}
 use Rattle.av1_plan.proofs.NodeLeaves.{all_leaves}
 use Rattle.av1_plan.proofs.ReadFrames.{depth_is, header_is, plan_pieces}
 use Rattle.av1_plan.proofs.ReadLeaves.{leaf_is}
 use Rattle.av1_plan.proofs.ReadReferences.{references_are}
-use Rattle.av1_plan.specs.Geometry.{coded_width, coded_height}
+use Rattle.av1_plan.specs.Geometry.{coded_width, coded_height, has_slot}
 
 -- ---- a plan that is spelled
 
@@ -147,12 +148,6 @@ kept_leaves p spelled k d within =
 
 -- ---- every plan in memory
 
-pub plan_grid : (p : Plan) → All (IsOnGrid p.header) (plan_value p).leaves
-plan_grid p = kept_grid (plan_value p) p.spelled
-
-pub plan_quarters : (p : Plan) → All (IsQuarterInside p.header) (plan_value p).leaves
-plan_quarters p = kept_quarters (plan_value p) p.spelled
-
 pub read_frame : (p : Plan) → IsReadFrame p.header
 read_frame p = kept_frame (plan_value p) p.spelled
 
@@ -176,3 +171,20 @@ stored_planes slots slot o planes lt at is = get_or-map slot_value slots slot o 
 pub read_samples : (p : Plan) (slot c : ℕ) (samples : List ℕ) → slot < 8 → c < 3 → carried_plane (plan_value p) slot c ≡ Some samples →
     ArePlane p.header c samples
 read_samples p slot c samples slot_in lt e = samples_of p.header slot c _ samples e (read_references p slot c slot_in lt)
+
+-- what is read of the planes of a slot holds of those that it stores
+stored : (h : Header) (value : PlanValue) (slot : ℕ) (o : Option StoredPlanes) → slice_index_or value.references slot None ≡ slot_value o →
+    ((c : ℕ) → c < 3 → IsReadReference h slot c (carried_plane value slot c)) → IsStoredSlot h slot o
+stored h value slot (Some planes) e read =
+    let own : (c : ℕ) → carried_plane value slot c ≡ Some (slice_index_or (planes_value planes) c []) = λ c. rw e refl in
+    let are : (c : ℕ) → c < 3 → (has_slot h slot ≡ true) × ArePlane h c (slice_index_or (planes_value planes) c []) =
+    λ c l. subst (IsReadReference h slot c) (own c) (read c l) in
+    ((are 0 (omega arith)).0, (are 0 (omega arith)).1, (are 1 (omega arith)).1, (are 2 (omega arith)).1)
+stored h value slot None e read =
+    let own : carried_plane value slot 0 ≡ None = rw e refl in subst (IsReadReference h slot 0) own (read 0 (omega arith))
+
+pub stored_slots : (p : Plan) → AreStoredSlots p.header p.references.items 8
+stored_slots p slot lt =
+    stored p.header (plan_value p) slot (slice_index_or p.references.items slot None)
+    (get_or-map slot_value p.references.items slot None None (omega (arith, lt, p.slots)))
+    (λ c l. read_references p slot c lt l)

@@ -36,10 +36,6 @@ references_same : (n : ℕ) (h : Header) → references h ≡ references (header
 unfolding references slot_planes reference shown_columns shown_rows xdec ydec has_slot
 references_same n h = refl
 
-inside_same : (n : ℕ) (h : Header) (x y : ℕ) → is_inside h x y ≡ is_inside (header_in n h) x y
-unfolding is_inside coded_width coded_height
-inside_same n h x y = refl
-
 part_same : (n : ℕ) (h : Header) (size : BlockSize) (x y : ℕ) → leaf_part h size x y ≡ leaf_part (header_in n h) size x y
 unfolding leaf_part leaf is_inside coded_width coded_height carries_chroma xdec ydec
 part_same n h size x y = refl

@@ -155,15 +155,6 @@ some_weight : (k : ℕ) → 0 < node_weight k
 some_weight zero = omega arith
 some_weight (suc k) = omega arith
 
-part_weighs : (p : Part) → 0 < part_weight p
-part_weighs (Node level x y) = some_weight level
-part_weighs (Leaf size x y) = omega arith
-
--- past a part
-pub later_less : (ps qs : List Part) → IsSome (first_part ps) → qs ≡ later_parts ps → weight qs < weight ps
-later_less [] qs some e = absurd cc
-later_less (p ∷ ps) qs some e = rw e (omega (arith, part_weighs p))
-
 inside_over : (h : Header) (x y : ℕ) (p : Part) (ps : List Part) (n : ℕ) → weight ps ≤ n → weight (if_inside h x y p ps) ≤ part_weight p + n
 inside_over h x y p ps n le = by (is_inside h x y)
   where

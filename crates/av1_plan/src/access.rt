@@ -4,6 +4,7 @@ use crate::header::Header;
 use crate::leaf::{Leaf, Triple};
 use crate::leaves::Leaves;
 use crate::plan::Plan;
+use crate::planes::SlotPlanes;
 
 impl Plan {
     ghost use Rattle.std.specs.Prelude.{◌≡◌, ◌<◌, ◌↔◌, length, IfSome, IfNone, IsSome, IsTrue, Some, None};
@@ -11,8 +12,8 @@ impl Plan {
     ghost use Rattle.std.specs.List.{All};
     ghost use Rattle.av1_plan.specs.CodingOrder.{AreInCodingOrder};
     ghost use Rattle.av1_plan.specs.Geometry.{has_slot};
-    ghost use Rattle.av1_plan.specs.Plan.{carried_plane, triples_of};
-    ghost use Rattle.av1_plan.specs.ReadPlans.{IsReadFrame, IsReadLeaf, ArePlane};
+    ghost use Rattle.av1_plan.specs.Plan.{carried_plane, slot_values, triples_of};
+    ghost use Rattle.av1_plan.specs.ReadPlans.{ArePlane, AreStoredSlots, IsReadFrame, IsReadLeaf};
 
     /// The header: the frame, and what holds for all leaves.
     pub fn header(&self) -> &Header
@@ -39,6 +40,16 @@ impl Plan {
         ensures { leaves_value result.now ≡ (plan_value self.now).leaves }
     {
         &self.leaves
+    }
+
+    /// The eight slots, each with its planes, if it carries planes.
+    pub fn references(&self) -> &[Option<SlotPlanes>]
+        ensures value { slot_values result.now ≡ (plan_value self.now).references }
+        ensures eight { length result.now ≡ 8 }
+        // A slot has planes exactly if the mask has it. Each has as many samples as it shows, all below `1 << depth`.
+        ensures slots { AreStoredSlots (plan_value self.now).header result.now 8 }
+    {
+        &self.references
     }
 
     /// The samples of plane `p` (0 for Y, 1 for U and 2 for V) of a slot, row by row. None if the slot carries no

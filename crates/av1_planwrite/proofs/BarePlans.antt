@@ -19,6 +19,7 @@ use Rattle.av1_plan.specs.Plan.{LeafValue, PlanValue}
 use Rattle.av1_plan.specs.Spelling.{IsSpelled, AreText, text}
 use Rattle.av1_plan.specs.Validity.{has_block_size, has_transforms, has_modes, has_vectors, has_references, has_coefficients, has_plane_coefficients}
 use Rattle.av1_plan.specs.Validity.{are_coefficients, rise, fault_of, fault_from, first_fault, or_later}
+use Rattle.av1_plan.proofs.Behind.{plan_of}
 use Rattle.av1_plan.proofs.Composed.{done_spelled, bind_spelled, asks_spelled, lone_spelled, both_spelled}
 use Rattle.av1_plan.proofs.Pieces.{spelled_done, spelled_bind, spelled_lone, spelled_both, spelled_nothing}
 use Rattle.av1_planwrite.specs.Bare.{none_of, bare_leaf, bare, bare_text}
@@ -120,22 +121,19 @@ module _ (h : Header) where
 
 -- ---- the whole
 
-abbrev plan_is : Header → List (Option (List (List ℕ))) → List LeafValue → PlanValue
-plan_is h stored leaves = record { header = h; references = stored; leaves = leaves }
-
 bare_spelled : (p : PlanValue) → IsSpelled plan p → IsSpelled plan (bare p)
 unfolding plan plan_behind
 bare_spelled p s =
-    let (h, h_spelled, s1) = spelled_bind header (λ h. references h >>= λ stored. superblocks h >>= λ leaves. done (plan_is h stored leaves)) p s in
-    let (stored, stored_spelled, s2) = spelled_bind (references h) (λ stored. superblocks h >>= λ leaves. done (plan_is h stored leaves)) p s1 in
-    let (leaves, leaves_spelled, s3) = spelled_bind (superblocks h) (λ leaves. done (plan_is h stored leaves)) p s2 in
-    let b = plan_is h stored (map bare_leaf leaves) in
+    let (h, h_spelled, s1) = spelled_bind header (λ h. references h >>= λ stored. superblocks h >>= λ leaves. done (plan_of h stored leaves)) p s in
+    let (stored, stored_spelled, s2) = spelled_bind (references h) (λ stored. superblocks h >>= λ leaves. done (plan_of h stored leaves)) p s1 in
+    let (leaves, leaves_spelled, s3) = spelled_bind (superblocks h) (λ leaves. done (plan_of h stored leaves)) p s2 in
+    let b = plan_of h stored (map bare_leaf leaves) in
     let whole : IsSpelled plan b =
-    bind_spelled header (λ h. references h >>= λ stored. superblocks h >>= λ leaves. done (plan_is h stored leaves)) h b h_spelled
-    (bind_spelled (references h) (λ stored. superblocks h >>= λ leaves. done (plan_is h stored leaves)) stored b stored_spelled
-    (bind_spelled (superblocks h) (λ leaves. done (plan_is h stored leaves)) (map bare_leaf leaves) b (bares_superblocks h leaves leaves_spelled)
+    bind_spelled header (λ h. references h >>= λ stored. superblocks h >>= λ leaves. done (plan_of h stored leaves)) h b h_spelled
+    (bind_spelled (references h) (λ stored. superblocks h >>= λ leaves. done (plan_of h stored leaves)) stored b stored_spelled
+    (bind_spelled (superblocks h) (λ leaves. done (plan_of h stored leaves)) (map bare_leaf leaves) b (bares_superblocks h leaves leaves_spelled)
     (done_spelled b))) in
-    subst (λ (p : PlanValue). IsSpelled plan (bare p)) (spelled_done (plan_is h stored leaves) p s3) whole
+    subst (λ (p : PlanValue). IsSpelled plan (bare p)) (spelled_done (plan_of h stored leaves) p s3) whole
 
 -- the text of a plan without coefficients is the text of such a plan
 pub bare_is_plan : (bytes : List ℕ) (p : PlanValue) → AreText plan bytes p → AreText plan (bare_text p) (bare p)

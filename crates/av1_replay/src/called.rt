@@ -2,10 +2,10 @@
 
 use crate::samples::Target;
 use av1_calls::{
-    CflBlock, EdgeBlock, EdgePlane, IntraBlock, MotionBlock, av1_cfl_ac_8, av1_cfl_ac_16,
-    av1_intra_edge_8, av1_intra_edge_16, av1_mc_avg_8, av1_mc_avg_16, av1_predict_cfl_8,
-    av1_predict_cfl_16, av1_predict_intra_8, av1_predict_intra_16, av1_prep_8tap_8,
-    av1_prep_8tap_16, av1_put_8tap_8, av1_put_8tap_16,
+    CflBlock, EdgeBlock, EdgePlane, IntraBlock, MotionBlock, tilg_cfl_ac_8, tilg_cfl_ac_16,
+    tilg_intra_edge_8, tilg_intra_edge_16, tilg_mc_avg_8, tilg_mc_avg_16, tilg_predict_cfl_8,
+    tilg_predict_cfl_16, tilg_predict_intra_8, tilg_predict_intra_16, tilg_prep_8tap_8,
+    tilg_prep_8tap_16, tilg_put_8tap_8, tilg_put_8tap_16,
 };
 use av1_frame::Pixel;
 
@@ -83,7 +83,7 @@ impl Called for u8 {
         block: &MotionBlock,
         _depth: u8,
     ) -> u32 {
-        av1_put_8tap_8(
+        tilg_put_8tap_8(
             to,
             target.stride,
             target.area.x,
@@ -97,12 +97,12 @@ impl Called for u8 {
     }
 
     fn prepare(values: &mut [i16], from: Source<u8>, block: &MotionBlock, _depth: u8) -> u32 {
-        av1_prep_8tap_8(values, from.samples, from.stride, BEFORE, BEFORE, block)
+        tilg_prep_8tap_8(values, from.samples, from.stride, BEFORE, BEFORE, block)
     }
 
     fn average(to: &mut [u8], target: Target, first: &[i16], second: &[i16], _depth: u8) -> u32 {
         let area = target.area;
-        av1_mc_avg_8(
+        tilg_mc_avg_8(
             to,
             target.stride,
             area.x,
@@ -115,7 +115,7 @@ impl Called for u8 {
     }
 
     fn predict(to: &mut [u8], target: Target, block: &IntraBlock, sides: BlockSides<u8>) -> u32 {
-        av1_predict_intra_8(
+        tilg_predict_intra_8(
             to,
             target.stride,
             target.area.x,
@@ -135,7 +135,7 @@ impl Called for u8 {
         differences: &[i16],
         alpha: i16,
     ) -> u32 {
-        av1_predict_cfl_8(
+        tilg_predict_cfl_8(
             to,
             target.stride,
             target.area.x,
@@ -149,7 +149,7 @@ impl Called for u8 {
     }
 
     fn prepare_edge(edge: &mut [u8], samples: &[u8], plane: &EdgePlane, block: &EdgeBlock) -> u32 {
-        av1_intra_edge_8(edge, samples, plane, block)
+        tilg_intra_edge_8(edge, samples, plane, block)
     }
 
     fn put_differences(
@@ -159,7 +159,7 @@ impl Called for u8 {
         block: &CflBlock,
         _depth: u8,
     ) -> u32 {
-        av1_cfl_ac_8(
+        tilg_cfl_ac_8(
             differences,
             luma.samples,
             luma.stride,
@@ -178,7 +178,7 @@ impl Called for u16 {
         block: &MotionBlock,
         depth: u8,
     ) -> u32 {
-        av1_put_8tap_16(
+        tilg_put_8tap_16(
             to,
             target.stride,
             target.area.x,
@@ -194,7 +194,7 @@ impl Called for u16 {
 
     fn prepare(values: &mut [i16], from: Source<u16>, block: &MotionBlock, depth: u8) -> u32 {
         let depth = usize::from(depth);
-        av1_prep_8tap_16(
+        tilg_prep_8tap_16(
             values,
             from.samples,
             from.stride,
@@ -207,7 +207,7 @@ impl Called for u16 {
 
     fn average(to: &mut [u16], target: Target, first: &[i16], second: &[i16], depth: u8) -> u32 {
         let area = target.area;
-        av1_mc_avg_16(
+        tilg_mc_avg_16(
             to,
             target.stride,
             area.x,
@@ -221,7 +221,7 @@ impl Called for u16 {
     }
 
     fn predict(to: &mut [u16], target: Target, block: &IntraBlock, sides: BlockSides<u16>) -> u32 {
-        av1_predict_intra_16(
+        tilg_predict_intra_16(
             to,
             target.stride,
             target.area.x,
@@ -241,7 +241,7 @@ impl Called for u16 {
         differences: &[i16],
         alpha: i16,
     ) -> u32 {
-        av1_predict_cfl_16(
+        tilg_predict_cfl_16(
             to,
             target.stride,
             target.area.x,
@@ -260,7 +260,7 @@ impl Called for u16 {
         plane: &EdgePlane,
         block: &EdgeBlock,
     ) -> u32 {
-        av1_intra_edge_16(edge, samples, plane, block)
+        tilg_intra_edge_16(edge, samples, plane, block)
     }
 
     fn put_differences(
@@ -270,7 +270,7 @@ impl Called for u16 {
         block: &CflBlock,
         depth: u8,
     ) -> u32 {
-        av1_cfl_ac_16(
+        tilg_cfl_ac_16(
             differences,
             luma.samples,
             luma.stride,

@@ -1,6 +1,5 @@
 -- A plane whose visible samples were put in, and which was then padded.
 use Rattle.std.proofs.Common.{ℕ, zero, suc, ◌+◌, ◌*◌, ◌/◌, ◌^◌, ◌<◌, ◌≤◌, ◌≡◌, ◌∙◌, ap, sym, subst, refl, arith, zero-add, List, [], ◌∷◌, All, slice_index}
-use Rattle.std.proofs.Common.{Option, Some, Result, IfOk, IfSome}
 use Rattle.std.proofs.lemmas.List.Elements.{All-head, All-tail}
 use Rattle.std.proofs.lemmas.Nat.{pow_pos}
 use Rattle.std.proofs.Math.Nat.{le_of_eq}
@@ -74,15 +73,3 @@ filled_holds {T} num pixel back forth samples made filled result h p whole cfg p
     subst (λ (q : Plane T). HoldsPlane num h p samples q) (sym (pad ∙ ap padded fill))
     (put_holds num pixel back forth samples made whole h p columns rows (ap (λ s. s.width) cfg ∙ w) (ap (λ s. s.height) cfg ∙ t) (ap (λ s. s.xdec) cfg ∙ ex)
     (ap (λ s. s.ydec) cfg ∙ ey) below)
-
--- ---- the answers of calls
-
--- what holds of a value that is there holds of the value
-pub of_some : {X : Type 0} (P : X → Type 0) (o : Option X) (x : X) → o ≡ Some x → IfSome o P → P x
-of_some {X} P o x e h = subst (λ (t : Option X). IfSome t P) e h
-
--- a plane that holds the samples of a header's frame, by other names of both
-pub held_as : {T E : Type 0} (num : T → ℕ) (p : ℕ) (h k : Header) (samples others : List ℕ) (result : Result (Plane T) E) → h ≡ k → samples ≡ others →
-    IfOk result (HoldsPlane num h p samples) → IfOk result (HoldsPlane num k p others)
-held_as num p h k samples others result a b holds =
-    subst (λ (s : List ℕ). IfOk result (HoldsPlane num k p s)) b (subst (λ (g : Header). IfOk result (HoldsPlane num g p samples)) a holds)

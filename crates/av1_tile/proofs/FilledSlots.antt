@@ -160,3 +160,8 @@ stored_some num h references n fi planes s below few is stored y u v holds =
     (subst (λ (samples : List ℕ). HoldsPlane num h 0 samples s.y) (sym (own 0)) y)
     (subst (λ (samples : List ℕ). HoldsPlane num h 1 samples s.u) (sym (own 1)) u)
     (subst (λ (samples : List ℕ). HoldsPlane num h 2 samples s.v) (sym (own 2)) v)
+
+-- a frame holds the references of a plan that it holds without the leaves
+pub holds_plan : {T : Type 0} (num : T → ℕ) (value : PlanValue) (fi : FrameInvariants T) → HoldsReferences num (frame_with value.header value.references) fi →
+    HoldsReferences num value fi
+holds_plan num value fi holds = record { settings = holds.settings; depth = holds.depth; filled = holds.filled; planes = holds.planes }

@@ -31,7 +31,7 @@ use av1_itx::{TxScratch, inverse_transform_add_with};
 use av1_plan::{Header, Triple};
 
 /// The position of a transform block in its leaf's block and in the plane.
-#[derive(Clone, Copy, Debug)]
+#[derive(Clone, Copy)]
 pub struct BlockPlace {
     /// The number of the transform block, in raster order over the leaf's block.
     pub number: usize,

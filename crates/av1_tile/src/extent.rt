@@ -4,7 +4,7 @@ use av1_plan::Header;
 
 /// Width and height of a part of a plane in samples (its coded or its visible part), and the depth of its samples in
 /// bits.
-#[derive(Clone, Copy, Debug, PartialEq, Eq)]
+#[derive(Clone, Copy)]
 pub struct PlaneExtent {
     /// The number of columns.
     pub width: usize,

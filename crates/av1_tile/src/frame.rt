@@ -5,7 +5,7 @@ use crate::references::TileReferences;
 use av1_plan::{Header, Leaf};
 
 /// The inputs of the walk for one leaf.
-#[derive(Clone, Copy)]
+#[derive(Drop)]
 pub struct WalkedFrame<'a, 'b, T> {
     /// The header of the plan.
     pub header: &'a Header,

@@ -55,19 +55,15 @@ mod tile;
 mod walk;
 mod with_predictions;
 
-pub use extent::PlaneExtent;
 pub use laws::{
     earlier_versions_keep_the_short_filter, earlier_versions_share_no_chroma,
     look_ups_find_samples, motion_lies_within_depth, samples_are_sums, versions_agree_early,
     versions_agree_elsewhere, versions_show_the_same,
 };
 pub use memory::WalkMemory;
-pub use motion::Motion;
-pub use plane_block::{LumaBlock, Nearby, PlaneBlock, Prediction};
 pub use planes::{Planes, visible_row};
 pub use predicted::{PredictedPlane, PredictedPlanes};
 pub use references::TileReferences;
-pub use shared_chroma::MotionParts;
 pub use slots::{frame_invariants, stored_references};
 pub use state::{TileState, reconstruct_tile};
 pub use with_predictions::{PredictedTile, reconstruct_with_predictions};

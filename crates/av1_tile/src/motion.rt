@@ -15,7 +15,7 @@ use av1_inter::{InterCompoundBuffers, predict_inter};
 use av1_plan::LeafKind;
 
 /// How a rectangle is predicted from references: from one, or from the average of two. rav1e has the same form.
-#[derive(Clone, Copy, Debug, PartialEq, Eq)]
+#[derive(Clone, Copy)]
 pub struct Motion {
     /// The inter mode.
     pub mode: PredictionMode,

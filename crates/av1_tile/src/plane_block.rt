@@ -14,7 +14,7 @@ use av1_intra::IntraEdgeFilterParameters;
 use av1_plan::{ChromaMode, Header, Leaf, LeafKind, PlaneArea};
 
 /// How a leaf's samples in a plane are predicted.
-#[derive(Clone, Copy, Debug, PartialEq, Eq)]
+#[derive(Clone, Copy)]
 pub enum Prediction {
     /// From the neighbouring samples of each transform block, by an intra mode with an angle delta of `step` steps of 3
     /// degrees. `filter` is the neighbours' parameters for the edge filter, if the filter is on.
@@ -34,7 +34,7 @@ pub enum Prediction {
 }
 
 /// What the leaves before a leaf say about its block in a plane.
-#[derive(Clone, Copy, Debug, PartialEq, Eq)]
+#[derive(Clone, Copy)]
 pub struct Nearby {
     /// The neighbours' parameters for the edge filter, if the filter is on.
     pub filter: Option<IntraEdgeFilterParameters>,
@@ -43,7 +43,7 @@ pub struct Nearby {
 }
 
 /// A leaf in luma: its position in samples, its size and the size of its transforms.
-#[derive(Clone, Copy, Debug, PartialEq, Eq)]
+#[derive(Clone, Copy)]
 pub struct LumaBlock {
     /// The first column.
     pub x: usize,
@@ -56,7 +56,7 @@ pub struct LumaBlock {
 }
 
 /// A leaf's block in one plane: its rectangle, its prediction and its transforms.
-#[derive(Clone, Copy, Debug, PartialEq, Eq)]
+#[derive(Clone, Copy)]
 pub struct PlaneBlock {
     /// The plane: 0 for Y, 1 for U and 2 for V.
     pub plane: usize,

@@ -21,7 +21,7 @@ use av1_plan::{Header, Leaf};
 
 /// The parts of a chroma block that inter leaves share: its halves or its quarters. Each part is predicted by the
 /// motion of its leaf.
-#[derive(Clone, Copy, Debug, PartialEq, Eq)]
+#[derive(Clone, Copy)]
 pub struct MotionParts {
     /// Whether there are two columns of parts.
     pub narrow: bool,

@@ -1,11 +1,10 @@
 //! The settings of a plan's frame, and the padded planes of its slots.
 
-ghost use Rattle.std.specs.Prelude.{◌≡◌, ◌/◌, ◌^◌, ◌<◌, ◌≤◌, IfOk, IsTrue, length};
+ghost use Rattle.std.specs.Prelude.{◌≡◌, ◌/◌, ◌^◌, ◌<◌, ◌≤◌, IfOk, length};
 ghost use Rattle.av1_plan.specs.Values.{plan_value};
-ghost use Rattle.av1_plan.specs.Geometry.{has_slot};
 ghost use Rattle.av1_plan.specs.Plan.{slot_values};
 ghost use Rattle.av1_plan.specs.ReadPlans.{ArePlane, AreStoredSlots, IsReadFrame};
-ghost use Rattle.av1_tile.specs.Motion.{HoldsPlane, HoldsReferences, frame_with, slot_samples};
+ghost use Rattle.av1_tile.specs.Motion.{HoldsPlane, HoldsReferences, frame_with};
 
 use crate::samples::fill_plane;
 use av1_blocks::OutOfMemory;
@@ -52,23 +51,6 @@ pub(crate) fn padded_plane<T: Pixel>(
     Ok(plane)
 }
 
-/// Plane `p` of a slot that has planes.
-fn slot_plane<T: Pixel>(
-    alloc: Global,
-    plan: &Plan,
-    slot: usize,
-    p: usize,
-) -> Result<Plane<T>, OutOfMemory>
-    requires slot { slot < 8 }
-    requires plane { p < 3 }
-    requires carried { IsTrue (has_slot (plan_value plan.now).header slot) }
-    requires depth { (plan_value plan.now).header.depth ≤ T.BITS }
-    ensures { IfOk result (HoldsPlane T.num (plan_value plan.now).header p (slot_samples (plan_value plan.now) slot p)) }
-{
-    let samples = plan.reference(slot, p).unwrap();
-    padded_plane(alloc, plan.header(), p, samples)
-}
-
 /// The settings of a frame, and its slots with these planes: for formats that store header and references apart from
 /// the leaves. The only error is running out of memory.
 pub fn stored_references<T: Pixel>(
@@ -111,24 +93,5 @@ pub fn frame_invariants<T: Pixel>(
     requires { (plan_value plan.now).header.depth ≤ T.BITS }
     ensures { IfOk result (HoldsReferences T.num (plan_value plan.now)) }
 {
-    let header = *plan.header();
-    let mut fi = FrameInvariants::new(
-        alloc,
-        header.coded_width(),
-        header.coded_height(),
-        header.filter,
-        usize::from(header.depth),
-        header.edge_filter,
-        header.slots,
-    )?;
-    fi.follow_av1(header.follows_av1());
-    for slot in 0..SLOTS {
-        if header.has_slot(slot) {
-            let y = slot_plane(alloc, plan, slot, 0)?;
-            let u = slot_plane(alloc, plan, slot, 1)?;
-            let v = slot_plane(alloc, plan, slot, 2)?;
-            fi.set_slot(slot, y, u, v);
-        }
-    }
-    Ok(fi)
+    stored_references(alloc, plan.header(), plan.references())
 }

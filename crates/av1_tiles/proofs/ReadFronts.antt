@@ -15,7 +15,7 @@ use Rattle.av1_plan.proofs.Versions.{frame_version}
 use Rattle.av1_tiles.specs.declared.file.Front.{Front}
 use Rattle.av1_tiles.specs.Bounds.{AreBounds, IsReadFront}
 use Rattle.av1_tiles.specs.File.{front_value}
-use Rattle.av1_tiles.specs.Grammar.{is_magic, version_of, plan_version, bounds, FrontValue, front}
+use Rattle.av1_tiles.specs.Grammar.{is_magic, version_of, bounds, FrontValue, front}
 use Rattle.av1_tiles.proofs.Starts.{bounds_are}
 
 -- the letters name the second or the third version of plans
@@ -25,12 +25,6 @@ named_version letters = go (letters == from_le_bytes w32 (codes "RTL2"))
     go : (b : Bool) → (2 ≤ (if b then 3 else 2)) × ((if b then 3 else 2) ≤ 3)
     go true = (lit≤ tt, lit≤ tt)
     go false = (lit≤ tt, lit≤ tt)
-
-spelled_version : (n : ℕ) → IsSpelled plan_version n → (2 ≤ n) × (n ≤ 3)
-unfolding plan_version
-spelled_version n s =
-    let (letters, _, s1) = spelled_asks (where_ four is_magic) _ n s in
-    subst (λ (m : ℕ). (2 ≤ m) × (m ≤ 3)) (spelled_done _ n s1) (named_version letters)
 
 record HasPieces (v : FrontValue) : Type 0 where
   version : ℕ
@@ -44,16 +38,16 @@ record HasPieces (v : FrontValue) : Type 0 where
 pieces : (v : FrontValue) → IsSpelled front v → HasPieces v
 unfolding front
 pieces v s =
-    let (n, n_spelled, s1) = spelled_bind plan_version _ v s in
-    let (h, h_spelled, s2) = spelled_bind (frame n) _ v s1 in
+    let (letters, _, s1) = spelled_asks (where_ four is_magic) _ v s in
+    let (h, h_spelled, s2) = spelled_bind (frame (version_of letters)) _ v s1 in
     let (slots, slots_spelled, s3) = spelled_bind (references h) _ v s2 in
     let (columns, columns_spelled, s4) = spelled_bind (bounds h.width) _ v s3 in
     let (rows, rows_spelled, s5) = spelled_bind (bounds h.height) _ v s4 in
     let whole : HasPieces (record { header = h; references = slots; columns = columns; rows = rows }) =
     record {
-      version = n;
-      least = (spelled_version n n_spelled).0;
-      most = (spelled_version n n_spelled).1;
+      version = version_of letters;
+      least = (named_version letters).0;
+      most = (named_version letters).1;
       header = h_spelled;
       references = slots_spelled;
       columns = columns_spelled;

@@ -18,11 +18,6 @@ is_magic v = v == from_le_bytes w32 (codes "RTL1") || v == from_le_bytes w32 (co
 abbrev pub version_of : ℕ → ℕ
 version_of letters = if letters == from_le_bytes w32 (codes "RTL2") then 3 else 2
 
-unfoldable pub plan_version : Format ℕ
-plan_version = do
-  letters ← field (where_ four is_magic)
-  done (version_of letters)
-
 -- the start of a column or row of tiles: a multiple of 64, after the start before it, and in the frame
 abbrev pub start_after : (side previous : ℕ) → Kind
 start_after side previous = where_ two (λ v. v % 64 == 0 && nat_lt previous v && nat_lt v side)
@@ -52,8 +47,8 @@ pub record FrontValue : Type 0 where
 
 unfoldable pub front : Format FrontValue
 front = do
-  version ← plan_version
-  header ← frame version
+  letters ← field (where_ four is_magic)
+  header ← frame (version_of letters)
   references ← references header
   columns ← bounds header.width
   rows ← bounds header.height

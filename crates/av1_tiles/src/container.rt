@@ -6,7 +6,7 @@ ghost use Rattle.av1_plan.specs.Grammar.{where_};
 ghost use Rattle.av1_plan.specs.Reading.{Gives, input, Moves};
 ghost use Rattle.av1_tiles.specs.Bounds.{IsReadFile};
 ghost use Rattle.av1_tiles.specs.File.{front_value, file_value};
-ghost use Rattle.av1_tiles.specs.Grammar.{is_magic, plan_version, front, read_parts, read_file};
+ghost use Rattle.av1_tiles.specs.Grammar.{is_magic, version_of, front, read_parts, read_file};
 
 use crate::bounds::bounds;
 use crate::file::{Front, TileFile};
@@ -28,18 +28,15 @@ fn magic(reader: &mut Reader<'_>) -> Result<u32, PlanError>
     }
 }
 
-/// The version of plans that the tiles have. The four letters at the front decide it.
-#[tactic(auto, unfolding(crate::specs::Grammar::plan_version))]
-fn plan_version(reader: &mut Reader<'_>) -> Result<u8, PlanError>
-    ensures read { Gives (λ x. (x, input reader.new)) result (read plan_version (input reader.old)) }
-    ensures moves { Moves reader.old reader.new }
+/// The version of plans that the tiles have, by the four letters at the front.
+fn version_of(letters: u32) -> u8
+    ensures { result ≡ version_of letters }
 {
-    let letters = magic(reader)?;
-    Ok(if letters == u32::from_le_bytes(*b"RTL2") {
+    if letters == u32::from_le_bytes(*b"RTL2") {
         3
     } else {
         2
-    })
+    }
 }
 
 /// The fields before the parts of the tiles.
@@ -49,7 +46,7 @@ fn front(alloc: Global, reader: &mut Reader<'_>) -> Result<Front, PlanError>
     ensures eight { IfOk result (λ x. vec_len x.references ≡ 8) }
     ensures moves { Moves reader.old reader.new }
 {
-    let version = plan_version(reader)?;
+    let version = version_of(magic(reader)?);
     let header = reader.frame(version)?;
     let references = reader.references(alloc, &header)?;
     let columns = bounds(alloc, reader, header.width)?;

@@ -77,7 +77,7 @@ def build(archive, as_drawn=False):
     archive, changes = os.path.abspath(archive), EDITS + ([] if as_drawn else DRAWS)
     source = os.path.join(OUT, "as_drawn" if as_drawn else "av1", f"dav1d-{VERSION}")
     folder, stamp = os.path.join(source, "build"), os.path.join(source, "built-of")
-    made = digest([*FILES, os.path.join(BINDINGS, "c/av1_c.h"), archive], repr(changes))
+    made = digest([*FILES, os.path.join(BINDINGS, "c/tilgwaren.h"), archive], repr(changes))
     if os.path.isfile(stamp) and open(stamp, encoding="utf-8").read() == made:
         return folder
     os.makedirs(decoder.OUT, exist_ok=True)
@@ -95,4 +95,4 @@ def build(archive, as_drawn=False):
 
 
 def add_archive(parser):
-    parser.add_argument("--archive", default=os.path.join(BINDINGS, "out/libav1_c.a"), help="libav1_c.a; else that of bindings/out")
+    parser.add_argument("--archive", default=os.path.join(BINDINGS, "out/libtilgwaren.a"), help="libtilgwaren.a; else that of bindings/out")

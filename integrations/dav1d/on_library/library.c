@@ -1,4 +1,4 @@
-/* dav1d's block functions by the calls of libav1_c.a (bindings/c/av1_c.h).
+/* dav1d's block functions by the calls of libtilgwaren.a (bindings/c/tilgwaren.h).
  *
  * build.py puts this file into a copy of dav1d's src/. It is compiled once for samples of 8 bits and once for samples of
  * 16 bits. Each function has the type of an entry of dav1d's tables (src/mc.h, src/ipred.h, src/itx.h). The comment
@@ -22,30 +22,30 @@
 #include "src/scan.h"
 #include "src/tables.h"
 
-#include "av1_c.h"
+#include "tilgwaren_regions.h"
 
 #if BITDEPTH == 8
-#define CALL(name) av1_##name##_8
-#define MOTION_CALL(name) av1_##name##_8tap_8
+#define CALL(name) tilg_##name##_8
+#define MOTION_CALL(name) tilg_##name##_8tap_8
 #define DEPTH 8
 #define DEPTH_ARG
 #define ANY_DEPTH_ARG
-#define REGION av1_region_8
-#define READ_REGION av1_read_region_8
+#define REGION tilg_region_8
+#define READ_REGION tilg_read_region_8
 #else
-#define CALL(name) av1_##name##_16
-#define MOTION_CALL(name) av1_##name##_tested_16
+#define CALL(name) tilg_##name##_16
+#define MOTION_CALL(name) tilg_##name##_tested_16
 #define DEPTH ((uint8_t) bitdepth_from_max(bitdepth_max))
 #define DEPTH_ARG , DEPTH
 #define ANY_DEPTH_ARG , 12
-#define REGION av1_region_16
-#define READ_REGION av1_read_region_16
+#define REGION tilg_region_16
+#define READ_REGION tilg_read_region_16
 #endif
 
 /* The buffers that calls work in: dav1d's functions get none, so each thread has its own. */
 #define BLOCK_LEN (128 * 128)
 #define WINDOW_LEN (135 * 135)
-static _Thread_local av1_transform_scratch ALIGN(scratch, 64);
+static _Thread_local tilg_transform_scratch ALIGN(scratch, 64);
 static _Thread_local pixel ALIGN(block_copy[BLOCK_LEN], 64);
 static _Thread_local pixel ALIGN(window[WINDOW_LEN], 64);
 
@@ -107,7 +107,7 @@ static inline rows rows_of(pixel *const dst, const ptrdiff_t stride, const int w
     return (rows) { dst, (size_t) (stride * h), (size_t) stride };
 }
 
-/* After a call: counts a status that isn't AV1_DONE. */
+/* After a call: counts a status that isn't TILG_DONE. */
 static inline void check(const uint32_t status) {
     if (status) rejected[umin(status, 63)]++;
 }
@@ -123,16 +123,16 @@ static inline void load(pixel *const to, const size_t len, const pixel *const fr
                         const int h)
 {
     const READ_REGION region = { from, stride, (size_t) w, (size_t) h };
-    CALL(load_region)(&region, 0, 0, (size_t) w, (size_t) h, to, len);
+    CALL(load_region)(to, len, &region, 0, 0, (size_t) w, (size_t) h);
 }
 
 /* ---- motion compensation: Dav1dMCDSPContext */
 
 /* By the names of dav1d's filters: the filter along rows and the filter down columns. */
 #define FILTERS(X) \
-    X(8TAP_REGULAR, 0, 0) X(8TAP_REGULAR_SMOOTH, 0, 1) X(8TAP_REGULAR_SHARP, 0, AV1_SHARP) \
-    X(8TAP_SHARP_REGULAR, AV1_SHARP, 0) X(8TAP_SHARP_SMOOTH, AV1_SHARP, 1) X(8TAP_SHARP, AV1_SHARP, AV1_SHARP) \
-    X(8TAP_SMOOTH_REGULAR, 1, 0) X(8TAP_SMOOTH, 1, 1) X(8TAP_SMOOTH_SHARP, 1, AV1_SHARP) X(BILINEAR, 3, 3)
+    X(8TAP_REGULAR, 0, 0) X(8TAP_REGULAR_SMOOTH, 0, 1) X(8TAP_REGULAR_SHARP, 0, TILG_FILTER_SHARP) \
+    X(8TAP_SHARP_REGULAR, TILG_FILTER_SHARP, 0) X(8TAP_SHARP_SMOOTH, TILG_FILTER_SHARP, 1) X(8TAP_SHARP, TILG_FILTER_SHARP, TILG_FILTER_SHARP) \
+    X(8TAP_SMOOTH_REGULAR, 1, 0) X(8TAP_SMOOTH, 1, 1) X(8TAP_SMOOTH_SHARP, 1, TILG_FILTER_SHARP) X(BILINEAR, 3, 3)
 
 /* The calls read 3 columns and rows before a block and 4 after it. dav1d has them only beside a fraction, so without one
  * they are zeros in a copy. Intra block copy reads the plane that it writes, so its filter always gets a copy. */
@@ -163,7 +163,7 @@ static ALWAYS_INLINE void put(pixel *const dst, const ptrdiff_t dst_stride, cons
     ptrdiff_t stride = PXSTRIDE(src_stride);
     const pixel *const from = reference(src, &stride, w, h, mx, my, fx);
     const rows to = rows_of(dst, PXSTRIDE(dst_stride), w, h);
-    const av1_motion_block b = { (size_t) w, (size_t) h, (uint8_t) mx, (uint8_t) my, fx, fy };
+    const tilg_motion_block b = { (size_t) w, (size_t) h, (uint8_t) mx, (uint8_t) my, fx, fy };
     count_as("put", w, h, (mx ? 1 : 0) | (my ? 2 : 0), fx, fy);
     finish(MOTION_CALL(put)(to.at, to.len, to.stride, 0, 0, from, (size_t) (stride * (h + 7)), (size_t) stride, 3, 3,
                             &b DEPTH_ARG), dst, PXSTRIDE(dst_stride), w, h);
@@ -176,7 +176,7 @@ static ALWAYS_INLINE void prep(int16_t *const tmp, const pixel *const src, const
 {
     ptrdiff_t stride = PXSTRIDE(src_stride);
     const pixel *const from = reference(src, &stride, w, h, mx, my, fx);
-    const av1_motion_block b = { (size_t) w, (size_t) h, (uint8_t) mx, (uint8_t) my, fx, fy };
+    const tilg_motion_block b = { (size_t) w, (size_t) h, (uint8_t) mx, (uint8_t) my, fx, fy };
     count_as("prep", w, h, (mx ? 1 : 0) | (my ? 2 : 0), fx, fy);
     check(MOTION_CALL(prep)(tmp, (size_t) (w * h), from, (size_t) (stride * (h + 7)), (size_t) stride, 3, 3, &b DEPTH_ARG));
 }
@@ -210,15 +210,15 @@ static const uint8_t tx_sizes[5][5] = {
     { 255,       255,       RTX_64X16, RTX_64X32, TX_64X64  },
 };
 
-static inline av1_intra_block intra_block(const int w, const int h, const int has_left, const int has_above
+static inline tilg_intra_block intra_block(const int w, const int h, const int has_left, const int has_above
                                           HIGHBD_DECL_SUFFIX)
 {
-    return (av1_intra_block) { .tx_size = tx_sizes[ctz(w) - 2][ctz(h) - 2], .bit_depth = DEPTH,
+    return (tilg_intra_block) { .tx_size = tx_sizes[ctz(w) - 2][ctz(h) - 2], .bit_depth = DEPTH,
                                .has_left = (uint8_t) has_left, .has_above = (uint8_t) has_above,
                                .visible_columns = 65536, .visible_rows = 65536 };
 }
 
-static void predict(pixel *const dst, const ptrdiff_t dst_stride, const av1_intra_block *const b,
+static void predict(pixel *const dst, const ptrdiff_t dst_stride, const tilg_intra_block *const b,
                     const pixel *const left, const int left_len, const pixel corner, const pixel *const above,
                     const int above_len, const int w, const int h)
 {
@@ -232,7 +232,7 @@ static void predict(pixel *const dst, const ptrdiff_t dst_stride, const av1_intr
 /* intra_pred[] of the modes that don't turn: as they are, because dav1d's edge has the order of the library's. */
 #define INTRA(name, number, has_left, has_above) \
 static decl_angular_ipred_fn(library_##name) { \
-    av1_intra_block b = intra_block(width, height, has_left, has_above HIGHBD_TAIL_SUFFIX); \
+    tilg_intra_block b = intra_block(width, height, has_left, has_above HIGHBD_TAIL_SUFFIX); \
     b.mode = number; \
     predict(dst, stride, &b, topleft - height, height, *topleft, topleft + 1, width, width, height); \
 }
@@ -249,11 +249,11 @@ INTRA(paeth, 12, 1, 1)
 
 /* A block of a mode that turns: finds the mode and its steps from dav1d's angle, of which bit 9 is the smooth neighbour and
  * bit 10 the edge filter. An angle that no mode turns to gets a step that the library rejects. */
-static inline av1_intra_block turned(const int w, const int h, const int angle HIGHBD_DECL_SUFFIX) {
+static inline tilg_intra_block turned(const int w, const int h, const int angle HIGHBD_DECL_SUFFIX) {
     static const struct { uint8_t mode, angle; } modes[8] = {
         { 3, 45 }, { 8, 67 }, { 1, 90 }, { 5, 113 }, { 4, 135 }, { 6, 157 }, { 2, 180 }, { 7, 203 }
     };
-    av1_intra_block b = intra_block(w, h, 1, 1 HIGHBD_TAIL_SUFFIX);
+    tilg_intra_block b = intra_block(w, h, 1, 1 HIGHBD_TAIL_SUFFIX);
     b.smooth_neighbour = angle >> 9 & 1;
     b.edge_filter = angle >> 10 & 1;
     b.mode = 3;
@@ -270,7 +270,7 @@ static inline av1_intra_block turned(const int w, const int h, const int angle H
 
 /* intra_pred[Z1_PRED]: for a tall block repeats the last sample above, because dav1d's edge ends at twice the width. */
 static decl_angular_ipred_fn(library_z1) {
-    const av1_intra_block b = turned(width, height, angle HIGHBD_TAIL_SUFFIX);
+    const tilg_intra_block b = turned(width, height, angle HIGHBD_TAIL_SUFFIX);
     const pixel *above = topleft + 1;
     pixel longer[128];
     if (height > width) {
@@ -283,7 +283,7 @@ static decl_angular_ipred_fn(library_z1) {
 
 /* intra_pred[Z2_PRED]: as it is. */
 static decl_angular_ipred_fn(library_z2) {
-    av1_intra_block b = turned(width, height, angle HIGHBD_TAIL_SUFFIX);
+    tilg_intra_block b = turned(width, height, angle HIGHBD_TAIL_SUFFIX);
     b.visible_columns = (size_t) max_width;
     b.visible_rows = (size_t) max_height;
     predict(dst, stride, &b, topleft - height, height, *topleft, topleft + 1, width, width, height);
@@ -291,7 +291,7 @@ static decl_angular_ipred_fn(library_z2) {
 
 /* intra_pred[Z3_PRED]: for a wide block repeats the last sample on the left, because dav1d's edge ends at twice the height. */
 static decl_angular_ipred_fn(library_z3) {
-    const av1_intra_block b = turned(width, height, angle HIGHBD_TAIL_SUFFIX);
+    const tilg_intra_block b = turned(width, height, angle HIGHBD_TAIL_SUFFIX);
     const pixel *left = topleft - (width + height);
     pixel longer[128];
     if (width > height) {
@@ -309,7 +309,7 @@ static const uint8_t cfl_sizes[4][4] = { { 0, 1, 16, 255 }, { 2, 3, 4, 18 }, { 1
 static ALWAYS_INLINE void cfl_ac(int16_t *const ac, const pixel *luma, const ptrdiff_t luma_stride, const int w_pad,
                                  const int h_pad, const int w, const int h, const int xdec, const int ydec)
 {
-    const av1_cfl_block b = { cfl_sizes[ctz(w) - 2][ctz(h) - 2], (uint8_t) xdec, (uint8_t) ydec, (size_t) w_pad, (size_t) h_pad };
+    const tilg_cfl_block b = { cfl_sizes[ctz(w) - 2][ctz(h) - 2], (uint8_t) xdec, (uint8_t) ydec, (size_t) w_pad, (size_t) h_pad };
     const int columns = imin(w << xdec, imax((w - 4 * w_pad) << xdec, 8));
     const int luma_rows = imin(h << ydec, imax((h - 4 * h_pad) << ydec, 8));
     ptrdiff_t stride = PXSTRIDE(luma_stride);
@@ -331,7 +331,7 @@ CFL_AC(444, 0, 0)
 /* cfl_pred[]: as it is. */
 #define CFL(name, has_left, has_above) \
 static decl_cfl_pred_fn(library_cfl_##name) { \
-    const av1_intra_block b = intra_block(width, height, has_left, has_above HIGHBD_TAIL_SUFFIX); \
+    const tilg_intra_block b = intra_block(width, height, has_left, has_above HIGHBD_TAIL_SUFFIX); \
     const rows to = rows_of(dst, PXSTRIDE(stride), width, height); \
     count_as("cfl_pred", width, height, 0, 0, has_left | has_above << 1); \
     finish(CALL(predict_cfl)(to.at, to.len, to.stride, 0, 0, &b, topleft - height, (size_t) height, topleft + 1, \
@@ -377,7 +377,7 @@ static NOINLINE void itx(pixel *const dst, const ptrdiff_t dst_stride, coef *con
     const size_t n = length(eob, tx, type);
     if (needs_copy(stride)) load(block_copy, BLOCK_LEN, dst, stride, w, h);
     count_as("itx", w, h, type, eob, 0);
-    finish(CALL(inverse_transform_add)(&scratch, coeff, n, to.at, to.len, to.stride, 0, 0, (uint8_t) tx,
+    finish(CALL(inverse_transform_add)(to.at, to.len, to.stride, 0, 0, &scratch, coeff, n, (uint8_t) tx,
                                        (uint8_t) type DEPTH_ARG), dst, stride, w, h);
     memset(coeff, 0, n * sizeof(*coeff));
 }

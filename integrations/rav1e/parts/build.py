@@ -78,7 +78,7 @@ def encoder(source, assembly=False, as_it_is=False):
 
 
 def encoder_on_library(archive, crate, source, assembly=False):
-    """The path of the recorder whose block operations are those of the archive `libav1_c.a`, called by the crate."""
+    """The path of the recorder whose block operations are those of the archive `libtilgwaren.a`, called by the crate."""
     folders = os.path.join(crate, "src"), os.path.join(crate, "sys/src")
     files = [os.path.join(folder, name) for folder in folders for name in sorted(os.listdir(folder))]
     made = [*recorder_parts(), *parts_of(("library.py", library.MODULE)), *files, archive]
@@ -88,7 +88,7 @@ def encoder_on_library(archive, crate, source, assembly=False):
         library.apply(copy, crate)
 
     build = Build(source, "library", features_with(assembly), made)
-    return build.program(apply, AV1_C_FOLDER=os.path.dirname(os.path.abspath(archive)))
+    return build.program(apply, TILGWAREN_FOLDER=os.path.dirname(os.path.abspath(archive)))
 
 
 def features_with(assembly):

@@ -53,7 +53,7 @@ def edits(crate):
     """The edits; `crate` is the folder of the library's crate for Rust."""
     return [
         Edit("the library's crate", "Cargo.toml", "[dependencies.arrayvec]",
-             f'[dependencies.av1_c]\npath = "{crate}"\n\n[dependencies.arrayvec]'),
+             f'[dependencies.tilgwaren]\npath = "{crate}"\n\n[dependencies.arrayvec]'),
         Edit("the module", "src/lib.rs", "mod predict;\n", "mod predict;\nmod library;\n"),
         Edit("a frame of tiles begins", ENCODER, "  let ti = &fi.sequence.tiling;\n",
              "  let ti = &fi.sequence.tiling;\n  crate::library::begin(ti.tile_count());\n"),

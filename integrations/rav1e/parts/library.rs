@@ -1,4 +1,4 @@
-//! rav1e's block operations by the library `libav1_c.a`, through the crate in `bindings/rust`.
+//! rav1e's block operations by the library `libtilgwaren.a`, through the crate in `bindings/rust`.
 //!
 //! `library.py` puts this file into a copy of rav1e, in place of its inverse transforms, its intra edges and
 //! predictors, the differences of luma for chroma from luma, and its motion: put, prepare and average.  What had to be
@@ -16,7 +16,7 @@ use crate::tiling::{PlaneRegion, PlaneRegionMut, Rect};
 use crate::transform::{TxSize, TxType};
 use crate::util::{Pixel, PixelType};
 
-use av1_c::{
+use tilgwaren::{
   BlockRoom, EdgeBlock, EdgePlane, Error, Filter, IntraEdge, LumaBlock, MotionPlane, MotionWindow, MovedBlock, Place, Region,
   RegionMut, Sampling, Tested, TransformBlock, TransformScratch,
 };
@@ -66,7 +66,7 @@ impl Counter {
 /// A call of the library, counted under its name.  One that is refused ends the encoder.
 macro_rules! call {
   ($name:ident ($($word:expr),* $(,)?)) => {
-    call!(stringify!($name), av1_c::$name($($word),*))
+    call!(stringify!($name), tilgwaren::$name($($word),*))
   };
   ($name:expr, $call:expr) => {{
     static COUNTER: Counter = Counter { name: $name, calls: AtomicU64::new(0) };
@@ -235,19 +235,19 @@ pub fn inverse_transform_add<T: Pixel>(
       PixelType::U8 => call!(
         "inverse_transform_add_8",
         change(output, sides, |samples: &mut [u8], at| {
-          av1_c::inverse_transform_add_8(scratch, unsafe { same(input) }, samples, at.stride, block(at))
+          tilgwaren::inverse_transform_add_8(scratch, unsafe { same(input) }, samples, at.stride, block(at))
         })
       ),
       PixelType::U16 if identities_wrap() => call!(
         "inverse_transform_add_rav1e_16",
         change(output, sides, |samples: &mut [u16], at| {
-          av1_c::inverse_transform_add_rav1e_16(scratch, unsafe { same(input) }, samples, at.stride, block(at), named(bd))
+          tilgwaren::inverse_transform_add_rav1e_16(scratch, unsafe { same(input) }, samples, at.stride, block(at), named(bd))
         })
       ),
       PixelType::U16 => call!(
         "inverse_transform_add_16",
         change(output, sides, |samples: &mut [u16], at| {
-          av1_c::inverse_transform_add_16(scratch, unsafe { same(input) }, samples, at.stride, block(at), named(bd))
+          tilgwaren::inverse_transform_add_16(scratch, unsafe { same(input) }, samples, at.stride, block(at), named(bd))
         })
       ),
     }
@@ -456,10 +456,10 @@ pub fn luma_differences<T: Pixel>(ac: &mut [i16], luma: &PlaneRegion<'_, T>, lea
   let sides = (leaf.block.width().max(8), leaf.block.height().max(8));
   match T::type_enum() {
     PixelType::U8 => {
-      call!("cfl_ac_8", read(luma, sides, |samples: &[u8], at| av1_c::cfl_ac_8(ac, samples, at, &block)))
+      call!("cfl_ac_8", read(luma, sides, |samples: &[u8], at| tilgwaren::cfl_ac_8(ac, samples, at, &block)))
     }
     PixelType::U16 => {
-      call!("cfl_ac_16", read(luma, sides, |samples: &[u16], at| av1_c::cfl_ac_16(ac, samples, at, &block, named(bit_depth))))
+      call!("cfl_ac_16", read(luma, sides, |samples: &[u16], at| tilgwaren::cfl_ac_16(ac, samples, at, &block, named(bit_depth))))
     }
   }
 }
@@ -511,8 +511,8 @@ impl Moved {
       y: self.at.y as usize,
       width: self.width,
       height: self.height,
-      row: self.vector.row,
-      col: self.vector.col,
+      mv_y: self.vector.row,
+      mv_x: self.vector.col,
       filter_x: self.filter(),
       filter_y: self.filter(),
     }
@@ -544,7 +544,7 @@ pub fn put<T: Pixel>(reference: &ReferenceFrame<T>, p: usize, dst: &mut PlaneReg
       let from = unsafe { same(&from.data) };
       call!(
         "put_moved_8",
-        write(dst, sides, |samples, at| av1_c::put_moved_8(samples, at, from, &plane, &block, window))
+        write(dst, sides, |samples, at| tilgwaren::put_moved_8(samples, at, from, &plane, &block, window))
       )
     }),
     PixelType::U16 => WINDOW_16.with(|window| {
@@ -552,7 +552,7 @@ pub fn put<T: Pixel>(reference: &ReferenceFrame<T>, p: usize, dst: &mut PlaneReg
       let tested = reference.tested.planes[p].as_ref().expect("a plane with samples");
       call!(
         "put_moved_16",
-        write(dst, sides, |samples, at| av1_c::put_moved_16(samples, at, tested, &plane, &block, window))
+        write(dst, sides, |samples, at| tilgwaren::put_moved_16(samples, at, tested, &plane, &block, window))
       )
     }),
   }
@@ -583,11 +583,11 @@ pub fn mc_avg<T: Pixel>(
   match T::type_enum() {
     PixelType::U8 => call!(
       "mc_avg_8",
-      write(dst, (width, height), |samples, at| av1_c::mc_avg_8(samples, at, width, height, tmp1, tmp2))
+      write(dst, (width, height), |samples, at| tilgwaren::mc_avg_8(samples, at, width, height, tmp1, tmp2))
     ),
     PixelType::U16 => call!(
       "mc_avg_16",
-      write(dst, (width, height), |samples, at| av1_c::mc_avg_16(samples, at, width, height, tmp1, tmp2, named(bit_depth)))
+      write(dst, (width, height), |samples, at| tilgwaren::mc_avg_16(samples, at, width, height, tmp1, tmp2, named(bit_depth)))
     ),
   }
 }

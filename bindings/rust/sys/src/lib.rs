@@ -1,12 +1,12 @@
-//! The calls of the library `libav1_c.a`, as C has them. `av1_c.h` documents each one.
+//! The calls of the library `libtilgwaren.a`, as C has them. `tilgwaren.h` documents each one.
 //!
-//! Functions and structs have C's names without the prefix. Use the crate `av1_c`, whose calls are
+//! Functions and structs have C's names without the prefix. Use the crate `tilgwaren`, whose calls are
 //! safe, unless you need pointers. `bindings/declared.py` writes this file.
 
 use std::mem::size_of;
 
 #[cfg(not(target_pointer_width = "64"))]
-compile_error!("the library is code for Linux on x86-64, with pointers of 64 bits");
+compile_error!("the library is code for Linux on x86-64 or ARM64, with pointers of 64 bits");
 
 pub const EDGE_SAMPLES: usize = 257;
 pub const ANY_MODE: u8 = 255;
@@ -44,29 +44,42 @@ pub const INVALID_MODE: u32 = 3;
 pub const INVALID_VECTOR: u32 = 4;
 pub const MISSING_REFERENCE: u32 = 5;
 pub const INVALID_COEFFICIENT: u32 = 6;
+pub const NEXT_NOTHING: u8 = 0;
+pub const NEXT_REFERENCE: u8 = 1;
+pub const NEXT_MARK: u8 = 2;
+pub const NEXT_LEAF: u8 = 3;
+pub const FIELD_TX_SIZE: u32 = 1;
+pub const FIELD_TX_TYPE: u32 = 2;
+pub const FIELD_CHROMA_TX_TYPE: u32 = 3;
+pub const FIELD_HAS_CHROMA: u32 = 4;
+pub const FIELD_MODE: u32 = 5;
+pub const FIELD_CHROMA_MODE: u32 = 6;
+pub const FIELD_FIRST: u32 = 7;
+pub const FIELD_SECOND: u32 = 8;
+pub const FIELD_COEFFICIENTS: u32 = 9;
 pub const VERSION: u32 = 768;
 
-/// `av1_transform_scratch`.
+/// `tilg_transform_scratch`.
 #[repr(C, align(64))]
 #[derive(Clone, Debug)]
 pub struct TransformScratch {
     pub words: [i32; 6144],
 }
 
-/// `av1_luma_block`.
+/// `tilg_luma_block`.
 #[repr(C)]
 #[derive(Clone, Copy, Debug, Default, PartialEq, Eq)]
 pub struct LumaBlock {
     pub block_size: u8,
     pub tx_size: u8,
-    pub xdec: u8,
-    pub ydec: u8,
+    pub halved_columns: u8,
+    pub halved_rows: u8,
     pub visible_columns: usize,
     pub visible_rows: usize,
 }
 const _: () = assert!(size_of::<LumaBlock>() == 24);
 
-/// `av1_intra_block`.
+/// `tilg_intra_block`.
 #[repr(C)]
 #[derive(Clone, Copy, Debug, Default, PartialEq, Eq)]
 pub struct IntraBlock {
@@ -83,7 +96,7 @@ pub struct IntraBlock {
 }
 const _: () = assert!(size_of::<IntraBlock>() == 24);
 
-/// `av1_edge_plane`.
+/// `tilg_edge_plane`.
 #[repr(C)]
 #[derive(Clone, Copy, Debug, Default, PartialEq, Eq)]
 pub struct EdgePlane {
@@ -101,7 +114,7 @@ pub struct EdgePlane {
 }
 const _: () = assert!(size_of::<EdgePlane>() == 80);
 
-/// `av1_edge_block`.
+/// `tilg_edge_block`.
 #[repr(C)]
 #[derive(Clone, Copy, Debug, Default, PartialEq, Eq)]
 pub struct EdgeBlock {
@@ -120,32 +133,32 @@ pub struct EdgeBlock {
 }
 const _: () = assert!(size_of::<EdgeBlock>() == 56);
 
-/// `av1_cfl_block`.
+/// `tilg_cfl_block`.
 #[repr(C)]
 #[derive(Clone, Copy, Debug, Default, PartialEq, Eq)]
 pub struct CflBlock {
     pub block_size: u8,
-    pub xdec: u8,
-    pub ydec: u8,
+    pub halved_columns: u8,
+    pub halved_rows: u8,
     pub w_pad: usize,
     pub h_pad: usize,
 }
 const _: () = assert!(size_of::<CflBlock>() == 24);
 
-/// `av1_motion_block`.
+/// `tilg_motion_block`.
 #[repr(C)]
 #[derive(Clone, Copy, Debug, Default, PartialEq, Eq)]
 pub struct MotionBlock {
     pub width: usize,
     pub height: usize,
-    pub col_frac: u8,
-    pub row_frac: u8,
+    pub fraction_x: u8,
+    pub fraction_y: u8,
     pub filter_x: u8,
     pub filter_y: u8,
 }
 const _: () = assert!(size_of::<MotionBlock>() == 24);
 
-/// `av1_motion_plane`.
+/// `tilg_motion_plane`.
 #[repr(C)]
 #[derive(Clone, Copy, Debug, Default, PartialEq, Eq)]
 pub struct MotionPlane {
@@ -159,7 +172,7 @@ pub struct MotionPlane {
 }
 const _: () = assert!(size_of::<MotionPlane>() == 48);
 
-/// `av1_moved_block`.
+/// `tilg_moved_block`.
 #[repr(C)]
 #[derive(Clone, Copy, Debug, Default, PartialEq, Eq)]
 pub struct MovedBlock {
@@ -167,37 +180,26 @@ pub struct MovedBlock {
     pub y: usize,
     pub width: usize,
     pub height: usize,
-    pub row: i16,
-    pub col: i16,
+    pub mv_y: i16,
+    pub mv_x: i16,
     pub filter_x: u8,
     pub filter_y: u8,
 }
 const _: () = assert!(size_of::<MovedBlock>() == 40);
 
-/// `av1_moved_place`.
+/// `tilg_next_field`.
 #[repr(C)]
 #[derive(Clone, Copy, Debug, Default, PartialEq, Eq)]
-pub struct MovedPlace {
-    pub x: isize,
-    pub y: isize,
-    pub col_frac: u8,
-    pub row_frac: u8,
+pub struct NextField {
+    pub slot: usize,
+    pub kind: u8,
+    pub size: u8,
+    pub x: u16,
+    pub y: u16,
 }
-const _: () = assert!(size_of::<MovedPlace>() == 24);
+const _: () = assert!(size_of::<NextField>() == 16);
 
-/// `av1_neighbours`.
-#[repr(C)]
-#[derive(Clone, Copy, Debug, Default, PartialEq, Eq)]
-pub struct Neighbours {
-    pub chroma: u8,
-    pub above_mode: u8,
-    pub above_inter: u8,
-    pub left_mode: u8,
-    pub left_inter: u8,
-}
-const _: () = assert!(size_of::<Neighbours>() == 5);
-
-/// `av1_builder_part`.
+/// `tilg_builder_part`.
 #[repr(C)]
 #[derive(Clone, Copy, Debug, Default, PartialEq, Eq)]
 pub struct BuilderPart {
@@ -208,34 +210,34 @@ pub struct BuilderPart {
 }
 const _: () = assert!(size_of::<BuilderPart>() == 6);
 
-/// `av1_builder`.
+/// `tilg_builder`.
 #[repr(C)]
 #[derive(Clone, Copy, Debug, Default, PartialEq, Eq)]
 pub struct Builder {
     pub written: usize,
     pub slot: usize,
     pub count: usize,
-    pub row: u16,
-    pub col: u16,
+    pub superblock_y: u16,
+    pub superblock_x: u16,
     pub header: PlanHeader,
     pub parts: [BuilderPart; 13],
 }
 const _: () = assert!(size_of::<Builder>() == 128);
 
-/// `av1_difference`.
+/// `tilg_difference`.
 #[repr(C)]
 #[derive(Clone, Copy, Debug, Default, PartialEq, Eq)]
 pub struct Difference {
     pub leaf: u32,
-    pub row: u16,
-    pub column: u16,
+    pub y: u16,
+    pub x: u16,
     pub given: u16,
     pub defined: u16,
     pub plane: u8,
 }
 const _: () = assert!(size_of::<Difference>() == 16);
 
-/// `av1_refusal`.
+/// `tilg_refusal`.
 #[repr(C)]
 #[derive(Clone, Copy, Debug, Default, PartialEq, Eq)]
 pub struct Refusal {
@@ -245,7 +247,7 @@ pub struct Refusal {
 }
 const _: () = assert!(size_of::<Refusal>() == 12);
 
-/// `av1_coefficient`.
+/// `tilg_coefficient`.
 #[repr(C)]
 #[derive(Clone, Copy, Debug, Default, PartialEq, Eq)]
 pub struct Coefficient {
@@ -255,36 +257,36 @@ pub struct Coefficient {
 }
 const _: () = assert!(size_of::<Coefficient>() == 8);
 
-/// `av1_motion`.
+/// `tilg_motion`.
 #[repr(C)]
 #[derive(Clone, Copy, Debug, Default, PartialEq, Eq)]
 pub struct Motion {
-    pub row: i16,
-    pub col: i16,
+    pub mv_y: i16,
+    pub mv_x: i16,
     pub reference: u8,
 }
 const _: () = assert!(size_of::<Motion>() == 6);
 
-/// `av1_leaf`.
+/// `tilg_leaf`.
 #[repr(C)]
 #[derive(Clone, Copy, Debug, Default, PartialEq, Eq)]
 pub struct Leaf {
     pub first: Motion,
     pub second: Motion,
     pub mode: u8,
-    pub step: i8,
-    pub chroma: u8,
+    pub angle_step: i8,
+    pub has_chroma: u8,
     pub chroma_mode: u8,
-    pub chroma_step: i8,
+    pub chroma_angle_step: i8,
     pub alpha_u: i8,
     pub alpha_v: i8,
     pub tx_size: u8,
     pub tx_type: u8,
-    pub uv_type: u8,
+    pub chroma_tx_type: u8,
 }
 const _: () = assert!(size_of::<Leaf>() == 22);
 
-/// `av1_part_refusal`.
+/// `tilg_part_refusal`.
 #[repr(C)]
 #[derive(Clone, Copy, Debug, Default, PartialEq, Eq)]
 pub struct PartRefusal {
@@ -295,14 +297,14 @@ pub struct PartRefusal {
 }
 const _: () = assert!(size_of::<PartRefusal>() == 16);
 
-/// `av1_plan_header`.
+/// `tilg_plan_header`.
 #[repr(C)]
 #[derive(Clone, Copy, Debug, Default, PartialEq, Eq)]
 pub struct PlanHeader {
     pub width: u16,
     pub height: u16,
     pub version: u8,
-    pub depth: u8,
+    pub bit_depth: u8,
     pub sampling: u8,
     pub filter: u8,
     pub edge_filter: u8,
@@ -312,15 +314,15 @@ pub struct PlanHeader {
 const _: () = assert!(size_of::<PlanHeader>() == 18);
 
 extern "C" {
-    #[link_name = "av1_builder_begin"]
+    #[link_name = "tilg_builder_begin"]
     pub fn builder_begin(
-        header: *const PlanHeader,
         builder: *mut Builder,
         room: *mut u8,
         room_len: usize,
+        header: *const PlanHeader,
     ) -> u32;
 
-    #[link_name = "av1_builder_reference"]
+    #[link_name = "tilg_builder_reference"]
     pub fn builder_reference(
         builder: *mut Builder,
         room: *mut u8,
@@ -333,22 +335,23 @@ extern "C" {
         v_len: usize,
     ) -> u32;
 
-    #[link_name = "av1_builder_mark"]
+    #[link_name = "tilg_builder_mark"]
     pub fn builder_mark(builder: *mut Builder, room: *mut u8, room_len: usize, mark: u8) -> u32;
 
-    #[link_name = "av1_builder_finish"]
+    #[link_name = "tilg_builder_finish"]
     pub fn builder_finish(
+        len: *mut usize,
         builder: *const Builder,
         room: *const u8,
         room_len: usize,
-        len: *mut usize,
     ) -> u32;
 
-    #[link_name = "av1_builder_leaf"]
+    #[link_name = "tilg_builder_leaf"]
     pub fn builder_leaf(
         builder: *mut Builder,
         room: *mut u8,
         room_len: usize,
+        field: *mut u32,
         leaf: *const Leaf,
         y: *const Coefficient,
         y_len: usize,
@@ -358,17 +361,20 @@ extern "C" {
         v_len: usize,
     ) -> u32;
 
-    #[link_name = "av1_trace_differences"]
+    #[link_name = "tilg_builder_next"]
+    pub fn builder_next(next: *mut NextField, builder: *const Builder) -> u32;
+
+    #[link_name = "tilg_trace_differences"]
     pub fn trace_differences(
-        bytes: *const u8,
-        bytes_len: usize,
         room: *mut Difference,
         room_len: usize,
         found: *mut usize,
         refusal: *mut PartRefusal,
+        bytes: *const u8,
+        bytes_len: usize,
     ) -> u32;
 
-    #[link_name = "av1_predict_intra_8"]
+    #[link_name = "tilg_predict_intra_8"]
     pub fn predict_intra_8(
         samples: *mut u8,
         samples_len: usize,
@@ -383,7 +389,7 @@ extern "C" {
         above_len: usize,
     ) -> u32;
 
-    #[link_name = "av1_predict_intra_16"]
+    #[link_name = "tilg_predict_intra_16"]
     pub fn predict_intra_16(
         samples: *mut u16,
         samples_len: usize,
@@ -398,7 +404,7 @@ extern "C" {
         above_len: usize,
     ) -> u32;
 
-    #[link_name = "av1_predict_cfl_8"]
+    #[link_name = "tilg_predict_cfl_8"]
     pub fn predict_cfl_8(
         samples: *mut u8,
         samples_len: usize,
@@ -415,7 +421,7 @@ extern "C" {
         alpha: i16,
     ) -> u32;
 
-    #[link_name = "av1_predict_cfl_16"]
+    #[link_name = "tilg_predict_cfl_16"]
     pub fn predict_cfl_16(
         samples: *mut u16,
         samples_len: usize,
@@ -432,7 +438,7 @@ extern "C" {
         alpha: i16,
     ) -> u32;
 
-    #[link_name = "av1_intra_edge_8"]
+    #[link_name = "tilg_intra_edge_8"]
     pub fn intra_edge_8(
         edge: *mut u8,
         edge_len: usize,
@@ -442,7 +448,7 @@ extern "C" {
         block: *const EdgeBlock,
     ) -> u32;
 
-    #[link_name = "av1_intra_edge_16"]
+    #[link_name = "tilg_intra_edge_16"]
     pub fn intra_edge_16(
         edge: *mut u16,
         edge_len: usize,
@@ -452,7 +458,7 @@ extern "C" {
         block: *const EdgeBlock,
     ) -> u32;
 
-    #[link_name = "av1_predict_in_plane_8"]
+    #[link_name = "tilg_predict_in_plane_8"]
     pub fn predict_in_plane_8(
         samples: *mut u8,
         samples_len: usize,
@@ -464,7 +470,7 @@ extern "C" {
         alpha: i16,
     ) -> u32;
 
-    #[link_name = "av1_predict_in_plane_16"]
+    #[link_name = "tilg_predict_in_plane_16"]
     pub fn predict_in_plane_16(
         samples: *mut u16,
         samples_len: usize,
@@ -476,7 +482,7 @@ extern "C" {
         alpha: i16,
     ) -> u32;
 
-    #[link_name = "av1_cfl_ac_8"]
+    #[link_name = "tilg_cfl_ac_8"]
     pub fn cfl_ac_8(
         ac: *mut i16,
         ac_len: usize,
@@ -488,7 +494,7 @@ extern "C" {
         block: *const CflBlock,
     ) -> u32;
 
-    #[link_name = "av1_cfl_ac_16"]
+    #[link_name = "tilg_cfl_ac_16"]
     pub fn cfl_ac_16(
         ac: *mut i16,
         ac_len: usize,
@@ -498,26 +504,13 @@ extern "C" {
         x: usize,
         y: usize,
         block: *const CflBlock,
-        bit_depth: usize,
+        bit_depth: u8,
     ) -> u32;
 
-    #[link_name = "av1_cfl_block_of"]
+    #[link_name = "tilg_cfl_block_of"]
     pub fn cfl_block_of(block: *mut CflBlock, luma: *const LumaBlock) -> u32;
 
-    #[link_name = "av1_angle_step"]
-    pub fn angle_step(step: *mut i8, mode: u8, angle: usize) -> u32;
-
-    #[link_name = "av1_smooth_neighbour"]
-    pub fn smooth_neighbour(smooth: *mut u8, neighbours: *const Neighbours) -> u32;
-
-    #[link_name = "av1_motion_place"]
-    pub fn motion_place(
-        place: *mut MovedPlace,
-        plane: *const MotionPlane,
-        block: *const MovedBlock,
-    ) -> u32;
-
-    #[link_name = "av1_put_8tap_8"]
+    #[link_name = "tilg_put_8tap_8"]
     pub fn put_8tap_8(
         dst: *mut u8,
         dst_len: usize,
@@ -532,23 +525,7 @@ extern "C" {
         block: *const MotionBlock,
     ) -> u32;
 
-    #[link_name = "av1_put_8tap_16"]
-    pub fn put_8tap_16(
-        dst: *mut u16,
-        dst_len: usize,
-        dst_stride: usize,
-        dst_x: usize,
-        dst_y: usize,
-        src: *const u16,
-        src_len: usize,
-        src_stride: usize,
-        src_x: usize,
-        src_y: usize,
-        block: *const MotionBlock,
-        bit_depth: usize,
-    ) -> u32;
-
-    #[link_name = "av1_prep_8tap_8"]
+    #[link_name = "tilg_prep_8tap_8"]
     pub fn prep_8tap_8(
         values: *mut i16,
         values_len: usize,
@@ -560,20 +537,7 @@ extern "C" {
         block: *const MotionBlock,
     ) -> u32;
 
-    #[link_name = "av1_prep_8tap_16"]
-    pub fn prep_8tap_16(
-        values: *mut i16,
-        values_len: usize,
-        src: *const u16,
-        src_len: usize,
-        src_stride: usize,
-        src_x: usize,
-        src_y: usize,
-        block: *const MotionBlock,
-        bit_depth: usize,
-    ) -> u32;
-
-    #[link_name = "av1_mc_avg_8"]
+    #[link_name = "tilg_mc_avg_8"]
     pub fn mc_avg_8(
         samples: *mut u8,
         samples_len: usize,
@@ -588,7 +552,7 @@ extern "C" {
         second_len: usize,
     ) -> u32;
 
-    #[link_name = "av1_mc_avg_16"]
+    #[link_name = "tilg_mc_avg_16"]
     pub fn mc_avg_16(
         samples: *mut u16,
         samples_len: usize,
@@ -601,66 +565,66 @@ extern "C" {
         first_len: usize,
         second: *const i16,
         second_len: usize,
-        bit_depth: usize,
+        bit_depth: u8,
     ) -> u32;
 
-    #[link_name = "av1_put_moved_8"]
+    #[link_name = "tilg_put_moved_8"]
     pub fn put_moved_8(
         dst: *mut u8,
         dst_len: usize,
         dst_stride: usize,
         dst_x: usize,
         dst_y: usize,
+        window: *mut u8,
+        window_len: usize,
         src: *const u8,
         src_len: usize,
         plane: *const MotionPlane,
         block: *const MovedBlock,
-        window: *mut u8,
-        window_len: usize,
     ) -> u32;
 
-    #[link_name = "av1_put_moved_16"]
+    #[link_name = "tilg_put_moved_16"]
     pub fn put_moved_16(
         dst: *mut u16,
         dst_len: usize,
         dst_stride: usize,
         dst_x: usize,
         dst_y: usize,
+        window: *mut u16,
+        window_len: usize,
         src: *const u16,
         src_len: usize,
         plane: *const MotionPlane,
         block: *const MovedBlock,
-        window: *mut u16,
-        window_len: usize,
-        bit_depth: usize,
+        bit_depth: u8,
     ) -> u32;
 
-    #[link_name = "av1_prep_moved_8"]
+    #[link_name = "tilg_prep_moved_8"]
     pub fn prep_moved_8(
         values: *mut i16,
         values_len: usize,
+        window: *mut u8,
+        window_len: usize,
         src: *const u8,
         src_len: usize,
         plane: *const MotionPlane,
         block: *const MovedBlock,
-        window: *mut u8,
-        window_len: usize,
     ) -> u32;
 
-    #[link_name = "av1_prep_moved_16"]
+    #[link_name = "tilg_prep_moved_16"]
     pub fn prep_moved_16(
         values: *mut i16,
         values_len: usize,
+        window: *mut u16,
+        window_len: usize,
         src: *const u16,
         src_len: usize,
         plane: *const MotionPlane,
         block: *const MovedBlock,
-        window: *mut u16,
-        window_len: usize,
-        bit_depth: usize,
+        bit_depth: u8,
     ) -> u32;
 
-    #[link_name = "av1_test_samples_16"]
+    #[link_name = "tilg_test_samples_16"]
     pub fn test_samples_16(
         samples: *const u16,
         samples_len: usize,
@@ -669,10 +633,10 @@ extern "C" {
         y: usize,
         width: usize,
         height: usize,
-        bit_depth: usize,
+        bit_depth: u8,
     ) -> u32;
 
-    #[link_name = "av1_put_tested_16"]
+    #[link_name = "tilg_put_tested_16"]
     pub fn put_tested_16(
         dst: *mut u16,
         dst_len: usize,
@@ -685,10 +649,10 @@ extern "C" {
         src_x: usize,
         src_y: usize,
         block: *const MotionBlock,
-        bit_depth: usize,
+        bit_depth: u8,
     ) -> u32;
 
-    #[link_name = "av1_prep_tested_16"]
+    #[link_name = "tilg_prep_tested_16"]
     pub fn prep_tested_16(
         values: *mut i16,
         values_len: usize,
@@ -698,106 +662,95 @@ extern "C" {
         src_x: usize,
         src_y: usize,
         block: *const MotionBlock,
-        bit_depth: usize,
+        bit_depth: u8,
     ) -> u32;
 
-    #[link_name = "av1_planes_len"]
+    #[link_name = "tilg_planes_len"]
     pub fn planes_len(
-        bytes: *const u8,
-        bytes_len: usize,
         len: *mut usize,
         refusal: *mut Refusal,
-    ) -> u32;
-
-    #[link_name = "av1_reconstruct_plan"]
-    pub fn reconstruct_plan(
         bytes: *const u8,
         bytes_len: usize,
+    ) -> u32;
+
+    #[link_name = "tilg_reconstruct_plan"]
+    pub fn reconstruct_plan(
         room: *mut u8,
         room_len: usize,
         written: *mut usize,
         refusal: *mut Refusal,
+        bytes: *const u8,
+        bytes_len: usize,
     ) -> u32;
 
-    #[link_name = "av1_reconstruct_sequence"]
+    #[link_name = "tilg_reconstruct_sequence"]
     pub fn reconstruct_sequence(
-        bytes: *const u8,
-        bytes_len: usize,
         room: *mut u8,
         room_len: usize,
         written: *mut usize,
         refusal: *mut PartRefusal,
+        bytes: *const u8,
+        bytes_len: usize,
     ) -> u32;
 
-    #[link_name = "av1_reconstruct_tiles"]
+    #[link_name = "tilg_reconstruct_tiles"]
     pub fn reconstruct_tiles(
-        bytes: *const u8,
-        bytes_len: usize,
         room: *mut u8,
         room_len: usize,
         written: *mut usize,
         refusal: *mut PartRefusal,
+        bytes: *const u8,
+        bytes_len: usize,
     ) -> u32;
 
-    #[link_name = "av1_inverse_transform_add_8"]
+    #[link_name = "tilg_inverse_transform_add_8"]
     pub fn inverse_transform_add_8(
-        scratch: *mut TransformScratch,
-        coefficients: *const i16,
-        coefficients_len: usize,
         samples: *mut u8,
         samples_len: usize,
         stride: usize,
         x: usize,
         y: usize,
+        scratch: *mut TransformScratch,
+        coefficients: *const i16,
+        coefficients_len: usize,
         tx_size: u8,
         tx_type: u8,
     ) -> u32;
 
-    #[link_name = "av1_inverse_transform_add_16"]
+    #[link_name = "tilg_inverse_transform_add_16"]
     pub fn inverse_transform_add_16(
-        scratch: *mut TransformScratch,
-        coefficients: *const i32,
-        coefficients_len: usize,
         samples: *mut u16,
         samples_len: usize,
         stride: usize,
         x: usize,
         y: usize,
+        scratch: *mut TransformScratch,
+        coefficients: *const i32,
+        coefficients_len: usize,
         tx_size: u8,
         tx_type: u8,
-        bit_depth: usize,
+        bit_depth: u8,
     ) -> u32;
 
-    #[link_name = "av1_inverse_transform_add_rav1e_16"]
+    #[link_name = "tilg_inverse_transform_add_rav1e_16"]
     pub fn inverse_transform_add_rav1e_16(
-        scratch: *mut TransformScratch,
-        coefficients: *const i32,
-        coefficients_len: usize,
         samples: *mut u16,
         samples_len: usize,
         stride: usize,
         x: usize,
         y: usize,
-        tx_size: u8,
-        tx_type: u8,
-        bit_depth: usize,
-    ) -> u32;
-
-    #[link_name = "av1_inverse_transform_add_clamped_16"]
-    pub fn inverse_transform_add_clamped_16(
         scratch: *mut TransformScratch,
         coefficients: *const i32,
         coefficients_len: usize,
-        samples: *mut u16,
-        samples_len: usize,
-        stride: usize,
-        x: usize,
-        y: usize,
         tx_size: u8,
         tx_type: u8,
-        bit_depth: usize,
+        bit_depth: u8,
     ) -> u32;
 
-    #[link_name = "av1_c_version"]
-    pub fn c_version() -> u32;
+    #[link_name = "tilg_version_0_4"]
+    pub fn version_0_4() -> u32;
 }
+
+// The symbol's name has the minor version, so a library of another minor version does not link.
+#[used]
+static NEEDS_VERSION: unsafe extern "C" fn() -> u32 = version_0_4;

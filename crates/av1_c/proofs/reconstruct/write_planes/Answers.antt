@@ -6,7 +6,7 @@ use Rattle.av1_c.proofs.reconstruct.write_planes.Goals as goal
 pub returns-then-room-len-clause-fault : goal.returns-then-room-len-clause-fault
 returns-then-room-len-clause-fault c =
     let len = wanted_is (plan_value c.args.plan.now) c.header.result.now c.planes_len-len.result c.planes_len-len.ensures c.header.ensures.value in
-    omega (arith, c.if-room-len.true, len)
+    (omega (arith, c.if-room-len.true, len), len)
 
 pub copy_from_slice-requires : goal.copy_from_slice-requires
 copy_from_slice-requires c =

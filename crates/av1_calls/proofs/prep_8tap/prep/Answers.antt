@@ -1,31 +1,42 @@
-use Rattle.std.proofs.Common.{ℕ, ◌∙◌, ◌^◌, ◌<◌, subst, sym}
-use Rattle.av1_calls.proofs.Motions.{fraction_is, prep_is, read_same, read_storage, read_stored}
+use Rattle.std.proofs.Common.{length, refl, ◌+◌, ◌<◌}
+use Rattle.av1_inter.specs.Places.{AreWithinDepth, HoldRows, IsReadFrom, read_beside, sample_in}
+use Rattle.av1_calls.proofs.Motions.{passed_on, prep_is, read_around, read_long, read_within}
 use Rattle.av1_calls.proofs.prep_8tap.prep.Goals as goal
 
-pub from_slice-place-requires : goal.from_slice-place-requires
-from_slice-place-requires g c =
-    read_storage c.args.from c.args.block c.args.src.now c.requires.asked.motion _ _ c.rows_of-rows.ensures c.config_of-cfg.ensures
+pub prep_8tap_from-requires-clause-col_frac : goal.prep_8tap_from-requires-clause-col_frac
+prep_8tap_from-requires-clause-col_frac g c =
+    passed_on c.args.block c.moved_by.result c.args.block.width c.args.block.height c.moved_by.ensures.col_frac c.moved_by.ensures.row_frac refl refl
+    (λ fx fy w h. fx < 16) c.requires.asked.motion.fractions.columns
 
-pub prep_8tap-requires-clause-stored : goal.prep_8tap-requires-clause-stored
-prep_8tap-requires-clause-stored g c =
-    let place = c.from_slice-place in
-    read_stored c.args.from c.args.block c.args.src.now c.requires.asked.motion place.result (place.ensures.samples ∙ c.rows_of-rows.ensures)
-    (place.ensures.cfg ∙ c.config_of-cfg.ensures) place.ensures.x place.ensures.y
+pub prep_8tap_from-requires-clause-row_frac : goal.prep_8tap_from-requires-clause-row_frac
+prep_8tap_from-requires-clause-row_frac g c =
+    passed_on c.args.block c.moved_by.result c.args.block.width c.args.block.height c.moved_by.ensures.col_frac c.moved_by.ensures.row_frac refl refl
+    (λ fx fy w h. fy < 16) c.requires.asked.motion.fractions.rows
 
-pub prep_8tap-requires-clause-within : goal.prep_8tap-requires-clause-within
-prep_8tap-requires-clause-within g c = λ x y h k.
-    let place = c.from_slice-place in
-    let same = read_same c.args.from c.args.block c.args.src.now c.requires.asked.motion place.result (place.ensures.samples ∙ c.rows_of-rows.ensures)
-    (place.ensures.cfg ∙ c.config_of-cfg.ensures) place.ensures.x place.ensures.y g.T.Pixel.num x y h k in
-    subst (λ (n : ℕ). n < 2 ^ c.args.bit_depth) (sym same) (c.requires.deep.within x y h k)
+pub prep_8tap_from-requires-clause-reach : goal.prep_8tap_from-requires-clause-reach
+prep_8tap_from-requires-clause-reach g c =
+    let a = c.args in
+    let read = c.read_from.result.now in
+    passed_on a.block c.moved_by.result a.block.width a.block.height c.moved_by.ensures.col_frac c.moved_by.ensures.row_frac refl refl
+    (λ fx fy w h. HoldRows (length read) a.from.stride (w + read_beside fx) (h + read_beside fy))
+    (read_long g.T.Pixel.num a.from a.block a.src.now read c.requires.asked.motion.source c.read_from.ensures)
+
+pub prep_8tap_from-requires-clause-within : goal.prep_8tap_from-requires-clause-within
+prep_8tap_from-requires-clause-within g c =
+    let a = c.args in
+    let read = c.read_from.result.now in
+    passed_on a.block c.moved_by.result a.block.width a.block.height c.moved_by.ensures.col_frac c.moved_by.ensures.row_frac refl refl
+    (λ fx fy w h. AreWithinDepth a.bit_depth (sample_in g.T.Pixel.num read a.from.stride) (w + read_beside fx) (h + read_beside fy))
+    (read_within g.T.Pixel.num a.from a.block a.src.now read c.requires.asked.motion.source c.read_from.ensures a.bit_depth c.requires.deep.within)
 
 pub returns : goal.returns
-returns g c =
-    let place = c.from_slice-place in
-    prep_is c.args.bit_depth c.args.block c.args.values.now c.prep_8tap.new.tmp _ _ _ _ _ _
-    (fraction_is c.from.result c.args.block.col_frac c.requires.asked.motion.fractions.columns c.from.ensures)
-    (fraction_is c.from-2.result c.args.block.row_frac c.requires.asked.motion.fractions.rows c.from-2.ensures)
-    c.filter_along.ensures c.filter_along-2.ensures
-    (read_same c.args.from c.args.block c.args.src.now c.requires.asked.motion place.result (place.ensures.samples ∙ c.rows_of-rows.ensures)
-    (place.ensures.cfg ∙ c.config_of-cfg.ensures) place.ensures.x place.ensures.y g.T.Pixel.num)
-    c.prep_8tap.ensures.value c.prep_8tap.ensures.others
+returns g c = λ around same.
+    let a = c.args in
+    let read = c.read_from.result.now in
+    let m = c.moved_by in
+    prep_is a.bit_depth a.block a.values.now c.prep_8tap_from.new.tmp m.result around m.ensures.col_frac m.ensures.row_frac m.ensures.mode_x m.ensures.mode_y
+    (c.prep_8tap_from.ensures.value around
+    (passed_on a.block m.result a.block.width a.block.height m.ensures.col_frac m.ensures.row_frac refl refl
+    (λ fx fy w h. IsReadFrom fx fy w h (sample_in g.T.Pixel.num read a.from.stride) around)
+    (read_around g.T.Pixel.num a.from a.block a.src.now read c.requires.asked.motion.source c.read_from.ensures around same)))
+    c.prep_8tap_from.ensures.others

@@ -1,7 +1,12 @@
-use Rattle.std.proofs.Common.{ℕ, ◌≡◌, ◌≤◌, arith, inl, inr, subst, sym}
+use Rattle.std.proofs.Common.{ℕ, ◌≡◌, ◌≤◌, arith, inl, inr, length, subst, sym}
 use Rattle.std.proofs.lemmas.Bool.{cases_lt}
 use Rattle.av1_calls.specs.Samples.{area_sample}
+use Rattle.av1_calls.proofs.Lanes.{row_small}
 use Rattle.av1_calls.proofs.samples.greatest_of.Goals as goal
+
+pub overflow_add-start : goal.overflow_add-start
+overflow_add-start c =
+    let small = row_small c.args.stride (length c.args.samples.now) c.loop-r.r c.args.area c.requires c.loop-r-test.true in omega (arith, small)
 
 pub loop-r-preserved : goal.loop-r-preserved
 loop-r-preserved c =

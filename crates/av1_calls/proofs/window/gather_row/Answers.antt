@@ -1,20 +1,13 @@
-use Rattle.std.proofs.Common.{ℕ, ℤ, ◌∙◌, ◌<◌, ◌+ℤ◌, pos, ap, arith, get_or, length, set, subst, to_z, of_z, w64}
-use Rattle.std.proofs.lemmas.List.{get_or_default}
-use Rattle.av1_frame.specs.Slices.{nearest_visible}
-use Rattle.av1_frame.proofs.Paint.{paint_row_more}
+use Rattle.av1_calls.proofs.Windows.{gathered_row}
 use Rattle.av1_calls.proofs.window.gather_row.Goals as goal
 
-pub loop-c-preserved : goal.loop-c-preserved
-loop-c-preserved g c =
-    let a = c.args in
-    let k = c.loop-c.c in
-    let source = a.source.now in
-    let item = c.index-source-column.result in
-    let first : ℤ = to_z w64 (of_z w64 a.first) in
-    let column = nearest_visible a.visible (first +ℤ pos k) in
-    let near = c.nearest_behind-column.ensures in
-    let inside : column < length source = subst (λ (n : ℕ). n < length source) near.value (omega (arith, near.below, c.requires.source_long)) in
-    ap (λ xs. set xs k item) c.loop-c.invariant
-    ∙ paint_row_more k (λ q v. get_or source (nearest_visible a.visible (first +ℤ pos q)) v) a.row.now item
-    (omega (arith, c.loop-c-test.true, c.requires.row_long))
-    (c.index-source-column.is ∙ ap (λ n. get_or source n item) near.value ∙ get_or_default source column item _ inside)
+pub returns : goal.returns
+returns g c =
+    let parts = c.args.parts in
+    let front = c.split_at_mut-before.ensures in
+    let back = c.split_at_mut-inside.ensures in
+    gathered_row c.args.source.now c.split_at.result.1.now parts.before parts.start parts.inside c.args.visible c.args.width c.requires.some
+    c.requires.source_long c.requires.fits c.requires.stored c.split_at.ensures.back c.args.row.now _ _ _ _ _ _ _ c.index-source-0.result
+    c.index-source-visible.result
+    c.requires.row_long front.front front.back back.front back.back c.index-source-0.is c.index-source-visible.is c.fill_row.ensures c.copy_row.ensures
+    c.fill_row-2.ensures

@@ -1,4 +1,4 @@
-use Rattle.std.proofs.Common.{ℕ, arith, ◌+◌, ◌*◌, ◌∙◌}
+use Rattle.std.proofs.Common.{ℕ, arith, ◌*◌, ◌∙◌}
 use Rattle.av1_frame.proofs.Paint.{row_painted_rest, paint_row_same}
 use Rattle.av1_inter.specs.Scaffolding.{sample_of}
 use Rattle.av1_inter.proofs.Strips.{copied_there}
@@ -10,11 +10,11 @@ loop-r-preserved g c =
     let rows = c.split_at_mut-row.ensures in
     let from = c.split_at.ensures in
     let r = c.loop-r.r in
-    let reach = c.requires.block.reach (r + 3) (omega (arith, c.loop-r-test.true)) in
-    let f = λ (q : ℕ). g.T.Pixel.pixel (sample_of g.T.Pixel.num block (q + 3) (r + 3)) in
+    let reach = c.requires.block.reach r (omega (arith, c.loop-r-test.true)) in
+    let f = λ (q : ℕ). g.T.Pixel.pixel (sample_of g.T.Pixel.num block q r) in
     row_painted_rest c.args.stride block.area r _ _ c.loop-r.samples _ _ _ c.requires.rows c.loop-r-test.true c.loop-r.invariant rows.front rows.back
     (c.copy_row.ensures
     ∙ paint_row_same block.area.width _ (λ q _. f q) _
     (λ q v l. copied_there g.T.Pixel.num g.T.Pixel.pixel g.met.T.Pixel.pixel_of_num block.source.now c.split_at.result.1.now
-    ((r + 3) * block.source_stride + 3) q _ v from.back (omega arith)
+    (r * block.source_stride) q _ v from.back (omega arith)
     (omega (arith, from.back_len, reach, l))))

@@ -1,12 +1,9 @@
-use Rattle.std.proofs.Common.{arith, rules, ◌≡◌, ◌*◌, ◌^◌, ◌<◌, ◌∙◌, ◌-ℤ◌, ap, subst, sym, ℕ, pos, map, slice_index, w16, FitsSigned}
+use Rattle.std.proofs.Common.{arith, rules, ◌≡◌, ◌*◌, ◌^◌, ◌<◌, ◌∙◌, ◌-ℤ◌, ap, set, subst, sym, ℕ, pos, map, slice_index, to_z, of_z, w16, FitsSigned}
 use Rattle.std.proofs.lemmas.Int.{to_z-of_z}
 use Rattle.std.proofs.lemmas.List.{get_or-map}
+use Rattle.av1_frame.proofs.Paint.{paint_row_more}
 use Rattle.av1_inter.specs.Motion.{bias, intermediate_bits}
-use Rattle.av1_inter.proofs.Fill.{line_more, line_none}
 use Rattle.av1_inter.proofs.copies.widen_row.Goals as goal
-
-pub loop-c-init : goal.loop-c-init
-loop-c-init g c = line_none _ _
 
 pub widen-requires-clause-within : goal.widen-requires-clause-within
 widen-requires-clause-within g c =
@@ -26,5 +23,5 @@ loop-c-preserved g c =
     let x = c.index-source-c.result in
     let n : slice_index (map num row) k ≡ num x = get_or-map num row k x 0 (omega arith) ∙ ap num (sym c.index-source-c.is) in
     let f : FitsSigned w16 c.widen.result = search rules in
-    line_more g.row.N k (λ i. pos (slice_index (map num row) i * 2 ^ intermediate_bits d) -ℤ bias d) _ _ c.loop-c.invariant (omega arith)
-    (to_z-of_z w16 _ f ∙ c.widen.ensures ∙ ap (λ (m : ℕ). pos (m * 2 ^ intermediate_bits d) -ℤ bias d) (sym n))
+    ap (λ u. set u k (to_z w16 (of_z w16 c.widen.result))) c.loop-c.invariant
+    ∙ paint_row_more k _ _ _ (omega arith) (to_z-of_z w16 _ f ∙ c.widen.ensures ∙ ap (λ (m : ℕ). pos (m * 2 ^ intermediate_bits d) -ℤ bias d) (sym n))

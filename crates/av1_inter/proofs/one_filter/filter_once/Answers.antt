@@ -1,4 +1,5 @@
-use Rattle.std.proofs.Common.{arith, ap, inl, refl, sym, ◌≡◌, ◌+◌, ◌∙◌}
+use Rattle.std.proofs.Common.{arith, ap, inl, refl, subst, sym, ◌≡◌, ◌+◌, ◌∙◌}
+use Rattle.av1_blocks.specs.Depths.{IsDepth}
 use Rattle.av1_frame.specs.Samples.{corner}
 use Rattle.av1_frame.proofs.Paint.{paint_empty}
 use Rattle.av1_inter.proofs.Strips.{paint_next, part_filtered, part_laid}
@@ -11,6 +12,13 @@ loop-start-init g c =
       room = omega arith;
       painted = sym (paint_empty c.args.stride (corner c.args.block.now.area 0 c.args.block.now.area.height) _ c.args.target.now (inl refl));
     }
+
+pub part_at-strip-requires-clause-start : goal.part_at-strip-requires-clause-start
+part_at-strip-requires-clause-start g c =
+    let long = c.requires.laid.reach 0 c.requires.some in omega (arith, long, c.loop-start-test.true)
+
+pub filter_columns-requires-clause-depths : goal.filter_columns-requires-clause-depths
+filter_columns-requires-clause-depths g c = subst IsDepth (sym c.part_at-strip.ensures.depth) c.requires.depths
 
 pub filter_columns-requires-clause-laid : goal.filter_columns-requires-clause-laid
 filter_columns-requires-clause-laid g c =

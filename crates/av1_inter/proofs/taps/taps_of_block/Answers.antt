@@ -1,7 +1,7 @@
 use Rattle.std.proofs.Common.{subst, sym}
 use Rattle.av1_frame.specs.declared.plane_slice.PlaneSlice.{PlaneSlice}
 use Rattle.av1_inter.specs.Places.{IsStoredFrom}
-use Rattle.av1_inter.proofs.Corners.{corner_column_fits, corner_fits, corner_is, corner_within}
+use Rattle.av1_inter.proofs.Corners.{corner_column_fits, corner_fits, corner_is}
 use Rattle.av1_inter.proofs.taps.taps_of_block.Goals as goal
 
 pub go_left-requires : goal.go_left-requires
@@ -17,7 +17,3 @@ pub returns-clause-stored : goal.returns-clause-stored
 returns-clause-stored g c = λ columns rows stored.
     subst (λ (p : PlaneSlice g.row.T.Denot). IsStoredFrom p columns rows)
     (sym (corner_is c.args.src c.go_left.result _ c.go_left.ensures c.go_up.ensures)) stored
-
-pub returns-clause-within : goal.returns-clause-within
-returns-clause-within g c = λ depth columns rows within.
-    corner_within g.T.Pixel.num c.args.src _ depth columns rows (corner_is c.args.src c.go_left.result _ c.go_left.ensures c.go_up.ensures) within

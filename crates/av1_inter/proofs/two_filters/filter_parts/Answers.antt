@@ -3,7 +3,7 @@ use Rattle.av1_frame.specs.Samples.{corner}
 use Rattle.av1_frame.proofs.Paint.{paint_empty}
 use Rattle.av1_inter.specs.Scaffolding.{both_ways, sample_of}
 use Rattle.av1_inter.proofs.Parts.{both_moved}
-use Rattle.av1_inter.proofs.Strips.{paint_below}
+use Rattle.av1_inter.proofs.Strips.{paint_below, part_is_block}
 use Rattle.av1_inter.proofs.two_filters.filter_parts.Goals as goal
 
 pub loop-first-init : goal.loop-first-init
@@ -12,6 +12,18 @@ loop-first-init g c =
       room = omega arith;
       painted = sym (paint_empty c.args.stride (corner c.args.strip.now.area c.args.strip.now.area.width 0) _ c.args.target.now (inr refl));
     }
+
+pub part_at-part-requires-clause-start : goal.part_at-part-requires-clause-start
+part_at-part-requires-clause-start g c =
+    let long = c.requires.strip.reach c.loop-first.first (omega (arith, c.loop-first-test.true)) in omega (arith, long)
+
+pub filter_part_of-requires-clause-part : goal.filter_part_of-requires-clause-part
+filter_part_of-requires-clause-part g c =
+    let part = c.part_at-part.ensures in
+    part_is_block g.T.Pixel.num 7 7 c.args.strip.now c.part_at-part.result 0 c.loop-first.first c.args.strip.now.area.width c.min-rows.result part.area
+    part.source
+    part.stride part.depth c.requires.strip (omega arith) (omega (arith, c.min-rows.ensures, c.loop-first-test.true))
+    (omega (arith, c.min-rows.ensures, c.loop-first-test.true))
 
 pub loop-first-preserved : goal.loop-first-preserved
 loop-first-preserved g c =

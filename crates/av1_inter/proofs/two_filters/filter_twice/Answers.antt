@@ -3,7 +3,7 @@ use Rattle.av1_frame.specs.Samples.{corner}
 use Rattle.av1_frame.proofs.Paint.{paint_empty}
 use Rattle.av1_inter.specs.Scaffolding.{both_ways, sample_of}
 use Rattle.av1_inter.proofs.Parts.{both_moved}
-use Rattle.av1_inter.proofs.Strips.{paint_next}
+use Rattle.av1_inter.proofs.Strips.{paint_next, part_is_block}
 use Rattle.av1_inter.proofs.two_filters.filter_twice.Goals as goal
 
 pub loop-start-init : goal.loop-start-init
@@ -12,6 +12,17 @@ loop-start-init g c =
       room = omega arith;
       painted = sym (paint_empty c.args.stride (corner c.args.block.now.area 0 c.args.block.now.area.height) _ c.args.target.now (inl refl));
     }
+
+pub part_at-strip-requires-clause-start : goal.part_at-strip-requires-clause-start
+part_at-strip-requires-clause-start g c =
+    let long = c.requires.block.reach 0 (omega (arith, c.requires.block.some)) in omega (arith, long, c.loop-start-test.true)
+
+pub filter_parts-requires-clause-strip : goal.filter_parts-requires-clause-strip
+filter_parts-requires-clause-strip g c =
+    let part = c.part_at-strip.ensures in
+    part_is_block g.T.Pixel.num 7 7 c.args.block.now c.part_at-strip.result c.loop-start.start 0 c.strip_width-columns.result c.args.block.now.area.height
+    part.area part.source part.stride part.depth
+    c.requires.block (omega (arith, c.strip_width-columns.ensures.room, c.loop-start-test.true)) (omega arith) c.requires.block.some
 
 pub loop-start-preserved : goal.loop-start-preserved
 loop-start-preserved g c =

@@ -1,24 +1,26 @@
-use Rattle.std.proofs.Common.{arith, rules, ap, ◌≡◌, ◌∙◌, ◌+ℤ◌, ◌-ℤ◌, pos, w32, to_z, of_z, FitsSigned}
+use Rattle.std.proofs.Common.{rules, ap, ◌∙◌, ◌+ℤ◌, ◌-ℤ◌, pos, w32, FitsSigned}
 use Rattle.std.specs.Int.{int_min, int_shr}
-use Rattle.std.proofs.lemmas.Int.{ints, to_z-of_z}
+use Rattle.std.proofs.lemmas.Int.{to_z-of_z}
 use Rattle.av1_inter.proofs.HeldSums.{cut_is}
-use Rattle.av1_inter.proofs.Settled.{wide_fits, wide_is}
+use Rattle.av1_inter.proofs.Settled.{add_wide, passed_wide, read_wide, wide_fits, wide_is}
 use Rattle.av1_inter.proofs.words.settle.Goals as goal
 
 pub overflow_add-sum : goal.overflow_add-sum
 overflow_add-sum c =
     let r = c.args.rounding in
     let h = c.requires.rounding in
-    let x : to_z w32 (of_z w32 c.from.result) ≡ r.add = omega (arith, ints, c.from.ensures, h.add.low, h.add.high) in
-    let y : c.from-2.result ≡ r.bias = omega (arith, ints, c.from-2.ensures, h.bias.low, h.bias.high) in
+    let add = add_wide r.add h.add in
+    let x = passed_wide r.add c.from.result (read_wide r.add c.from.result c.from.ensures add) add in
+    let y = read_wide r.bias c.from-2.result c.from-2.ensures h.bias in
     wide_fits r h c.args.sum c.requires.within c.from.result c.from-2.result x y
 
 pub returns : goal.returns
 returns c =
     let r = c.args.rounding in
     let h = c.requires.rounding in
-    let x : to_z w32 (of_z w32 c.from.result) ≡ r.add = omega (arith, ints, c.from.ensures, h.add.low, h.add.high) in
-    let y : c.from-2.result ≡ r.bias = omega (arith, ints, c.from-2.ensures, h.bias.low, h.bias.high) in
+    let add = add_wide r.add h.add in
+    let x = passed_wide r.add c.from.result (read_wide r.add c.from.result c.from.ensures add) add in
+    let y = read_wide r.bias c.from-2.result c.from-2.ensures h.bias in
     let m : FitsSigned w32 c.max.result = search rules in
     let l : FitsSigned w32 c.min.result = search rules in
     to_z-of_z w32 _ l

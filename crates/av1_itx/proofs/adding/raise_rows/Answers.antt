@@ -1,5 +1,30 @@
-use Rattle.av1_frame.proofs.Paint.{row_painted_rest}
+use Rattle.std.proofs.Common.{◌+◌, arith}
+use Rattle.std.proofs.Math.Nat.{le-mul_of_pos_right}
+use Rattle.av1_frame.proofs.Paint.{row_painted_rest, row_within}
 use Rattle.av1_itx.proofs.adding.raise_rows.Goals as goal
+
+pub overflow_add-area : goal.overflow_add-area
+overflow_add-area g c =
+    let rows = c.requires.rows in
+    let all = le-mul_of_pos_right (c.args.area.y + c.args.area.height) rows.some in
+    omega (arith, all, rows.rows, rows.few)
+
+pub overflow_mul-area : goal.overflow_mul-area
+overflow_mul-area g c =
+    let row = row_within c.args.stride c.args.area _ c.loop-r.r c.requires.rows c.loop-r-test.true in omega (arith, row, c.requires.rows.few)
+
+pub overflow_add-area-in-loop-r : goal.overflow_add-area-in-loop-r
+overflow_add-area-in-loop-r g c =
+    let row = row_within c.args.stride c.args.area _ c.loop-r.r c.requires.rows c.loop-r-test.true in omega (arith, row, c.requires.rows.few)
+
+pub split_at_mut-row-requires : goal.split_at_mut-row-requires
+split_at_mut-row-requires g c =
+    let row = row_within c.args.stride c.args.area _ c.loop-r.r c.requires.rows c.loop-r-test.true in omega (arith, row, c.loop-r.auto.samples)
+
+pub raise_row-requires-clause-row_long : goal.raise_row-requires-clause-row_long
+raise_row-requires-clause-row_long g c =
+    let row = row_within c.args.stride c.args.area _ c.loop-r.r c.requires.rows c.loop-r-test.true in
+    omega (arith, row, c.loop-r.auto.samples, c.split_at_mut-row.ensures.back_len)
 
 pub loop-r-preserved : goal.loop-r-preserved
 loop-r-preserved g c =

@@ -11,6 +11,26 @@ use Rattle.av1_itx.proofs.adst.run_blocks.Goals as goal
 pub loop-b-init : goal.loop-b-init
 loop-b-init g c = λ i h. words_begun _ _ (omega arith)
 
+pub overflow_mul-b : goal.overflow_mul-b
+overflow_mul-b g c =
+    let room = mul-le-mul_right (4 * length c.args.weights.now) (let next : c.loop-b.b + 1 ≤ c.args.blocks = omega arith in next) in
+    omega (arith, c.requires.len, room, c.loop-b.auto.v)
+
+pub overflow_mul-b-in-loop-b : goal.overflow_mul-b-in-loop-b
+overflow_mul-b-in-loop-b g c =
+    let room = mul-le-mul_right (4 * length c.args.weights.now) (let next : c.loop-b.b + 1 ≤ c.args.blocks = omega arith in next) in
+    omega (arith, c.requires.len, room, c.loop-b.auto.v)
+
+pub overflow_add-b : goal.overflow_add-b
+overflow_add-b g c =
+    let room = mul-le-mul_right (4 * length c.args.weights.now) (let next : c.loop-b.b + 1 ≤ c.args.blocks = omega arith in next) in
+    omega (arith, c.requires.len, room, c.loop-b.auto.v)
+
+pub slice_bounds-run_block-end : goal.slice_bounds-run_block-end
+slice_bounds-run_block-end g c =
+    let room = mul-le-mul_right (4 * length c.args.weights.now) (let next : c.loop-b.b + 1 ≤ c.args.blocks = omega arith in next) in
+    omega (arith, c.requires.len, room, c.loop-b.auto.v)
+
 pub run_block-requires-clause-fit : goal.run_block-requires-clause-fit
 run_block-requires-clause-fit g c =
     λ i h. words_fit g.W.Word.lane_of i (c.loop-b.b * (4 * length c.args.weights.now)) _ c.loop-b.v _ _ _ (c.loop-b.invariant i h) (c.requires.fit i h)

@@ -7,8 +7,24 @@ use Rattle.av1_lists.specs.Counts.{raised}
 use Rattle.av1_itx.specs.Networks.{network}
 use Rattle.av1_itx.specs.Scaffolding.{cosine_groups}
 use Rattle.av1_itx.proofs.Counted.{counted_more, counted_none}
-use Rattle.av1_itx.proofs.Eights.{group_in, groups_more, groups_written, lanes-fit, lanes_kept, lane_run, none_done}
+use Rattle.av1_itx.proofs.Eights.{group_in, group_within, groups_more, groups_written, lanes-fit, lanes_kept, lane_run, none_done}
 use Rattle.av1_itx.proofs.columns.run_words.Goals as goal
+
+pub gather_words-requires-clause-columns_in : goal.gather_words-requires-clause-columns_in
+gather_words-requires-clause-columns_in g c = group_within c.LANES-m.ensures c.requires.whole c.requires.columns c.loop-g-test.true
+
+pub gather_words-requires-clause-lines : goal.gather_words-requires-clause-lines
+gather_words-requires-clause-lines g c =
+    let line_len = length-take-le c.args.columns.height c.loop-g.line (omega arith) in
+    omega (arith, line_len, c.requires.columns.height)
+
+pub gather_words-requires-clause-buffer_len : goal.gather_words-requires-clause-buffer_len
+gather_words-requires-clause-buffer_len g c =
+    let line_len = length-take-le c.args.columns.height c.loop-g.line (omega arith) in
+    c.loop-g.auto.buffer ∙ c.requires.columns.long ∙ ap (λ n. n * c.args.columns.width) (sym line_len)
+
+pub scatter_words-requires-clause-columns_in : goal.scatter_words-requires-clause-columns_in
+scatter_words-requires-clause-columns_in g c = group_within c.LANES-m.ensures c.requires.whole c.requires.columns c.loop-g-test.true
 
 pub inverse_1d-requires-clause-fit : goal.inverse_1d-requires-clause-fit
 inverse_1d-requires-clause-fit g c = λ i h.

@@ -16,6 +16,63 @@ use Rattle.av1_itx.proofs.Tiles.{eights, fours, taken-none, taken-past, tile_row
 use Rattle.av1_itx.proofs.Unclamped.{kept, taken_fits}
 use Rattle.av1_itx.proofs.row_pass.rows_of.Goals as goal
 
+-- the rows that are run, and their samples
+live_in : (m l k rows h w n : ℕ) → m ≡ l → l * k ≤ rows → rows ≡ coded h → w ≤ 64 → n ≡ h * w → (m * k ≤ 32) × (m * k * w ≤ 2048) × (m * k * w ≤ n)
+live_in m l k rows h w n is within few narrow long =
+    let live : m * k ≤ rows = subst (λ (j : ℕ). j * k ≤ rows) (sym is) within in
+    let all : m * k ≤ 32 = omega (arith, live, few) in
+    let room = mul-le-mul_right w all in
+    let in_block : m * k ≤ h = omega (arith, live, few) in
+    let lent = mul-le-mul_right w in_block in
+    (all, omega (arith, room), omega (arith, lent, long))
+
+pub live_groups-groups-requires-clause-whole : goal.live_groups-groups-requires-clause-whole
+live_groups-groups-requires-clause-whole g c =
+    let rows : c.min-rows.result ≡ coded (tx_height c.args.block.tx_size) = omega arith in
+    subst (λ (n : ℕ). g.W.Word.LANES * (n / g.W.Word.LANES) ≡ n) (sym rows) c.requires.whole
+
+pub live_groups-groups-requires-clause-scaled_len : goal.live_groups-groups-requires-clause-scaled_len
+live_groups-groups-requires-clause-scaled_len g c =
+    let h = coded (tx_height c.args.block.tx_size) in
+    let rows : c.min-rows.result ≡ h = omega arith in
+    c.fill_rows.auto.scaled ∙ c.requires.scaled_len ∙ ap (λ n. n * h) (sym c.width-w.ensures.value) ∙ ap (λ n. c.width-w.result * n) (sym rows)
+
+pub overflow_mul-live : goal.overflow_mul-live
+overflow_mul-live g c =
+    let live : c.LANES-m.result * c.live_groups-groups.result ≤ c.min-rows.result =
+    subst (λ (n : ℕ). n * c.live_groups-groups.result ≤ c.min-rows.result) (sym c.LANES-m.ensures) c.live_groups-groups.ensures.within in
+    omega (arith, live)
+
+pub overflow_mul-live-2 : goal.overflow_mul-live-2
+overflow_mul-live-2 g c =
+    let long = c.requires.buffer_len ∙ ap (λ n. tx_height c.args.block.tx_size * n) (sym c.width-w.ensures.value) in
+    let live = live_in _ _ _ c.min-rows.result (tx_height c.args.block.tx_size) _ _ c.LANES-m.ensures c.live_groups-groups.ensures.within (omega arith)
+    c.width-w.ensures.most long in
+    omega (arith, live.1)
+
+pub slice_bounds-write_groups-end : goal.slice_bounds-write_groups-end
+slice_bounds-write_groups-end g c =
+    let long = c.requires.buffer_len ∙ ap (λ n. tx_height c.args.block.tx_size * n) (sym c.width-w.ensures.value) in
+    let live = live_in _ _ _ c.min-rows.result (tx_height c.args.block.tx_size) _ _ c.LANES-m.ensures c.live_groups-groups.ensures.within (omega arith)
+    c.width-w.ensures.most long in
+    live.2
+
+pub write_groups-requires-clause-scaled_len : goal.write_groups-requires-clause-scaled_len
+write_groups-requires-clause-scaled_len g c =
+    let h = coded (tx_height c.args.block.tx_size) in
+    let rows : c.min-rows.result ≡ h = omega arith in
+    c.run_columns.auto.buffer ∙ c.fill_rows.auto.scaled ∙ c.requires.scaled_len ∙ ap (λ n. n * h) (sym c.width-w.ensures.value)
+    ∙ ap (λ n. c.width-w.result * n) (sym rows)
+
+pub write_groups-requires-clause-buffer_len : goal.write_groups-requires-clause-buffer_len
+write_groups-requires-clause-buffer_len g c =
+    let k = c.live_groups-groups.result in
+    let w = c.width-w.result in
+    let long = c.requires.buffer_len ∙ ap (λ n. tx_height c.args.block.tx_size * n) (sym c.width-w.ensures.value) in
+    let live = live_in _ _ _ c.min-rows.result (tx_height c.args.block.tx_size) _ _ c.LANES-m.ensures c.live_groups-groups.ensures.within (omega arith)
+    c.width-w.ensures.most long in
+    length-take-le (c.LANES-m.result * k * w) c.args.buffer.now live.2 ∙ ap (λ n. n * k * w) c.LANES-m.ensures
+
 pub run_columns-requires : goal.run_columns-requires
 run_columns-requires g c =
     let block = c.args.block in

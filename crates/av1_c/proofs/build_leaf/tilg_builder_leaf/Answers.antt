@@ -1,0 +1,15 @@
+use Rattle.std.proofs.Common.{◌∙◌}
+use Rattle.av1_c.proofs.Builds.{on_done, on_other}
+use Rattle.av1_c.proofs.build_leaf.tilg_builder_leaf.Goals as goal
+
+pub returns-clause-done : goal.returns-clause-done
+returns-clause-done c = on_done c.give_leaf.result c.answer-status.result _ c.answer-status.ensures c.give_leaf.ensures.holds
+
+pub returns-clause-kept : goal.returns-clause-kept
+returns-clause-kept c = on_other c.give_leaf.result c.answer-status.result _ c.answer-status.ensures c.give_leaf.ensures.kept
+
+pub returns-clause-told : goal.returns-clause-told
+returns-clause-told c = λ p t. on_done c.give_leaf.result c.answer-status.result _ c.answer-status.ensures (c.give_leaf.ensures.told p t)
+
+pub returns-clause-status : goal.returns-clause-status
+returns-clause-status c = c.answer-status.ensures ∙ c.give_leaf.ensures.status
