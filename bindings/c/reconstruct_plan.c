@@ -23,7 +23,7 @@ static int refused(uint32_t status, const tilg_refusal *refusal) {
 /* The bytes of a file, and their number in `len`; NULL where that fails. */
 static uint8_t *read_file(const char *name, size_t *len) {
     FILE *file = fopen(name, "rb");
-    uint8_t *bytes = file ? malloc(MOST) : NULL;
+    uint8_t *bytes = file ? (uint8_t *)malloc(MOST) : NULL;
     *len = bytes ? fread(bytes, 1, MOST, file) : 0;
     if (bytes && ferror(file)) {
         free(bytes);
@@ -43,7 +43,7 @@ int main(int count, char **words) {
     }
     int result = 1;
     uint32_t status = tilg_planes_len(&wanted, &refusal, plan, len);
-    uint8_t *planes = status == TILG_DONE ? malloc(wanted) : NULL;
+    uint8_t *planes = status == TILG_DONE ? (uint8_t *)malloc(wanted) : NULL;
     if (planes) status = tilg_reconstruct_plan(planes, wanted, &written, &refusal, plan, len);
     if (planes && status == TILG_DONE)
         result = fwrite(planes, 1, written, stdout) == written && fflush(stdout) == 0 ? 0 : 1;
