@@ -3,14 +3,15 @@ import dataclasses
 import random
 
 from plans import header, leaf
+from tilgwaren.fields import PARTITIONS, places
 
 DEPTHS = (8, 10, 12)
 # Samplings by their number in plans; a monochrome frame is said as one of 4:2:0.
 SAMPLINGS = ("4:2:0", "4:2:2", "4:4:4", "4:0:0")
 KINDS = ("few", "coded", "far", "farther", "any")
-# Marks of nodes of 8 whose leaves have chroma of 4x4, by sampling, and of larger nodes of monochrome frames.
+# Marks of nodes of 8 whose leaves have chroma of 4x4, by sampling; and the partition of each mark.
 MARKS_OF_8 = ((0, 1, 2, 3), (1, 3), (3,), (0, 1, 2, 3))
-MARKS = (0, 1, 2, 3, 8, 9)
+MARKS = {mark: name for name, mark in PARTITIONS.items()}
 CHROMA_FROM_LUMA, WALSH_HADAMARD = 13, 16
 
 
@@ -54,15 +55,6 @@ class Frame:
     def coded(self):
         """The sides of what is coded."""
         return self.width + 7 & ~7, self.height + 7 & ~7
-
-
-def parts_of(mark, x, y, side):
-    """The parts of a node as column, row, width and height."""
-    half, quarter = side // 2, side // 4
-    if mark == 3:
-        return [(x + dx, y + dy, half, half) for dy in (0, half) for dx in (0, half)]
-    width, height = {0: (side, side), 1: (side, half), 2: (half, side), 8: (side, quarter), 9: (quarter, side)}[mark]
-    return [(at, down, width, height) for down in range(y, y + side, height) for at in range(x, x + side, width)]
 
 
 # ---- levels: what a bitstream has of coefficients, which a lossless frame multiplies by 4
@@ -137,7 +129,7 @@ class Drawing:
 
     def node(self, x, y, side):
         mark = self.draw.choice(self.marks(x, y, side))
-        parts = [it for it in parts_of(mark, x, y, side) if it[0] < self.columns and it[1] < self.rows]
+        parts = [it for it in places(MARKS[mark], x, y, side) if it[0] < self.columns and it[1] < self.rows]
         is_split = mark == 3 and side > 8
         return mark, [self.node(*it[:3]) if is_split else self.leaf(*it) for it in parts]
 

@@ -15,9 +15,9 @@ sys.dont_write_bytecode = True
 import plans
 import record_rows
 import runs
+import tilgwaren
+from tilgwaren.fields import PARTITIONS, TX_SIZES, places
 
-SIZES = ((4, 4), (8, 8), (16, 16), (32, 32), (64, 64), (4, 8), (8, 4), (8, 16), (16, 8), (16, 32), (32, 16), (32, 64), (64, 32), (4, 16), (16, 4), (8, 32),
-         (32, 8), (16, 64), (64, 16))
 SAMPLINGS = ((1, 1), (1, 0), (0, 0))
 FROM_LUMA = 13
 
@@ -114,27 +114,24 @@ class Leaves:
     def node(self, x, y, side):
         tall = self.frame.sampling != 1
         whole = x + side <= self.width and y + side <= self.height
-        quarters = [8, 9][:1 + tall] if self.frame.version > 1 and side > 8 and whole else []
-        mark = self.numbers.one_of([0, 1, 3, 3, *[2] * tall, *quarters])
-        width, height = {0: (side, side), 1: (side, side // 2), 2: (side // 2, side), 3: (side // 2,) * 2, 8: (side, side // 4), 9: (side // 4, side)}[mark]
-        text = bytes([mark])
-        for top in range(y, y + side, height):
-            for left in range(x, x + side, width):
-                if left < self.width and top < self.height:
-                    text += self.node(left, top, width) if mark == 3 and side > 8 else self.leaf(left, top, width, height)
+        quarters = ["HORZ_4", "VERT_4"][:1 + tall] if self.frame.version > 1 and side > 8 and whole else []
+        partition = self.numbers.one_of(["NONE", "HORZ", "SPLIT", "SPLIT", *["VERT"] * tall, *quarters])
+        text = bytes([PARTITIONS[partition]])
+        for left, top, width, height in places(partition, x, y, side):
+            if left < self.width and top < self.height:
+                text += self.node(left, top, width) if partition == "SPLIT" and side > 8 else self.leaf(left, top, width, height)
         return text
 
     def leaf(self, x, y, width, height):
-        hidden = [dec and side == 4 and first % 8 == 0 for dec, side, first in zip(self.frame.halved, (width, height), (x, y))]
-        carried = not any(hidden)
-        size = self.numbers.one_of([n for n, (w, h) in enumerate(SIZES) if w <= width and h <= height])
+        carried = tilgwaren.Leaf(x, y, width, height).carries_chroma(self.frame.halved)
+        size = self.numbers.one_of([n for n, (w, h) in enumerate(TX_SIZES) if w <= width and h <= height])
         chroma = tuple(min(max(side >> dec, 4), 32) for side, dec in zip((width, height), self.frame.halved))
         area = tuple(max(side >> dec, 4) for side, dec in zip((width, height), self.frame.halved))
         first = tuple((place // 4 >> dec) * 4 for place, dec in zip((x, y), self.frame.halved))
         coded = tuple(side >> dec for side, dec in zip((self.width, self.height), self.frame.halved))
-        y_triples = self.triples((x, y), (width, height), SIZES[size], (self.width, self.height))
+        y_triples = self.triples((x, y), (width, height), TX_SIZES[size], (self.width, self.height))
         u, v = (self.triples(first, area, chroma, coded) if carried else () for _ in range(2))
-        return plans.leaf(tx_size=size, tx_type=self.kind(SIZES[size]), uv_type=self.kind(chroma), y=y_triples, u=u, v=v, carried=carried,
+        return plans.leaf(tx_size=size, tx_type=self.kind(TX_SIZES[size]), uv_type=self.kind(chroma), y=y_triples, u=u, v=v, carried=carried,
                           **self.prediction(width, height))
 
     def prediction(self, width, height):
@@ -199,7 +196,7 @@ def sequence(numbers, version):
 def trace(numbers, version):
     """A plan with planes of noise."""
     frame = Frame(numbers, version)
-    return plans.trace(frame.plan(), frame.planes())
+    return tilgwaren.trace(frame.plan(), frame.planes())
 
 
 def broken(numbers, file):
