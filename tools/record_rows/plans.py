@@ -50,25 +50,24 @@ def tiles(parts, width=128, height=8, columns=(64,), rows=(), references=b"", ma
     return header(width, height, magic=magic, **more) + references + bytes(grid)[len(grid.header()):]
 
 
+def entry(refresh, leaves, slots=(0,) * 7):
+    """A frame of a sequence: which slots it replaces, its leaves, and the slots that its references name."""
+    return bytes([0, 0, *slots, refresh]) + part(leaves)
+
+
 def sequence(frames, width=8, height=8, depth=8, sampling=2, count=None):
-    """A sequence of frames: of each which slots it replaces, its leaves, and the slots that its references name."""
     file = b"RSQ1" + struct.pack("<HHBBH", width, height, depth, sampling, len(frames) if count is None else count)
-    for refresh, leaves, *slots in frames:
-        file += bytes([0, 0, *(slots[0] if slots else (0,) * 7), refresh]) + part(leaves)
-    return file
+    return file + b"".join(entry(*it) for it in frames)
 
 
-def shown_sequence(entries, width=8, height=8, depth=8, sampling=2, count=None):
-    """A sequence of the second version: of each entry its kind, and what `sequence` has of a frame, or a slot and which slots then hold its frame too."""
-    file = b"RSQ2" + struct.pack("<HHBBH", width, height, depth, sampling, len(entries) if count is None else count)
-    for kind, *fields in entries:
-        file += bytes([kind, *fields]) if kind == AGAIN else bytes([kind]) + sequence([fields])[FRONT_OF_SEQUENCE:]
-    return file
-
-
-# The kinds of entries, and how many bytes stand before them.
+# The kinds of entries.
 HIDDEN, SHOWN, AGAIN = range(3)
-FRONT_OF_SEQUENCE = 12
+
+
+def shown_sequence(entries, *sides, count=None, **more):
+    """A sequence of the second version: of each entry its kind, and what `entry` has of a frame, or a slot and which slots then hold its frame too."""
+    file = b"RSQ2" + sequence([], *sides, count=len(entries) if count is None else count, **more)[4:]
+    return file + b"".join(bytes([kind]) + (bytes(fields) if kind == AGAIN else entry(*fields)) for kind, *fields in entries)
 
 
 # ---- worked plans

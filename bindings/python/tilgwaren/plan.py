@@ -54,6 +54,14 @@ class Plan:
         """How many bytes the planes have."""
         return (1 if self.depth == 8 else 2) * sum(width * height for width, height in self.dimensions())
 
+    def place(self, sample):
+        """Plane, row and column of a sample, by its number in the planes from 0."""
+        for plane, (width, height) in enumerate(self.dimensions()):
+            if sample < width * height:
+                return plane, *divmod(sample, width)
+            sample -= width * height
+        raise ValueError("the planes have fewer samples")
+
     def marks(self, x, y, side):
         """The partition marks that a node at this place may have."""
         is_inside = x + side <= self.coded_width and y + side <= self.coded_height

@@ -107,7 +107,7 @@ class Comparison:
             self.counts["follow"] += 1
         else:
             first = next((i for i, (a, b) in enumerate(zip(seen, dav1d)) if a != b), None)
-            place = "lengths" if first is None else place_of(frame.true, first if frame.true.depth == 8 else first // 2)
+            place = "lengths" if first is None else frame.true.place(first if frame.true.depth == 8 else first // 2)
             self.differs(frame, "unlisted", f"encoder and decoder differ first at {place}", said)
 
     def differs(self, frame, count, what, said):
@@ -184,15 +184,6 @@ def outcome(folder):
     counts, _, sequence = last.partition(" sequence ")
     words = counts.split()
     return dict(zip(words[::2], map(int, words[1::2]))), sequence
-
-
-def place_of(frame, sample):
-    """Plane, row and column of the sample of that number."""
-    for plane, (width, height) in enumerate(frame.dimensions()):
-        if sample < width * height:
-            return plane, *divmod(sample, width)
-        sample -= width * height
-    raise ValueError("no such sample")
 
 
 def words_of(leaf):
