@@ -209,7 +209,10 @@ def chroma_mode_bytes(chroma):
 
 
 def read_coefficients(reader):
-    return [Coefficient(reader.one("B"), reader.one("H"), reader.one("i")) for _ in range(reader.one("H"))]
+    count = reader.one("H")
+    if reader.at + 7 * count <= reader.end:
+        return list(map(Coefficient._make, struct.iter_unpack("<BHi", *reader.take(f"{7 * count}s"))))
+    return [Coefficient(reader.one("B"), reader.one("H"), reader.one("i")) for _ in range(count)]  # FormatError at the first field that is cut
 
 
 def coefficient_bytes(coefficients):
