@@ -1,6 +1,7 @@
 """Writes a frame as AV1: the headers, and the symbols of its one tile with their contexts."""
-from frames import CHROMA_FROM_LUMA, Leaf
+from frames import DIRECTIONS, Leaf
 from symbols import Symbols
+from tilgwaren.fields import INTRA_MODES, PARTITIONS
 
 # The default scan of a 4x4 transform: places are column * 4 + row.
 SCAN = (0, 4, 1, 2, 5, 8, 12, 9, 6, 3, 7, 10, 13, 14, 11, 15)
@@ -31,7 +32,7 @@ class Bits:
 def sequence_header(frame):
     """The sequence header OBU of one still picture."""
     bits = Bits()
-    profile = 2 if frame.depth == 12 or frame.sampling == 1 else int(frame.sampling == 2)
+    profile = 2 if frame.depth == 12 or frame.sampling == "4:2:2" else int(frame.sampling == "4:4:4")
     bits.put(profile, 3)
     bits.put(0b11, 2)  # still_picture, reduced_still_picture_header
     bits.put(0, 5)
@@ -52,15 +53,15 @@ def color_config(bits, frame, profile):
     if profile == 2 and frame.depth > 8:
         bits.put(int(frame.depth == 12))
     if profile != 1:
-        bits.put(int(frame.is_monochrome()))
+        bits.put(int(frame.is_monochrome))
     bits.put(0, 2)  # color_description_present_flag, color_range
-    if frame.is_monochrome():
+    if frame.is_monochrome:
         return
-    xdec, ydec = frame.decimation()
+    xdec, ydec = frame.halved
     if profile == 2 and frame.depth == 12:
-        bits.put(xdec)
+        bits.put(int(xdec))
         if xdec:
-            bits.put(ydec)
+            bits.put(int(ydec))
     if ydec:
         bits.put(0, 2)  # chroma_sample_position
     bits.put(0)  # separate_uv_delta_q
@@ -73,7 +74,7 @@ def frame_header(frame):
     bits.put(0, 2)  # allow_screen_content_tools, render_and_frame_size_different
     bits.put(1)  # uniform_tile_spacing_flag
     bits.put(0, 8)  # base_q_idx
-    bits.put(0, 1 if frame.is_monochrome() else 3)  # no deltas of quantizers
+    bits.put(0, 1 if frame.is_monochrome else 3)  # no deltas of quantizers
     bits.put(0, 3)  # using_qmatrix, segmentation_enabled, reduced_tx_set
     return bits.data(False)
 
@@ -101,27 +102,24 @@ class Tile:
         return self.cells.get((x // 4, y // 4 - 1)), self.cells.get((x // 4 - 1, y // 4))
 
     def node(self, node, x, y, side):
-        mark, parts = node
-        self.partition(mark, x, y, side)
+        self.partition(PARTITIONS[node.partition], x, y, side)
         half = side // 2
-        for at, part in enumerate(parts):
+        corners = [(x + dx, y + dy) for dy in (0, half) for dx in (0, half) if self.is_coded(x + dx, y + dy)]
+        for at, part in enumerate(node.parts):
             if isinstance(part, Leaf):
                 self.leaf(part)
             else:
-                self.node(part, *self.places(x, y, half)[at], half)
+                self.node(part, *corners[at], half)
 
-    def places(self, x, y, half):
-        """The corners of the parts of a split node that lie in the frame."""
-        columns, rows = self.frame.coded()
-        return [(x + dx, y + dy) for dy in (0, half) for dx in (0, half) if x + dx < columns and y + dy < rows]
+    def is_coded(self, x, y):
+        return x < self.frame.coded_width and y < self.frame.coded_height
 
     def partition(self, mark, x, y, side):
         above, left = self.beside(x, y)
         context = int(above is not None and above.width < side) + 2 * int(left is not None and left.height < side)
         level = side.bit_length() - 4
         frequencies = self.tables.partition[4 * (level - 1) + context] if level else self.tables.partition_8[context]
-        columns, rows = self.frame.coded()
-        has_columns, has_rows = x + side // 2 < columns, y + side // 2 < rows
+        has_columns, has_rows = self.is_coded(x + side // 2, y), self.is_coded(x, y + side // 2)
         if has_columns and has_rows:
             self.put(mark, frequencies)
         elif has_columns or has_rows:
@@ -134,7 +132,7 @@ class Tile:
     def leaf(self, leaf):
         above, left = self.beside(leaf.x, leaf.y)
         self.put(int(leaf.skipped), self.tables.skip[sum(it is not None and it.skipped for it in (above, left))])
-        self.modes(leaf, *(0 if it is None else MODE_CONTEXT[it.mode] for it in (above, left)))
+        self.modes(leaf, *(0 if it is None else MODE_CONTEXT[INTRA_MODES.index(it.mode)] for it in (above, left)))
         for y in range(leaf.y // 4, (leaf.y + leaf.height) // 4):
             for x in range(leaf.x // 4, (leaf.x + leaf.width) // 4):
                 self.cells[x, y] = leaf
@@ -142,17 +140,19 @@ class Tile:
             self.blocks(leaf, plane)
 
     def modes(self, leaf, above, left):
-        has_steps = leaf.width + leaf.height > 12
-        self.put(leaf.mode, self.tables.y_mode[5 * above + left])
-        if has_steps and 1 <= leaf.mode <= 8:
-            self.put(leaf.step + 3, self.tables.angle_step[leaf.mode - 1])
-        if not leaf.has_chroma or self.frame.is_monochrome():
+        number = INTRA_MODES.index(leaf.mode)
+        self.put(number, self.tables.y_mode[5 * above + left])
+        self.step(leaf, leaf)
+        if not leaf.chroma or self.frame.is_monochrome:
             return
-        self.put(leaf.chroma_mode, self.tables.uv_mode[leaf.mode])
-        if leaf.chroma_mode == CHROMA_FROM_LUMA:
-            self.weights(*leaf.weights)
-        if has_steps and 1 <= leaf.chroma_mode <= 8:
-            self.put(leaf.chroma_step + 3, self.tables.angle_step[leaf.chroma_mode - 1])
+        self.put(INTRA_MODES.index(leaf.chroma.mode), self.tables.uv_mode[number])
+        if leaf.chroma.weights:
+            self.weights(*leaf.chroma.weights)
+        self.step(leaf, leaf.chroma)
+
+    def step(self, leaf, plane):
+        if leaf.has_steps() and plane.mode in DIRECTIONS:
+            self.put(plane.angle_step + 3, self.tables.angle_step[DIRECTIONS.index(plane.mode)])
 
     def weights(self, *weights):
         signs = [0 if it == 0 else 1 if it < 0 else 2 for it in weights]
@@ -163,7 +163,7 @@ class Tile:
 
     def blocks(self, leaf, plane):
         """The blocks of a plane in raster order; a skipped leaf only clears their contexts."""
-        xdec, ydec = self.frame.decimation() if plane else (0, 0)
+        xdec, ydec = self.frame.halved if plane else (0, 0)
         x, y = leaf.x // 4 >> xdec, leaf.y // 4 >> ydec
         columns = 1 if plane else leaf.width // 4
         for number, levels in enumerate(leaf.levels[plane]):
@@ -247,7 +247,7 @@ def stream_of(frame, tables):
     """The frame as a stream of OBUs."""
     tile = Tile(tables, frame)
     corners = [(x, y) for y in range(0, frame.height, 64) for x in range(0, frame.width, 64)]
-    for node, (x, y) in zip(frame.nodes, corners):
+    for node, (x, y) in zip(frame.superblocks[0], corners):
         tile.node(node, x, y, 64)
     return (obu(TEMPORAL_DELIMITER, b"") + obu(SEQUENCE_HEADER, sequence_header(frame))
             + obu(FRAME, frame_header(frame) + tile.symbols.data()))

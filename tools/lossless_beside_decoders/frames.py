@@ -2,67 +2,36 @@
 import dataclasses
 import random
 
-from plans import header, leaf
+import tilgwaren
+from tilgwaren import Chroma, Coefficient, Node
+from tilgwaren.fields import INTRA_MODES, PARTITIONS, SAMPLINGS, places
 
 DEPTHS = (8, 10, 12)
-# Samplings by their number in plans; a monochrome frame is said as one of 4:2:0.
-SAMPLINGS = ("4:2:0", "4:2:2", "4:4:4", "4:0:0")
 KINDS = ("few", "coded", "far", "farther", "any")
-# Marks of nodes of 8 whose leaves have chroma of 4x4, by sampling, and of larger nodes of monochrome frames.
+# Marks of nodes of 8 whose leaves have chroma of 4x4, by sampling, the last of monochrome frames; and the partition of each mark.
 MARKS_OF_8 = ((0, 1, 2, 3), (1, 3), (3,), (0, 1, 2, 3))
-MARKS = (0, 1, 2, 3, 8, 9)
-CHROMA_FROM_LUMA, WALSH_HADAMARD = 13, 16
+MARKS = {mark: name for name, mark in PARTITIONS.items()}
+DIRECTIONS = INTRA_MODES[1:9]
 
 
 @dataclasses.dataclass
-class Leaf:
-    """A leaf at column x and row y. `levels` has the quantized coefficients of each plane, for each of its 4x4 blocks in
-    raster order, column by column; None for a block outside what is coded."""
-    x: int
-    y: int
-    width: int
-    height: int
-    has_chroma: bool
-    mode: int = 0
-    step: int = 0
-    chroma_mode: int = 0
-    chroma_step: int = 0
-    weights: tuple = (0, 0)
+class Leaf(tilgwaren.Leaf):
+    """A leaf. `levels` has the quantized coefficients of each plane, for each of its 4x4 blocks in raster order, column by
+    column; None for a block outside what is coded."""
     skipped: bool = False
     levels: tuple = ()
 
+    def has_steps(self):
+        """Whether directions have steps: they have in leaves from 8x8 on."""
+        return self.width + self.height > 12
+
 
 @dataclasses.dataclass
-class Frame:
-    """A frame and the nodes of its superblocks: a node is a mark and its parts, which are nodes or leaves."""
-    seed: int
-    width: int
-    height: int
-    depth: int
-    sampling: int
-    kind: str
-    edge_filter: int
-    nodes: list
-
-    def is_monochrome(self):
-        return self.sampling == 3
-
-    def decimation(self):
-        """By how many bits columns and rows of chroma are fewer, as a plan says the frame."""
-        return int(self.sampling != 2), int(self.sampling in (0, 3))
-
-    def coded(self):
-        """The sides of what is coded."""
-        return self.width + 7 & ~7, self.height + 7 & ~7
-
-
-def parts_of(mark, x, y, side):
-    """The parts of a node as column, row, width and height."""
-    half, quarter = side // 2, side // 4
-    if mark == 3:
-        return [(x + dx, y + dy, half, half) for dy in (0, half) for dx in (0, half)]
-    width, height = {0: (side, side), 1: (side, half), 2: (half, side), 8: (side, quarter), 9: (quarter, side)}[mark]
-    return [(at, down, width, height) for down in range(y, y + side, height) for at in range(x, x + side, width)]
+class Frame(tilgwaren.Plan):
+    """A frame. A monochrome one is a plan in 4:2:0."""
+    seed: int = 0
+    kind: str = "any"
+    is_monochrome: bool = False
 
 
 # ---- levels: what a bitstream has of coefficients, which a lossless frame multiplies by 4
@@ -118,49 +87,54 @@ class Drawing:
 
     def __init__(self, seed, most):
         self.draw = random.Random(f"lossless {seed}")
-        sampling = seed // 3 % 4
+        self.sampling = seed // 3 % 4
         width, height = (self.draw.randint(1, self.draw.choice((min(8, most), most))) for _ in range(2))
-        self.frame = Frame(seed, width, height, DEPTHS[seed % 3], sampling, KINDS[seed // 12 % 5], self.draw.randrange(2), [])
-        self.columns, self.rows = self.frame.coded()
-        self.frame.nodes = [self.node(x, y, 64) for y in range(0, height, 64) for x in range(0, width, 64)]
+        self.frame = Frame(width, height, DEPTHS[seed % 3], SAMPLINGS[self.sampling % 3], edge_filter=self.draw.randrange(2), seed=seed,
+                           kind=KINDS[seed // 12 % 5], is_monochrome=self.sampling == 3)
+        self.frame.superblocks = [[self.node(x, y, 64) for y in range(0, height, 64) for x in range(0, width, 64)]]
+
+    def is_coded(self, x, y):
+        return x < self.frame.coded_width and y < self.frame.coded_height
 
     def marks(self, x, y, side):
         """The marks that a bitstream can code for a node, and whose leaves plans can say as lossless ones."""
-        marks = set(MARKS if self.frame.is_monochrome() and side > 8 else MARKS_OF_8[self.frame.sampling] if side == 8 else (3,))
-        if x + side > self.columns or y + side > self.rows:
-            marks -= {8, 9}
-        if y + side // 2 >= self.rows:
+        marks = set(MARKS if self.frame.is_monochrome and side > 8 else MARKS_OF_8[self.sampling] if side == 8 else (3,))
+        marks &= set(self.frame.marks(x, y, side))
+        if y + side // 2 >= self.frame.coded_height:
             marks &= {1, 3}
-        if x + side // 2 >= self.columns:
+        if x + side // 2 >= self.frame.coded_width:
             marks &= {2, 3}
         return sorted(marks)
 
     def node(self, x, y, side):
-        mark = self.draw.choice(self.marks(x, y, side))
-        parts = [it for it in parts_of(mark, x, y, side) if it[0] < self.columns and it[1] < self.rows]
-        is_split = mark == 3 and side > 8
-        return mark, [self.node(*it[:3]) if is_split else self.leaf(*it) for it in parts]
+        partition = MARKS[self.draw.choice(self.marks(x, y, side))]
+        parts = [it for it in places(partition, x, y, side) if self.is_coded(*it[:2])]
+        is_split = partition == "SPLIT" and side > 8
+        return Node(partition, [self.node(*it[:3]) if is_split else self.leaf(*it) for it in parts])
 
-    def leaf(self, x, y, width, height):
-        draw, (xdec, ydec) = self.draw, self.frame.decimation()
-        has_chroma = not (xdec and width == 4 and x // 4 % 2 == 0 or ydec and height == 4 and y // 4 % 2 == 0)
-        it = Leaf(x, y, width, height, has_chroma, mode=draw.choice((0, draw.randrange(13))), skipped=draw.random() < 0.1)
-        it.step = self.step(it, it.mode)
-        if has_chroma and not self.frame.is_monochrome():
-            it.chroma_mode = draw.choice((0, draw.randrange(14), CHROMA_FROM_LUMA))
-            it.chroma_step = self.step(it, it.chroma_mode)
-            it.weights = draw.choice(((draw.randint(-16, 16), draw.randint(1, 16)), (draw.randint(1, 16), 0), (-16, 16)))
-        has_levels = has_chroma and not self.frame.is_monochrome()
+    def leaf(self, *place):
+        draw = self.draw
+        it = Leaf(*place, INTRA_MODES[draw.choice((0, draw.randrange(13)))], tx_type="WHT_WHT", skipped=draw.random() < 0.1)
+        it.angle_step = self.step(it, it.mode)
+        has_levels = it.carries_chroma(self.frame.halved) and not self.frame.is_monochrome
+        if has_levels:
+            it.chroma = Chroma("WHT_WHT", INTRA_MODES[draw.choice((0, draw.randrange(14), 13))])
+            it.chroma.angle_step = self.step(it, it.chroma.mode)
+            weights = draw.choice(((draw.randint(-16, 16), draw.randint(1, 16)), (draw.randint(1, 16), 0), (-16, 16)))
+            it.chroma.weights = weights if it.chroma.mode == "CFL" else None
+        elif it.carries_chroma(self.frame.halved):
+            it.chroma = Chroma(mode="DC")
         it.levels = (self.luma(it), *((self.block(it),) if has_levels else () for _ in range(2)))
+        for coefficients, blocks in zip(it.coefficient_lists(), it.levels):
+            coefficients += coefficients_of(blocks, self.frame.depth)
         return it
 
     def step(self, leaf, mode):
-        """The angle step: directions have one in leaves from 8x8 on."""
-        return self.draw.randint(-3, 3) if 1 <= mode <= 8 and leaf.width + leaf.height > 12 else 0
+        return self.draw.randint(-3, 3) if mode in DIRECTIONS and leaf.has_steps() else 0
 
     def luma(self, leaf):
         places = [(x, y) for y in range(leaf.y, leaf.y + leaf.height, 4) for x in range(leaf.x, leaf.x + leaf.width, 4)]
-        return [self.block(leaf) if x < self.columns and y < self.rows else None for x, y in places]
+        return [self.block(leaf) if self.is_coded(*it) else None for it in places]
 
     def block(self, leaf):
         if leaf.skipped or self.draw.random() < 0.2:
@@ -168,31 +142,8 @@ class Drawing:
         return draw_levels(self.draw, self.frame.depth, self.frame.kind)
 
 
-# ---- plans
-
-
-def triples(blocks, depth):
-    """The coefficients of blocks, as decoders clip them."""
+def coefficients_of(blocks, depth):
+    """The coefficients of blocks of levels, as decoders clip them."""
     most = 1 << depth + 7
-    return [(number, place, max(-most, min(most - 1, 4 * level)))
+    return [Coefficient(number, place, max(-most, min(most - 1, 4 * level)))
             for number, levels in enumerate(blocks) for place, level in enumerate(levels or ()) if level]
-
-
-def leaf_text(frame, it):
-    y, u, v = (triples(blocks, frame.depth) for blocks in it.levels)
-    types = {"tx_type": WALSH_HADAMARD, "uv_type": 0 if frame.is_monochrome() else WALSH_HADAMARD}
-    weights = it.weights if it.chroma_mode == CHROMA_FROM_LUMA else None
-    return leaf(it.mode, it.step, (it.chroma_mode, it.chroma_step), weights, y=y, u=u, v=v, carried=it.has_chroma, **types)
-
-
-def node_text(frame, node):
-    if isinstance(node, Leaf):
-        return leaf_text(frame, node)
-    mark, parts = node
-    return bytes([mark]) + b"".join(node_text(frame, it) for it in parts)
-
-
-def plan_of(frame):
-    """The frame as a plan of version 3."""
-    front = header(frame.width, frame.height, frame.depth, frame.sampling % 3, edge_filter=frame.edge_filter, magic=b"RPL3")
-    return front + b"".join(node_text(frame, it) for it in frame.nodes)

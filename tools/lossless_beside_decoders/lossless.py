@@ -39,7 +39,7 @@ import tempfile
 
 sys.dont_write_bytecode = True
 REPOSITORY = pathlib.Path(__file__).resolve().parent.parent.parent
-sys.path += [str(REPOSITORY / "tools/record_rows"), str(REPOSITORY / "integrations/rav1e")]
+sys.path += [str(REPOSITORY / it) for it in ("tools/record_rows", "integrations/rav1e", "bindings/python")]
 import bits
 import frames
 import symbols
@@ -78,7 +78,7 @@ def outputs(frame, stream, plan, program, folder):
     file.write_bytes(stream)
     made = {name: answer((*words, str(file))) for name, words in decoders().items()}
     made["program"] = answer((program,), plan)
-    if frame.is_monochrome():
+    if frame.is_monochrome:
         size = frame.width * frame.height * (1 if frame.depth == 8 else 2)
         made = {name: planes[:size] for name, planes in made.items()}
     return made
@@ -88,20 +88,15 @@ def first_difference(frame, wanted, given):
     """The first sample that differs, in words."""
     if len(wanted) != len(given):
         return f"{len(given)} bytes, {len(wanted)} by {REFERENCE}"
-    each = 1 if frame.depth == 8 else 2
-    at = next(at for at in range(0, len(wanted), each) if wanted[at:at + each] != given[at:at + each])
-    values = [int.from_bytes(it[at:at + each], "little") for it in (wanted, given)]
-    xdec, ydec = frame.decimation()
-    place, width, plane = at // each, frame.width, "Y"
-    if place >= frame.width * frame.height:
-        width, height = frame.width + xdec >> xdec, frame.height + ydec >> ydec
-        plane, place = divmod(place - frame.width * frame.height, width * height)
-        plane = "UV"[plane]
-    return f"{plane} row {place // width} column {place % width}: {values[1]}, {values[0]} by {REFERENCE}"
+    size = 1 if frame.depth == 8 else 2
+    at = next(at for at in range(0, len(wanted), size) if wanted[at:at + size] != given[at:at + size])
+    values = [int.from_bytes(it[at:at + size], "little") for it in (wanted, given)]
+    plane, row, column = frame.place(at // size)
+    return f"{'YUV'[plane]} row {row} column {column}: {values[1]}, {values[0]} by {REFERENCE}"
 
 
 def name_of(frame):
-    return f"seed {frame.seed} ({frame.width}x{frame.height}, {frame.depth} bits, {frames.SAMPLINGS[frame.sampling]}, {frame.kind})"
+    return f"seed {frame.seed} ({frame.width}x{frame.height}, {frame.depth} bits, {'4:0:0' if frame.is_monochrome else frame.sampling}, {frame.kind})"
 
 
 def row_of(plan, planes):
@@ -122,14 +117,14 @@ class Comparison:
         frame = frames.Drawing(seed, self.arguments.most).frame
         if frame.depth not in self.arguments.depths:
             return
-        stream, plan = bits.stream_of(frame, self.tables), frames.plan_of(frame)
+        stream, plan = bits.stream_of(frame, self.tables), bytes(frame)
         made = outputs(frame, stream, plan, self.arguments.program, folder)
         wanted = made[REFERENCE]
         differing = [name for name, planes in made.items() if planes != wanted]
         for name in differing:
             print(f"{name_of(frame)}: {name}: {first_difference(frame, wanted, made[name])}", flush=True)
         self.note(frame, differing, stream, plan)
-        if self.arguments.rows and not frame.is_monochrome():
+        if self.arguments.rows and not frame.is_monochrome:
             self.rows.append(row_of(plan, wanted))
 
     def note(self, frame, differing, stream, plan):

@@ -13,16 +13,14 @@ import sys
 
 HERE = pathlib.Path(__file__).resolve().parent
 sys.dont_write_bytecode = True
-sys.path += [str(HERE), str(HERE.parent.parent / "integrations/rav1e")]
+sys.path += [str(HERE), str(HERE.parent.parent / "bindings/python")]
 import runs
-from parts.plans import FILTERS, TYPES, Plan
+from tilgwaren import Plan
 
-SHARP, LOSSLESS = FILTERS.index("sharp"), TYPES.index("WHT_WHT")
 LARGE = 1 << 14
 # The lines that stand first, in this order; the others are sorted.
 LINES = ("rows", "width or height not a multiple of 8", "hidden frames", "slots shown again",
          "lossless frames with a coefficient of 2^14 or more at depth 10 or 12", "inter leaves with a dimension of 4", "of these with the sharp filter")
-UNSHARED = "not shared"
 FRONT_OF_SEQUENCE, FRONT_OF_TRACE, FRONT_OF_FRAME = 12, 8, 10
 HIDDEN, SHOWN, AGAIN = range(3)
 
@@ -39,10 +37,10 @@ class Row(runs.Run):
         """The plans and grids of version 3 in the input; `entries` then counts a sequence's kinds of entries."""
         start = self.data[:4]
         if start == b"RPL3" or start == b"RTL2":
-            yield Plan(self.data)
+            yield Plan.read(self.data)
         elif start == b"RTR1" and self.data[FRONT_OF_TRACE:FRONT_OF_TRACE + 4] == b"RPL3":
             length, = struct.unpack_from("<I", self.data, 4)
-            yield Plan(self.data[FRONT_OF_TRACE:FRONT_OF_TRACE + length])
+            yield Plan.read(self.data[FRONT_OF_TRACE:FRONT_OF_TRACE + length])
         elif start == b"RSQ2":
             yield from self.frames()
 
@@ -56,38 +54,33 @@ class Row(runs.Run):
             if kind != AGAIN:
                 head, length = self.data[at:at + FRONT_OF_FRAME], struct.unpack_from("<I", self.data, at + FRONT_OF_FRAME)[0]
                 at += FRONT_OF_FRAME + 4 + length
-                yield Plan(b"RPL3" + self.data[4:10] + head[:9] + b"\0" + self.data[at - length:at])
+                yield Plan.read(b"RPL3" + self.data[4:10] + head[:9] + b"\0" + self.data[at - length:at])
 
 
 def leaves_of(plan):
     """How many leaves of each kind a plan has."""
-    counts, cells = collections.Counter(), {}
-    for leaf in plan.leaves():
-        for y in range(leaf.y // 4, (leaf.y + leaf.h) // 4):
-            cells.update(((x, y), leaf) for x in range(leaf.x // 4, (leaf.x + leaf.w) // 4))
-        if leaf.references and min(leaf.w, leaf.h) == 4:
+    counts = collections.Counter()
+    for group in plan.chroma_groups():
+        for leaf in (leaf for leaf in group if leaf.vectors and min(leaf.width, leaf.height) == 4):
             counts["inter leaves with a dimension of 4"] += 1
-            counts["of these with the sharp filter"] += plan.filter == SHARP
-            counts[shared(plan, leaf, cells)] += 1
+            counts["of these with the sharp filter"] += plan.filter == "sharp"
+        if len(group) > 1 and group[-1].vectors:
+            counts[shared(plan, group)] += 1
     return counts
 
 
-def shared(plan, leaf, cells):
-    """How the chroma is predicted that an inter leaf with a dimension of 4 carries for others too."""
-    narrow, low = plan.xdec and leaf.w == 4, plan.ydec and leaf.h == 4
-    if leaf.chroma_type is None or not (narrow or low):
-        return UNSHARED
-    sharing = [cells[leaf.x // 4 - dx, leaf.y // 4 - dy] for dx in range(narrow + 1) for dy in range(low + 1)]
-    if not all(it.references for it in sharing):
+def shared(plan, group):
+    """How the chroma is predicted that leaves share, of which the last has references."""
+    if not all(leaf.vectors for leaf in group):
         return "shared chroma predicted as a whole, because one leaf is intra"
-    return f"chroma shared in parts: {leaf.w}x{leaf.h} of {'4:2:0' if plan.ydec else '4:2:2'}"
+    return f"chroma shared in parts: {group[-1].width}x{group[-1].height} of {plan.sampling}"
 
 
 def is_large(plan):
     """Whether a frame is lossless throughout, of more than 8 bits, and has a very large coefficient."""
     leaves = list(plan.leaves())
-    lossless = plan.depth > 8 and all(leaf.type == LOSSLESS for leaf in leaves)
-    return lossless and any(abs(value) >= LARGE for leaf in leaves for block in leaf.coefficients for _, _, value in block)
+    lossless = plan.depth > 8 and all(leaf.tx_type == "WHT_WHT" for leaf in leaves)
+    return lossless and any(abs(value) >= LARGE for leaf in leaves for block in leaf.coefficient_lists() for _, _, value in block)
 
 
 def count(rows):
@@ -124,7 +117,7 @@ def rows_of(path):
 def table(groups):
     """The table's lines."""
     counts = [count(group) for group in groups]
-    for name in (*LINES, *sorted(set().union(*(total for total, _ in counts)) - set(LINES) - {UNSHARED})):
+    for name in (*LINES, *sorted(set().union(*(total for total, _ in counts)) - set(LINES))):
         cells = (f"{total[name]:,} in {having[name]}" if having[name] else f"{total[name]:,}" for total, having in counts)
         yield f"| {name} | {' | '.join(cells)} |"
 

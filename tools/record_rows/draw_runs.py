@@ -15,10 +15,9 @@ sys.dont_write_bytecode = True
 import plans
 import record_rows
 import runs
+import tilgwaren
+from tilgwaren.fields import FILTERS, PARTITIONS, SAMPLINGS, TX_SIZES, places
 
-SIZES = ((4, 4), (8, 8), (16, 16), (32, 32), (64, 64), (4, 8), (8, 4), (8, 16), (16, 8), (16, 32), (32, 16), (32, 64), (64, 32), (4, 16), (16, 4), (8, 32),
-         (32, 8), (16, 64), (64, 16))
-SAMPLINGS = ((1, 1), (1, 0), (0, 0))
 FROM_LUMA = 13
 
 
@@ -46,31 +45,20 @@ class Numbers:
         return them[self.below(len(them))]
 
 
-class Frame:
-    """What is drawn of a frame before its leaves; `empty` says that no slot carries planes."""
+class Frame(tilgwaren.Plan):
+    """What is drawn of a frame before its leaves; `carried` has the slots that carry planes, and `empty` says that none does."""
 
     def __init__(self, numbers, version, empty=False, most=40):
         step = 1 if version == 3 else 8
-        self.numbers, self.version = numbers, version
-        self.width, self.height = (step * (1 + numbers.below(most // step)) for _ in range(2))
-        self.depth, self.sampling = numbers.one_of((8, 10, 12)), numbers.below(3)
-        self.filter, self.edge_filter = numbers.below(4), numbers.below(2)
-        self.slots = tuple(numbers.below(3) for _ in range(7))
-        self.mask = 0 if empty else sum(1 << slot for slot in set(self.slots) if numbers.one_in(2))
-        self.halved = SAMPLINGS[self.sampling]
-
-    def head(self, magic):
-        return plans.header(self.width, self.height, self.depth, self.sampling, self.filter, self.edge_filter, self.slots, self.mask, magic)
-
-    def sides(self):
-        """The sides of the planes."""
-        small = tuple(side + dec >> dec for side, dec in zip((self.width, self.height), self.halved))
-        return (self.width, self.height), small, small
+        width, height = (step * (1 + numbers.below(most // step)) for _ in range(2))
+        super().__init__(width, height, numbers.one_of((8, 10, 12)), numbers.one_of(SAMPLINGS), numbers.one_of(FILTERS), numbers.below(2),
+                         tuple(numbers.below(3) for _ in range(7)), version)
+        self.numbers, self.carried = numbers, [] if empty else [slot for slot in sorted(set(self.slots)) if numbers.one_in(2)]
 
     def planes(self):
         """Planes of slopes and noise."""
         out = bytearray()
-        for width, height in self.sides():
+        for width, height in self.dimensions():
             across, down, grain = self.numbers.below(40), self.numbers.below(40), self.numbers.one_of((1, 8, 1 << self.depth))
             for y in range(height):
                 for x in range(width):
@@ -78,26 +66,24 @@ class Frame:
                     out += value.to_bytes(1 if self.depth == 8 else 2, "little")
         return bytes(out)
 
-    def references(self):
-        return b"".join(self.planes() for slot in range(8) if self.mask >> slot & 1)
-
-    def leaves(self, width=None, height=None):
+    def drawn_leaves(self, width=None, height=None):
         """The leaves of the frame, or of a tile of these sides."""
         return Leaves(self, width or self.width, height or self.height).all()
 
     def plan(self):
-        magic = b"RPL%d" % self.version
-        return self.head(magic) + self.references() + self.leaves()
+        self.references = {slot: self.planes() for slot in self.carried}
+        self.superblocks = [[self.drawn_leaves()]]
+        return bytes(self)
 
     def grid(self):
         """A grid of tiles over a frame that is made wider or higher, or of one tile."""
-        columns, rows = ((64,) * self.numbers.below(2) for _ in range(2))
-        self.width, self.height = self.width + sum(columns), self.height + sum(rows)
-        ends = (*columns, self.width), (*rows, self.height)
+        self.columns, self.rows = ((64,) * self.numbers.below(2) for _ in range(2))
+        self.width, self.height = self.width + sum(self.columns), self.height + sum(self.rows)
+        ends = (*self.columns, self.width), (*self.rows, self.height)
         spans = [[last - first for first, last in zip((0, *it), it)] for it in ends]
-        parts = [self.leaves(width, height) for height in spans[1] for width in spans[0]]
-        return plans.tiles(parts, self.width, self.height, columns, rows, self.references(), b"RTL%d" % (self.version - 1), depth=self.depth,
-                           sampling=self.sampling, filter=self.filter, edge_filter=self.edge_filter, slots=self.slots, mask=self.mask)
+        self.superblocks = [[self.drawn_leaves(width, height)] for height in spans[1] for width in spans[0]]
+        self.references = {slot: self.planes() for slot in self.carried}
+        return bytes(self)
 
 
 class Leaves:
@@ -106,35 +92,32 @@ class Leaves:
     def __init__(self, frame, width, height):
         self.frame, self.numbers = frame, frame.numbers
         self.width, self.height = ((side + 7) // 8 * 8 for side in (width, height))
-        self.references = [number for number, slot in enumerate(frame.slots, 1) if frame.mask >> slot & 1]
+        self.references = [number for number, slot in enumerate(frame.slots, 1) if slot in frame.carried]
 
     def all(self):
         return b"".join(self.node(x, y, 64) for y in range(0, self.height, 64) for x in range(0, self.width, 64))
 
     def node(self, x, y, side):
-        tall = self.frame.sampling != 1
+        tall = self.frame.sampling != "4:2:2"
         whole = x + side <= self.width and y + side <= self.height
-        quarters = [8, 9][:1 + tall] if self.frame.version > 1 and side > 8 and whole else []
-        mark = self.numbers.one_of([0, 1, 3, 3, *[2] * tall, *quarters])
-        width, height = {0: (side, side), 1: (side, side // 2), 2: (side // 2, side), 3: (side // 2,) * 2, 8: (side, side // 4), 9: (side // 4, side)}[mark]
-        text = bytes([mark])
-        for top in range(y, y + side, height):
-            for left in range(x, x + side, width):
-                if left < self.width and top < self.height:
-                    text += self.node(left, top, width) if mark == 3 and side > 8 else self.leaf(left, top, width, height)
+        quarters = ["HORZ_4", "VERT_4"][:1 + tall] if self.frame.version > 1 and side > 8 and whole else []
+        partition = self.numbers.one_of(["NONE", "HORZ", "SPLIT", "SPLIT", *["VERT"] * tall, *quarters])
+        text = bytes([PARTITIONS[partition]])
+        for left, top, width, height in places(partition, x, y, side):
+            if left < self.width and top < self.height:
+                text += self.node(left, top, width) if partition == "SPLIT" and side > 8 else self.leaf(left, top, width, height)
         return text
 
     def leaf(self, x, y, width, height):
-        hidden = [dec and side == 4 and first % 8 == 0 for dec, side, first in zip(self.frame.halved, (width, height), (x, y))]
-        carried = not any(hidden)
-        size = self.numbers.one_of([n for n, (w, h) in enumerate(SIZES) if w <= width and h <= height])
+        carried = tilgwaren.Leaf(x, y, width, height).carries_chroma(self.frame.halved)
+        size = self.numbers.one_of([n for n, (w, h) in enumerate(TX_SIZES) if w <= width and h <= height])
         chroma = tuple(min(max(side >> dec, 4), 32) for side, dec in zip((width, height), self.frame.halved))
         area = tuple(max(side >> dec, 4) for side, dec in zip((width, height), self.frame.halved))
         first = tuple((place // 4 >> dec) * 4 for place, dec in zip((x, y), self.frame.halved))
         coded = tuple(side >> dec for side, dec in zip((self.width, self.height), self.frame.halved))
-        y_triples = self.triples((x, y), (width, height), SIZES[size], (self.width, self.height))
+        y_triples = self.triples((x, y), (width, height), TX_SIZES[size], (self.width, self.height))
         u, v = (self.triples(first, area, chroma, coded) if carried else () for _ in range(2))
-        return plans.leaf(tx_size=size, tx_type=self.kind(SIZES[size]), uv_type=self.kind(chroma), y=y_triples, u=u, v=v, carried=carried,
+        return plans.leaf(tx_size=size, tx_type=self.kind(TX_SIZES[size]), uv_type=self.kind(chroma), y=y_triples, u=u, v=v, carried=carried,
                           **self.prediction(width, height))
 
     def prediction(self, width, height):
@@ -176,30 +159,29 @@ def sequence(numbers, version):
     filled, entries = 0, []
     for _ in range(1 + numbers.below(4)):
         frame = Frame(numbers, version)
-        frame.width, frame.height, frame.depth, frame.sampling, frame.halved = (
-            first.width, first.height, first.depth, first.sampling, first.halved)
-        frame.mask = sum(1 << slot for slot in set(frame.slots)) & filled
+        frame.width, frame.height, frame.depth, frame.sampling = first.width, first.height, first.depth, first.sampling
+        frame.carried = [slot for slot in frame.slots if filled >> slot & 1]
         refresh = numbers.below(256)
         filled |= refresh
         entries.append((numbers.below(2), frame, refresh))
         if version == 3 and numbers.one_in(3):
             slot = numbers.one_of([slot for slot in range(8) if filled >> slot & 1] or [0])
             entries.append((plans.AGAIN, slot, 0))
-    text = (b"RSQ2" if version == 3 else b"RSQ1") + first.head(b"RPL1")[4:10] + len(entries).to_bytes(2, "little")
+    text = (b"RSQ2" if version == 3 else b"RSQ1") + first.header()[4:10] + len(entries).to_bytes(2, "little")
     for kind, *fields in entries:
         text += bytes([kind]) if version == 3 else b""
         if kind == plans.AGAIN and version == 3:
             text += bytes(fields)
             continue
         frame, refresh = fields
-        text += bytes([frame.filter, frame.edge_filter, *frame.slots, refresh]) + plans.part(frame.leaves())
+        text += frame.header()[10:19] + bytes([refresh]) + plans.part(frame.drawn_leaves())
     return text
 
 
 def trace(numbers, version):
     """A plan with planes of noise."""
     frame = Frame(numbers, version)
-    return plans.trace(frame.plan(), frame.planes())
+    return tilgwaren.trace(frame.plan(), frame.planes())
 
 
 def broken(numbers, file):

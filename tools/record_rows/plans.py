@@ -2,29 +2,26 @@
 
 docs/PLAN_FORMAT.md has the fields of plans, docs/COMMANDS.md names the files of tools.
 """
+import pathlib
 import struct
+import sys
+
+sys.path.append(str(pathlib.Path(__file__).resolve().parent.parent.parent / "bindings/python"))
+from tilgwaren import Chroma, Leaf, Plan
+from tilgwaren.fields import FILTERS, MODES, REFERENCES, SAMPLINGS, TX_SIZES, TX_TYPES
 
 
 def header(width=8, height=8, depth=8, sampling=2, filter=0, edge_filter=0, slots=(0,) * 7, mask=0, magic=b"RPL1"):
-    return magic + struct.pack("<HHBBBB", width, height, depth, sampling, filter, edge_filter) + bytes(slots) + bytes([mask])
+    """A header by the numbers of its fields, with any magic and any mask."""
+    return magic + Plan(width, height, depth, SAMPLINGS[sampling], FILTERS[filter], edge_filter, slots).header()[4:-1] + bytes([mask])
 
 
-def triples(*them):
-    """A list of coefficients: block, place and value of each."""
-    return struct.pack("<H", len(them)) + b"".join(struct.pack("<BHi", *it) for it in them)
-
-
-def leaf(mode=0, step=0, chroma=(0, 0), weights=None, tx_size=0, tx_type=0, uv_type=0, y=(), u=(), v=(), carried=True, vectors=None):
-    """A leaf: with `vectors` from references (reference, row, column of each), without `carried` without chroma."""
-    fields = bytes([mode])
-    if vectors is not None:
-        fields += b"".join(struct.pack("<Bhh", *it) for it in vectors)
-    else:
-        fields += struct.pack("<b", step)
-        if carried:
-            fields += struct.pack("<Bbb", 13, *weights) if weights else struct.pack("<Bb", *chroma)
-    fields += bytes([tx_size, tx_type]) + (bytes([uv_type]) if carried else b"") + triples(*y)
-    return fields + (triples(*u) + triples(*v) if carried else b"")
+def leaf(mode=0, step=0, chroma=(0, 0), weights=None, tx_size=0, tx_type=0, uv_type=0, y=(), u=(), v=(), carried=True, vectors=()):
+    """A leaf by the numbers of its fields: with `vectors` from references (reference, row, column of each), without `carried` without chroma."""
+    chroma_mode, chroma_step = ("CFL", 0) if weights else (MODES[chroma[0]], chroma[1])
+    carries = Chroma(TX_TYPES[uv_type], chroma_mode, chroma_step, weights, u, v) if carried else None
+    moved = [(REFERENCES[number - 1], row, column) for number, row, column in vectors]
+    return bytes(Leaf(0, 0, 0, 0, MODES[mode], step, moved, TX_SIZES[tx_size], TX_TYPES[tx_type], y, carries))
 
 
 def changed(data, *changes):
@@ -49,35 +46,28 @@ def part(data):
 
 def tiles(parts, width=128, height=8, columns=(64,), rows=(), references=b"", magic=b"RTL1", **more):
     """A grid of tiles, whose columns and rows begin at 0 and at these."""
-    file = header(width, height, magic=magic, **more) + references
-    for starts in (columns, rows):
-        file += bytes([len(starts) + 1]) + struct.pack(f"<{len(starts)}H", *starts)
-    return file + b"".join(part(it) for it in parts)
+    grid = Plan(width, height, superblocks=[[part] for part in parts], columns=columns, rows=rows)
+    return header(width, height, magic=magic, **more) + references + bytes(grid)[len(grid.header()):]
 
 
-def trace(plan, given, length=None):
-    return b"RTR1" + struct.pack("<I", len(plan) if length is None else length) + plan + given
+def entry(refresh, leaves, slots=(0,) * 7):
+    """A frame of a sequence: which slots it replaces, its leaves, and the slots that its references name."""
+    return bytes([0, 0, *slots, refresh]) + part(leaves)
 
 
 def sequence(frames, width=8, height=8, depth=8, sampling=2, count=None):
-    """A sequence of frames: of each which slots it replaces, its leaves, and the slots that its references name."""
     file = b"RSQ1" + struct.pack("<HHBBH", width, height, depth, sampling, len(frames) if count is None else count)
-    for refresh, leaves, *slots in frames:
-        file += bytes([0, 0, *(slots[0] if slots else (0,) * 7), refresh]) + part(leaves)
-    return file
+    return file + b"".join(entry(*it) for it in frames)
 
 
-def shown_sequence(entries, width=8, height=8, depth=8, sampling=2, count=None):
-    """A sequence of the second version: of each entry its kind, and what `sequence` has of a frame, or a slot and which slots then hold its frame too."""
-    file = b"RSQ2" + struct.pack("<HHBBH", width, height, depth, sampling, len(entries) if count is None else count)
-    for kind, *fields in entries:
-        file += bytes([kind, *fields]) if kind == AGAIN else bytes([kind]) + sequence([fields])[FRONT_OF_SEQUENCE:]
-    return file
-
-
-# The kinds of entries, and how many bytes stand before them.
+# The kinds of entries.
 HIDDEN, SHOWN, AGAIN = range(3)
-FRONT_OF_SEQUENCE = 12
+
+
+def shown_sequence(entries, *sides, count=None, **more):
+    """A sequence of the second version: of each entry its kind, and what `entry` has of a frame, or a slot and which slots then hold its frame too."""
+    file = b"RSQ2" + sequence([], *sides, count=len(entries) if count is None else count, **more)[4:]
+    return file + b"".join(bytes([kind]) + (bytes(fields) if kind == AGAIN else entry(*fields)) for kind, *fields in entries)
 
 
 # ---- worked plans
@@ -140,9 +130,8 @@ def parts(vectors, mark=3, sides=(4, 4)):
     leaves that share chroma the last one carries it."""
     node = b"\3\3\3" + bytes([mark])
     for at, vector in enumerate(vectors):
-        them = None if vector is None else [(1, *vector)] if len(vector) == 2 else [(1, *vector[:2]), (1, *vector[2:])]
-        mode = 0 if vector is None else 19 if len(them) == 1 else 33
-        node += leaf(mode=mode, vectors=them, carried=at + 1 == len(vectors), tx_size={(4, 4): 0, (4, 8): 5, (8, 4): 6}[sides])
+        them = [] if vector is None else [(1, *vector)] if len(vector) == 2 else [(1, *vector[:2]), (1, *vector[2:])]
+        node += leaf(mode=(0, 19, 33)[len(them)], vectors=them, carried=at + 1 == len(vectors), tx_size={(4, 4): 0, (4, 8): 5, (8, 4): 6}[sides])
     return node
 
 

@@ -1,8 +1,9 @@
 """Runs of the tools: grids of tiles, traces, sequences, plans without their coefficients."""
 from departure_rows import BACK, RISING
 from plans import (AGAIN, APART, DIRECTIONAL, DOWN_TO_4, FLAT, FROM_LUMA_420, HALVED, HIDDEN, MOVED, NINE_BY_NINE, ONE_HALF, ONE_SAMPLE, PLAIN, PLAN,
-                   QUARTERS, SHOWN, SINGLE, changed, header, leaf, moved, of_two, parts, planes, sequence, shown_sequence, tiles, trace)
+                   QUARTERS, SHOWN, SINGLE, changed, header, leaf, moved, of_two, parts, planes, sequence, shown_sequence, tiles)
 from runs import NEVER, TOOLS, reads_of
+from tilgwaren import trace
 
 # A leaf of 64x64 from above, one by DC, one from the left, and one from the first slot.
 FROM_ABOVE, BY_DC, FROM_LEFT = (b"\0" + leaf(mode=mode, tx_size=4) for mode in (1, 0, 2))
@@ -94,7 +95,7 @@ def worked_traces(add):
     ten = header(depth=10, sampling=0) + b"\0" + leaf(tx_size=4)
     cases = [
         SAME, OTHER, several, changed(SAME, (91 + 15, 1), (91 + 21, 2), (91 + 24, 3)), SAME[:-1], SAME + b"\0", trace(PLAN, b""), SAME[:90],
-        trace(PLAN, PLANES_OF_PLAN, 2**26 + 1), trace(PLAN, PLANES_OF_PLAN, 2**26), b"RTL1" + SAME[4:], b"", trace(PLAN[:-1], PLANES_OF_PLAN[:5]),
+        changed(SAME, (4, 1), (7, 4)), changed(SAME, (4, 0), (7, 4)), b"RTL1" + SAME[4:], b"", trace(PLAN[:-1], PLANES_OF_PLAN[:5]),
         trace(b"", b""), trace(worse, PLANES_OF_PLAN), trace(PLAN, bytes([9]) * 192), trace(HALVED, planes(128, count=96)),
         trace(quarter, planes(128) + b"\1" + planes(128, count=31)), trace(ten, b"\0\2" * 95 + b"\xff\xff"), trace(ten, b"\0\2" * 95 + b"\0"),
         trace(changed(HALVED, (8, 10)), b"\xff" * 192), trace(DIRECTIONAL, bytes(384)), trace(FROM_LUMA_420, planes(127, count=96))]

@@ -42,6 +42,35 @@ class Plans(unittest.TestCase):
             self.assertEqual(bytes(plan), data)
             self.assertEqual(bytes(tilgwaren.Plan.from_json(plan.to_json())), data)
 
+    def test_a_header_in_each_version(self):
+        for version, magic in ((1, b"RPL1"), (2, b"RPL2"), (3, b"RPL3")):
+            plan = tilgwaren.Plan(16, 8, 10, "4:2:2", "sharp", True, (0, 1, 2, 3, 4, 5, 6), version, {1: b"", 7: b""})
+            self.assertEqual(plan.header(), magic + bytes([16, 0, 8, 0, 10, 1, 2, 1, 0, 1, 2, 3, 4, 5, 6, 0b10000010]))
+        self.assertEqual(tilgwaren.Plan.read(GRID).header(), GRID[:20])
+
+    def test_parts_nodes_and_chroma_groups(self):
+        plan = tilgwaren.Plan.read(WORKED)
+        self.assertEqual(plan.parts(), [WORKED[20:]])
+        self.assertEqual([len(part) for part in tilgwaren.Plan.read(GRID).parts()], [14, 14])
+        self.assertEqual([(node.partition, len(node.parts)) for node in plan.nodes()], [("SPLIT", 1)] * 3 + [("SPLIT", 4)])
+        self.assertEqual(list(plan.chroma_groups()), [[leaf] for leaf in plan.leaves()])
+        self.assertEqual([len(leaf.coefficient_lists()) for leaf in plan.leaves()], [3] * 4)
+        # In 4:2:0 the last of the four leaves has the chroma of all.
+        shared = tilgwaren.Plan.read(WORKED[:9] + bytes([0]) + WORKED[10:24] + 3 * bytes([0, 0, 0, 0, 0, 0]) + WORKED[70:])
+        self.assertEqual([[(leaf.x, leaf.y) for leaf in group] for group in shared.chroma_groups()], [[(0, 0), (4, 0), (0, 4), (4, 4)]])
+        self.assertEqual([len(leaf.coefficient_lists()) for leaf in shared.leaves()], [1, 1, 1, 3])
+
+    def test_places_of_samples(self):
+        plan = tilgwaren.Plan(5, 3)
+        self.assertEqual([plan.place(sample) for sample in (0, 14, 15, 20, 21, 26)],
+                         [(0, 0, 0), (0, 2, 4), (1, 0, 0), (1, 1, 2), (2, 0, 0), (2, 1, 2)])
+        self.assertRaises(ValueError, plan.place, 27)
+
+    def test_planes_are_cut_and_padded(self):
+        planes = tilgwaren.Planes.read(bytes([1, 2, 3, 4, 5, 6]), [(2, 1), (1, 2), (2, 1)], 8)
+        self.assertEqual(bytes(planes.resized([(3, 2), (1, 1), (1, 2)])), bytes([1, 2, 2, 1, 2, 2, 3, 5, 5]))
+        self.assertEqual(planes.resized([(2, 1), (1, 2), (2, 1)]), planes)
+
     def test_a_cut_plan_is_malformed_at_the_cut_field(self):
         for length, at in ((0, 0), (5, 4), (19, 19), (23, 23), (33, 33), (35, 34), (82, 81)):
             with self.assertRaises(tilgwaren.FormatError) as caught:

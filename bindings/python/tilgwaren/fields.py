@@ -112,6 +112,10 @@ class Leaf:
         down = halved[1] and self.height == 4 and self.y // 4 % 2 == 0
         return not (across or down)
 
+    def coefficient_lists(self):
+        """The coefficients of Y, and if the leaf carries chroma, those of U and of V."""
+        return [self.coefficients, self.chroma.u, self.chroma.v] if self.chroma else [self.coefficients]
+
     @classmethod
     def read(cls, reader, place, halved):
         leaf = cls(*place)
@@ -142,8 +146,7 @@ class Leaf:
         out += bytes([TX_SIZES.index(tuple(self.tx_size)), TX_TYPES.index(self.tx_type)])
         if self.chroma:
             out += bytes([TX_TYPES.index(self.chroma.tx_type)])
-        out += coefficient_bytes(self.coefficients)
-        return out + (coefficient_bytes(self.chroma.u) + coefficient_bytes(self.chroma.v) if self.chroma else b"")
+        return out + b"".join(map(coefficient_bytes, self.coefficient_lists()))
 
 
 @dataclasses.dataclass
@@ -152,12 +155,16 @@ class Node:
     partition: str
     parts: list
 
-    def leaves(self):
+    def nodes(self):
+        """The node, and all nodes in it."""
+        yield self
         for part in self.parts:
-            if isinstance(part, Leaf):
-                yield part
-            else:
-                yield from part.leaves()
+            if isinstance(part, Node):
+                yield from part.nodes()
+
+    def leaves(self):
+        """The leaves in the node, in coding order."""
+        return (part for node in self.nodes() for part in node.parts if isinstance(part, Leaf))
 
     @classmethod
     def read(cls, reader, x, y, side, frame):
@@ -202,7 +209,10 @@ def chroma_mode_bytes(chroma):
 
 
 def read_coefficients(reader):
-    return [Coefficient(reader.one("B"), reader.one("H"), reader.one("i")) for _ in range(reader.one("H"))]
+    count = reader.one("H")
+    if reader.at + 7 * count <= reader.end:
+        return list(map(Coefficient._make, struct.iter_unpack("<BHi", *reader.take(f"{7 * count}s"))))
+    return [Coefficient(reader.one("B"), reader.one("H"), reader.one("i")) for _ in range(count)]  # FormatError at the first field that is cut
 
 
 def coefficient_bytes(coefficients):

@@ -54,16 +54,37 @@ class Plan:
         """How many bytes the planes have."""
         return (1 if self.depth == 8 else 2) * sum(width * height for width, height in self.dimensions())
 
+    def place(self, sample):
+        """Plane, row and column of a sample, by its number in the planes from 0."""
+        for plane, (width, height) in enumerate(self.dimensions()):
+            if sample < width * height:
+                return plane, *divmod(sample, width)
+            sample -= width * height
+        raise ValueError("the planes have fewer samples")
+
     def marks(self, x, y, side):
         """The partition marks that a node at this place may have."""
         is_inside = x + side <= self.coded_width and y + side <= self.coded_height
         return range(4) if side == 8 or self.version == 1 or not is_inside else (*range(4), 8, 9)
 
+    def nodes(self):
+        """The nodes in coding order, tile by tile; each comes before its parts."""
+        for superblocks in self.superblocks:
+            for node in superblocks:
+                yield from node.nodes()
+
     def leaves(self):
         """The leaves in coding order, tile by tile."""
-        for nodes in self.superblocks:
-            for node in nodes:
-                yield from node.leaves()
+        return (part for node in self.nodes() for part in node.parts if isinstance(part, Leaf))
+
+    def chroma_groups(self):
+        """The leaves in lists: each list has the leaves that share a chroma block, and its last leaf carries the block."""
+        group = []
+        for leaf in self.leaves():
+            group.append(leaf)
+            if leaf.chroma:
+                yield group
+                group = []
 
     def rectangles(self):
         """The rectangle of each tile in coded luma samples, row by row: its first column and row, and where it ends."""
@@ -106,18 +127,23 @@ class Plan:
         return [Node.read(reader, x, y, SUPERBLOCK, frame)
                 for y in range(top, bottom, SUPERBLOCK) for x in range(left, right, SUPERBLOCK)]
 
+    def header(self):
+        """The bytes before the references: from the magic to the mask."""
+        magic = b"RTL%d" % (self.version - 1) if self.is_grid else b"RPL%d" % self.version
+        return magic + struct.pack("<HHBBBB7sB", self.width, self.height, self.depth, SAMPLINGS.index(self.sampling),
+                                   FILTERS.index(self.filter), self.edge_filter, bytes(self.slots), sum(1 << slot for slot in self.references))
+
+    def parts(self):
+        """The bytes of each tile's marks and leaves."""
+        return [b"".join(map(bytes, nodes)) for nodes in self.superblocks]
+
     def __bytes__(self):
-        out = bytearray(b"RTL%d" % (self.version - 1) if self.is_grid else b"RPL%d" % self.version)
-        out += struct.pack("<HHBBBB", self.width, self.height, self.depth, SAMPLINGS.index(self.sampling),
-                           FILTERS.index(self.filter), self.edge_filter)
-        out += bytes(self.slots) + bytes([sum(1 << slot for slot in self.references)])
-        out += b"".join(bytes(self.references[slot]) for slot in sorted(self.references))
-        parts = [b"".join(map(bytes, nodes)) for nodes in self.superblocks]
+        out = self.header() + b"".join(bytes(self.references[slot]) for slot in sorted(self.references))
         if not self.is_grid:
-            return bytes(out) + parts[0]
+            return out + self.parts()[0]
         for starts in (self.columns, self.rows):
             out += struct.pack(f"<B{len(starts)}H", len(starts) + 1, *starts)
-        return bytes(out) + b"".join(struct.pack("<I", len(part)) + part for part in parts)
+        return out + b"".join(struct.pack("<I", len(part)) + part for part in self.parts())
 
     def to_json(self, **options):
         """The plan as JSON, by the field's names; samples of references are in base64. `options` go to json.dumps."""

@@ -29,9 +29,20 @@ class Planes:
             planes.append(rows)
         return cls(*planes, depth)
 
+    def __iter__(self):
+        return iter((self.y, self.u, self.v))
+
+    def resized(self, dimensions):
+        """A copy with these widths and heights: it is cut on the right and below, or repeats the last column and row."""
+        planes = []
+        for plane, (width, height) in zip(self, dimensions):
+            rows = (plane[min(row, len(plane) - 1)] for row in range(height))
+            planes.append([row[:width] + row[-1:] * (width - len(row)) for row in rows])
+        return Planes(*planes, self.depth)
+
     def __bytes__(self):
         out = bytearray()
-        for row in (row for plane in (self.y, self.u, self.v) for row in plane):
+        for row in (row for plane in self for row in plane):
             swapped = array.array(row.typecode, row)
             if sys.byteorder == "big":
                 swapped.byteswap()
@@ -39,4 +50,4 @@ class Planes:
         return bytes(out)
 
     def __eq__(self, other):
-        return isinstance(other, Planes) and (self.y, self.u, self.v, self.depth) == (other.y, other.u, other.v, other.depth)
+        return isinstance(other, Planes) and (*self, self.depth) == (*other, other.depth)

@@ -67,15 +67,17 @@ def unpack(source, changes):
     edits.apply(source, changes, FILES)
 
 
-def build(archive, as_drawn=False):
-    """The folder with tools/dav1d and tests/checkasm, which are built unless the same was built before."""
+def build(archive, as_drawn=False, sanitize="none"):
+    """The folder with tools/dav1d and tests/checkasm, which are built unless the same was built before. `sanitize` is what
+    meson's option b_sanitize takes: dav1d and library.c then report errors, but not the archive, which `rt` compiled."""
     if not os.path.isfile(archive):
         sys.exit(f"missing: {archive}, which bindings/build.sh builds")
     for name, package in NEEDS.items():
         if not shutil.which(name):
             sys.exit(f"{name} is missing: apt-get install --no-install-recommends {package}")
     archive, changes = os.path.abspath(archive), EDITS + ([] if as_drawn else DRAWS)
-    source = os.path.join(OUT, "as_drawn" if as_drawn else "av1", f"dav1d-{VERSION}")
+    kind = "as_drawn" if as_drawn else "av1"
+    source = os.path.join(OUT, kind if sanitize == "none" else f"{kind}_{sanitize}", f"dav1d-{VERSION}")
     folder, stamp = os.path.join(source, "build"), os.path.join(source, "built-of")
     made = digest([*FILES, os.path.join(BINDINGS, "c/tilgwaren.h"), archive], repr(changes))
     if os.path.isfile(stamp) and open(stamp, encoding="utf-8").read() == made:
@@ -83,7 +85,7 @@ def build(archive, as_drawn=False):
     os.makedirs(decoder.OUT, exist_ok=True)
     unpack(source, changes)
     print(f"building dav1d {VERSION} on {archive}: about two minutes", file=sys.stderr, flush=True)
-    words = ["-Dbuildtype=release", "-Dtrim_dsp=false", f"-Dc_args=-I{BINDINGS}/c", f"-Dc_link_args={archive}"]
+    words = ["-Dbuildtype=release", "-Dtrim_dsp=false", f"-Db_sanitize={sanitize}", f"-Dc_args=-I{BINDINGS}/c", f"-Dc_link_args={archive}"]
     error = (packages.run(["meson", "setup", *words, "build"], "meson", cwd=source) or
              packages.run(["ninja", "-C", "build", "-j", os.environ.get("JOBS", "1"), "tools/dav1d", "tests/checkasm"],
                           "ninja", cwd=source))
@@ -94,5 +96,6 @@ def build(archive, as_drawn=False):
     return folder
 
 
-def add_archive(parser):
+def add_options(parser):
     parser.add_argument("--archive", default=os.path.join(BINDINGS, "out/libtilgwaren.a"), help="libtilgwaren.a; else that of bindings/out")
+    parser.add_argument("--sanitize", default="none", choices=("address,undefined", "thread"), help="build dav1d with gcc's sanitizers")

@@ -1,8 +1,11 @@
 """Compares a recorded folder frame by frame, and reduces a difference to its first leaf."""
+import dataclasses
 import os
-import struct
 import subprocess
 
+from tilgwaren import Planes, trace
+
+from .departures import departure
 from .recording import Again, Coded, events, read
 
 # What a frame can be, in the order in which `compared.txt` counts them.
@@ -75,16 +78,16 @@ class Comparison:
 
     def frame(self, frame):
         self.counts["frames"] += 1
-        self.counts["tiled"] += frame.plan.tiles
-        made = self.reconstructed(frame.plan, frame.plan.data)
+        self.counts["tiled"] += frame.plan.is_grid
+        made = self.reconstructed(frame.data)
         if made.returncode:
             self.tell(frame.number, "refused: " + made.stderr.decode().strip())
             self.counts["refused"] += 1
         elif made.stdout != frame.planes:
-            self.differs(frame, "program", "program and encoder differ", self.first_leaf(frame, frame.plan.data, frame.planes))
+            self.differs(frame, "program", "program and encoder differ", self.first_leaf(frame, frame.data, frame.planes))
             self.apart = True
         self.planes.append(made.stdout)
-        seen = frame.plan.cropped(frame.filtered or frame.planes, frame.true)
+        seen = frame.cropped(frame.filtered or frame.planes)
         dav1d = self.next_of_dav1d(len(seen))
         if frame.shown and self.next_of_aomdec(len(seen)) != dav1d:
             self.tell(frame.number, "dav1d and aomdec differ")
@@ -98,22 +101,20 @@ class Comparison:
 
     def explain(self, frame, seen, dav1d):
         """The decoder's planes are no encoder's: why, on the decoder's references."""
-        held = {s: frame.plan.padded(self.slots[s][1], frame.true) for s in range(8) if frame.plan.mask >> s & 1}
-        plan = frame.plan.with_references(held)
-        given = self.decoders_planes(frame, dav1d, plan)
-        said = self.first_leaf(frame, plan, given)
+        plan = bytes(dataclasses.replace(frame.plan, references={slot: frame.padded(self.slots[slot][1]) for slot in frame.plan.references}))
+        said = self.first_leaf(frame, plan, self.decoders_planes(frame, dav1d, plan))
         if said == "same":
             self.counts["follow"] += 1
         else:
             first = next((i for i, (a, b) in enumerate(zip(seen, dav1d)) if a != b), None)
-            place = "lengths" if first is None else frame.true.place(first // frame.true.each)
+            place = "lengths" if first is None else frame.true.place(first if frame.true.depth == 8 else first // 2)
             self.differs(frame, "unlisted", f"encoder and decoder differ first at {place}", said)
 
     def differs(self, frame, count, what, said):
         """Counts a difference whose first leaf was named: a listed departure, or one of `count`."""
-        departure = self.leaf and frame.plan.departure(self.leaf)
-        if departure:
-            what, count = f"listed, {departure}: {what}", "listed"
+        listed = self.leaf and departure(frame.plan, self.leaf)
+        if listed:
+            what, count = f"listed, {listed}: {what}", "listed"
         self.tell(frame.number, f"{what}: {said}")
         self.counts[count] += 1
 
@@ -121,27 +122,30 @@ class Comparison:
         """The decoder's planes; past the true sides, which a decoder doesn't write, those of the program."""
         if frame.whole():
             return dav1d
-        made = self.reconstructed(frame.plan, plan).stdout
-        return overlaid(frame.plan, made, frame.true, dav1d) if made else frame.plan.padded(dav1d, frame.true)
+        made = self.reconstructed(plan).stdout
+        planes = Planes.read(made, frame.plan.dimensions(), frame.plan.depth) if made else frame.padded(dav1d)
+        for plane, decoded in zip(planes, Planes.read(dav1d, frame.true.dimensions(), frame.plan.depth)):
+            for row, decoded_row in zip(plane, decoded):
+                row[:len(decoded_row)] = decoded_row
+        return bytes(planes)
 
-    def reconstructed(self, plan, data):
+    def reconstructed(self, data):
         """What the program makes of the bytes of a plan, or the tool `tiles` of those of a grid."""
-        return subprocess.run([self.tools, "tiles"] if plan.tiles else [self.program], input=data, capture_output=True)
+        return subprocess.run([self.tools, "tiles"] if data.startswith(b"RTL") else [self.program], input=data, capture_output=True)
 
     def first_leaf(self, frame, plan, planes):
         """What the tool `trace` says first of a plan and given planes, with the leaf's own words; the leaf is kept in `leaf`.
         A grid has no trace: of it only whether the planes are the same is said."""
         self.leaf = None
-        if frame.plan.tiles:
-            return "same" if self.reconstructed(frame.plan, plan).stdout == planes else "in a grid"
-        trace = b"RTR1" + struct.pack("<I", len(plan)) + plan + planes
-        said = subprocess.run([self.tools, "trace"], input=trace, capture_output=True)
+        if frame.plan.is_grid:
+            return "same" if self.reconstructed(plan).stdout == planes else "in a grid"
+        said = subprocess.run([self.tools, "trace"], input=trace(plan, planes), capture_output=True)
         lines = (said.stdout or said.stderr).decode().splitlines() or ["nothing"]
         words = lines[0].split()
         if words[0] != "leaf":
             return lines[0]
         self.leaf = list(frame.plan.leaves())[int(words[1])]
-        return f"{lines[0]} ({self.leaf}, filter {frame.plan.filter})"
+        return f"{lines[0]} ({words_of(self.leaf)}, filter {frame.plan.filter})"
 
     def compare_sequence(self, last):
         """A sequence is to be what dav1d shows; if `last`, the last frame, has a plan before version 3, what the program made
@@ -182,14 +186,8 @@ def outcome(folder):
     return dict(zip(words[::2], map(int, words[1::2]))), sequence
 
 
-def overlaid(large, planes, small, given):
-    """The planes of the frame `large`, with `given` of the smaller frame `small` laid over their upper left."""
-    out, at, taken = bytearray(planes), 0, 0
-    for (w, h), (sw, sh) in zip(large.sides(), small.sides()):
-        for y in range(sh):
-            row = sw * large.each
-            first = at + y * w * large.each
-            out[first:first + row] = given[taken:taken + row]
-            taken += row
-        at += w * h * large.each
-    return bytes(out)
+def words_of(leaf):
+    """A leaf without its coefficients and its chroma."""
+    vectors = "".join(f" of {name} by row {row} column {column}" for name, row, column in leaf.vectors)
+    step = f" {leaf.angle_step:+d}" if leaf.angle_step else ""
+    return f"{leaf.width}x{leaf.height} at column {leaf.x} row {leaf.y}, {leaf.mode}{step}{vectors}, {'x'.join(map(str, leaf.tx_size))} {leaf.tx_type}"

@@ -2,7 +2,7 @@
 import os
 import struct
 
-from .plans import Frame, Plan
+from tilgwaren import Plan, Planes
 
 
 class Coded:
@@ -13,14 +13,14 @@ class Coded:
         self.shown, self.refresh = told["shown"], told["refresh"]
         self.quantizer = told["quantizer"]
         if os.path.exists(os.path.join(folder, f"{number:04}.grid")):
-            self.plan = Plan(read(folder, f"{number:04}.grid"))
-            self.planes = read(folder, f"{number:04}.planes")
+            self.data, self.planes = (read(folder, f"{number:04}.{kind}") for kind in ("grid", "planes"))
         else:
             trace = read(folder, f"{number:04}.trace")
-            length, = struct.unpack_from("<I", trace, 4)
-            self.plan = Plan(trace[8:8 + length])
-            self.planes = trace[8 + length:]
-        self.true = Frame(told["width"], told["height"], self.plan.depth, self.plan.sampling)
+            end = 8 + int.from_bytes(trace[4:8], "little")
+            self.data, self.planes = trace[8:end], trace[end:]
+        self.plan = Plan.read(self.data)
+        # The frame without what is coded past its true sides.
+        self.true = Plan(told["width"], told["height"], self.plan.depth, self.plan.sampling)
         self.monochrome = told["monochrome"]
         self.filtered = None
         if os.path.exists(os.path.join(folder, f"{number:04}.filtered")):
@@ -28,14 +28,23 @@ class Coded:
 
     def whole(self):
         """Whether the frame's true sides are those of its plan."""
-        return (self.true.width, self.true.height) == (self.plan.width, self.plan.height)
+        return self.true.dimensions() == self.plan.dimensions()
+
+    def cropped(self, planes):
+        """The samples within the true sides of the plan's planes."""
+        return bytes(Planes.read(planes, self.plan.dimensions(), self.plan.depth).resized(self.true.dimensions()))
+
+    def padded(self, planes):
+        """The plan's planes of those within the true sides, whose last columns and rows are repeated."""
+        return Planes.read(planes, self.true.dimensions(), self.plan.depth).resized(self.plan.dimensions())
 
     def with_chroma(self, frames):
         """The frames as decoders write them; if the encoder has no chroma, with the grey chroma of its plans behind each."""
         if not self.monochrome:
             return frames
-        luma = self.true.width * self.true.height * self.true.each
-        grey = (1 << self.true.depth - 1).to_bytes(self.true.each, "little") * ((self.true.size() - luma) // self.true.each)
+        wide = 1 if self.true.depth == 8 else 2
+        luma = self.true.width * self.true.height * wide
+        grey = (1 << self.true.depth - 1).to_bytes(wide, "little") * ((self.true.planes_length() - luma) // wide)
         return b"".join(frames[at:at + luma] + grey for at in range(0, len(frames), luma))
 
 
@@ -70,25 +79,18 @@ def write_sequence(folder):
     before it the coded frames, of which each is shown.  Frames of several tiles stand in no sequence."""
     done = list(events(folder))
     coded = [event for event in done if isinstance(event, Coded)]
-    if any(frame.plan.tiles for frame in coded):
+    if any(frame.plan.is_grid for frame in coded):
         return
-    plan = coded[0].plan
-    entries = done if plan.version == 3 else coded
-    text = [b"RSQ2" if plan.version == 3 else b"RSQ1"]
-    text.append(struct.pack("<HHBBH", plan.width, plan.height, plan.depth, plan.sampling, len(entries)))
+    is_third = coded[0].plan.version == 3
+    entries = done if is_third else coded
+    text = [b"RSQ2" if is_third else b"RSQ1", coded[0].data[4:10], struct.pack("<H", len(entries))]
     for entry in entries:
         if isinstance(entry, Again):
             text.append(bytes([AGAIN, entry.slot, 0]))
             continue
-        if plan.version == 3:
+        if is_third:
             text.append(bytes([SHOWN if entry.shown else HIDDEN]))
-        text += frame_text(entry)
+        part, = entry.plan.parts()
+        text += entry.data[10:19], struct.pack("<BI", entry.refresh, len(part)), part
     with open(os.path.join(folder, "sequence"), "wb") as file:
         file.write(b"".join(text))
-
-
-def frame_text(frame):
-    """A frame's head and part, as they stand in a sequence."""
-    part = frame.plan.data[frame.plan.head:]
-    head = bytes([frame.plan.filter, frame.plan.edge_filter]) + frame.plan.slots + bytes([frame.refresh])
-    return head, struct.pack("<I", len(part)), part
