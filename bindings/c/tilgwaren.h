@@ -48,7 +48,7 @@ extern "C" {
 
 /* The version of this header. As long as major is 0, a header works only with libraries of its own minor version. */
 #define TILG_VERSION_MAJOR 0
-#define TILG_VERSION_MINOR 3
+#define TILG_VERSION_MINOR 4
 #define TILG_VERSION_PATCH 0
 #define TILG_VERSION (TILG_VERSION_MAJOR * 65536u + TILG_VERSION_MINOR * 256u + TILG_VERSION_PATCH)
 

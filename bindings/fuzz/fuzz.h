@@ -14,7 +14,7 @@
 #include <sys/mman.h>
 
 #define CHECK(e) do { if (!(e)) { fprintf(stderr, "%s:%d: %s\n", __FILE__, __LINE__, #e); abort(); } } while (0)
-#define OR(status) | 1ull << AV1_##status
+#define OR(status) | 1ull << TILG_##status
 #define UNUSED __attribute__((unused))
 
 enum { PAGE = 4096, SLOT = 128 * PAGE, ZONE = PAGE, SLOTS = 8, KEPT = 0xC3 };
