@@ -1,7 +1,10 @@
-/* What a codec knows in another form than the calls of tilgwaren.h take it: sides, angles, ends of blocks. These
- * functions are C, and are not proved.
+/* For codecs: the numbers that the calls of tilgwaren.h take, from a width and a height, from an angle, and from an end
+ * of block. These functions are C. They are tested, not proved.
  *
- * If a size or a mode does not exist, they return a number that every call rejects. */
+ *     block.tx_size = tilg_tx_size_of(16, 8);
+ *     size_t len = tilg_coefficients_len(block.tx_size, tx_type, eob);
+ *
+ * If there is no such size or mode, a function returns a number that every call rejects. */
 #ifndef TILGWAREN_CODEC_H
 #define TILGWAREN_CODEC_H
 
@@ -11,19 +14,19 @@
 extern "C" {
 #endif
 
-/* ---- sizes from sides */
+/* ---- sizes from a width and a height, in samples */
 
-/* No size has this number: a call that is given it returns TILG_BAD_SIZE. */
+/* No size has this number: a call with it returns TILG_BAD_SIZE. */
 #define TILG_NO_SIZE 255
 
-/* log2(side / 4) of a side of 4 to 128 samples; 6 for other sides. */
+/* log2(side / 4) if that is a whole number below 6, else 6. */
 static inline int tilg_side_number(size_t side) {
     int number = 0;
     while (number < 6 && side != (size_t)4 << number) number++;
     return number;
 }
 
-/* The tilg_tx_size with these sides, in samples, or TILG_NO_SIZE. */
+/* The tilg_tx_size of this width and height, or TILG_NO_SIZE. */
 static inline uint8_t tilg_tx_size_of(size_t width, size_t height) {
     static const uint8_t sizes[5][5] = {
         {TILG_TX_4X4, TILG_TX_4X8, TILG_TX_4X16, TILG_NO_SIZE, TILG_NO_SIZE},
@@ -36,7 +39,7 @@ static inline uint8_t tilg_tx_size_of(size_t width, size_t height) {
     return w < 5 && h < 5 ? sizes[w][h] : (uint8_t)TILG_NO_SIZE;
 }
 
-/* The tilg_block_size with these sides, in samples, or TILG_NO_SIZE. A tilg_cfl_block has the sides of its chroma. */
+/* The tilg_block_size of this width and height, or TILG_NO_SIZE. For a tilg_cfl_block, these are of its chroma. */
 static inline uint8_t tilg_block_size_of(size_t width, size_t height) {
     static const uint8_t sizes[6][6] = {
         {TILG_BLOCK_4X4, TILG_BLOCK_4X8, TILG_BLOCK_4X16, TILG_NO_SIZE, TILG_NO_SIZE, TILG_NO_SIZE},
@@ -71,7 +74,8 @@ static inline int tilg_angle_of(tilg_turned_mode turned) {
     return tilg_mode_angle(turned.mode) + 3 * turned.angle_step;
 }
 
-/* The mode and the steps with this angle. If no mode has it, the steps are 127: a call then returns TILG_BAD_ANGLE. */
+/* The mode and the steps with this angle, in degrees. If no mode turns to it, the steps are 127: a call with them returns
+ * TILG_BAD_ANGLE. */
 static inline tilg_turned_mode tilg_mode_of_angle(int angle) {
     tilg_turned_mode turned = {TILG_V_PRED, 127};
     for (uint8_t mode = TILG_V_PRED; mode <= TILG_D67_PRED; mode++) {
@@ -85,9 +89,9 @@ static inline tilg_turned_mode tilg_mode_of_angle(int angle) {
 
 /* ---- coefficients from an end of block */
 
-/* How many elements of a list of coefficients there are up to the last one among the first `eob` in the scan order of
- * the AV1 specification ("get scan function"): a `coefficients_len` of tilg_inverse_transform_add_8 that leaves out
- * only zeros. `eob` counts coefficients, so it is 1 if there is no other than the first. */
+/* The `coefficients_len` that tilg_inverse_transform_add_8 needs for the first `eob` coefficients in the order of the AV1
+ * specification's "get scan function". The library's list has another order: up to its last nonzero one it can be longer
+ * than `eob`. An `eob` of 1 is the first coefficient alone. */
 static inline size_t tilg_coefficients_len(uint8_t tx_size, uint8_t tx_type, size_t eob) {
     /* log2 of the columns and rows that have coefficients */
     static const uint8_t columns[19] = {2, 3, 4, 5, 5, 2, 3, 3, 4, 4, 5, 5, 5, 2, 4, 3, 5, 4, 5};
@@ -100,7 +104,7 @@ static inline size_t tilg_coefficients_len(uint8_t tx_size, uint8_t tx_type, siz
     /* row by row: the last column ends after the rows that are complete */
     if (tx_type == TILG_V_DCT || tx_type == TILG_V_ADST || tx_type == TILG_V_FLIPADST)
         return eob < w ? (eob - 1) * h + 1 : (w - 1) * h + (eob >> columns[tx_size]);
-    /* by diagonals: from the first column to the last one that a diagonal has, it has coefficient (diagonal - c) of column c */
+    /* by diagonals: in each column from `first` to `last`, a diagonal has the row (diagonal - column) */
     size_t diagonal = 0, first = 0, last = 0, left = eob - 1, before = 0;
     while (left > last - first) {
         before = last * h + diagonal - last + 1;
@@ -109,7 +113,7 @@ static inline size_t tilg_coefficients_len(uint8_t tx_size, uint8_t tx_type, siz
         first = diagonal < h ? 0 : diagonal - h + 1;
         last = diagonal < w ? diagonal : w - 1;
     }
-    /* from the last column to the first, and else from the first to the last: a square takes turns */
+    /* a diagonal goes from its last column to its first in a high block, and the other way in a wide one; a square takes turns */
     const size_t column = w < h || (w == h && diagonal % 2) ? last : first + left, len = column * h + diagonal - column + 1;
     return len > before ? len : before;
 }

@@ -183,7 +183,7 @@ typedef struct {
     size_t stride, x, y, width, height;
 } area;
 
-/* Where a rectangle lies, or nearly. */
+/* The place of a rectangle in rows of some stride, now and then outside of them. */
 static area UNUSED some_area(size_t width, size_t height) {
     area a = {.width = width, .height = height};
     a.stride = one_in(24) ? near(width + 1) : width + near(40);
@@ -192,7 +192,7 @@ static area UNUSED some_area(size_t width, size_t height) {
     return a;
 }
 
-/* A buffer of so many numbers, or nearly. */
+/* A buffer of `whole` numbers, or nearly. */
 static numbers UNUSED lay_nearly(__uint128_t whole, size_t bytes_each) {
     size_t count = whole > SLOT ? below(SLOT) : whole;
     if (one_in(8)) count += below(64);
