@@ -91,7 +91,7 @@ static inline tilg_turned_mode tilg_mode_of_angle(int angle) {
 
 /* The `coefficients_len` that tilg_inverse_transform_add_8 needs for the first `eob` coefficients in the order of the AV1
  * specification's "get scan function". The library's list has another order: up to its last nonzero one it can be longer
- * than `eob`. An `eob` of 1 is the first coefficient alone. */
+ * than `eob`. An `eob` of 1 is only the first coefficient. */
 static inline size_t tilg_coefficients_len(uint8_t tx_size, uint8_t tx_type, size_t eob) {
     /* log2 of the columns and rows that have coefficients */
     static const uint8_t columns[19] = {2, 3, 4, 5, 5, 2, 3, 3, 4, 4, 5, 5, 5, 2, 4, 3, 5, 4, 5};
