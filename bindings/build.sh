@@ -113,7 +113,7 @@ as_the_program() {
         "$work/example" "$work/made" >"$work/planes" && cmp "$work/planes" "$work/expected"
 }
 
-programs="calls parts starved transform_block motion_block luma intra regions build_plan"
+programs="calls parts starved transform_block motion_block luma intra codec regions build_plan"
 memcheck="valgrind -q --error-exitcode=1 --leak-check=full --show-leak-kinds=all"
 
 try "the library, by LLVM" ./archive.sh out
@@ -121,8 +121,10 @@ try "the library, by Rattle's own compiler" ./archive.sh out/rattle --backend ra
 try "header and crate declare what the archive contains" ./declared.py --check
 try "the header, as C99" gcc -std=c99 -pedantic -Wall -Wextra -Werror -fsyntax-only c/tilgwaren.h
 try "the header, as C++" g++ -x c++ -pedantic -Wall -Wextra -Werror -fsyntax-only c/tilgwaren.h
-try "the header of regions, as C99" gcc -std=c99 -pedantic -Wall -Wextra -Werror -fsyntax-only c/tilgwaren_regions.h
-try "the header of regions, as C++" g++ -x c++ -pedantic -Wall -Wextra -Werror -fsyntax-only c/tilgwaren_regions.h
+for other in regions codec; do
+    try "the header tilgwaren_$other.h, as C99" gcc -std=c99 -pedantic -Wall -Wextra -Werror -fsyntax-only c/tilgwaren_$other.h
+    try "the header tilgwaren_$other.h, as C++" g++ -x c++ -pedantic -Wall -Wextra -Werror -fsyntax-only c/tilgwaren_$other.h
+done
 try "the header, asserted in C by gcc" asserted gcc -std=c11
 try "the header, asserted in C by clang" asserted clang -std=c11
 try "the header, asserted in C++" asserted g++ -std=c++11 -x c++

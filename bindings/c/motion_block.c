@@ -106,9 +106,10 @@ static void averaged_blocks(void) {
 /* Of a reference of ALL samples: the call, and why it is refused. */
 static const struct { size_t room, dst_stride, dst_x, dst_y, src_len, src_stride, src_x, src_y; tilg_motion_block block; uint32_t status; } refused[] = {
     {ROOM, 8, 5, 0, ALL, STRIDE, 4, 4, {4, 2, 0, 0, 0, 0}, TILG_BAD_AREA},    {ROOM, 8, 0, 7, ALL, STRIDE, 4, 4, {4, 2, 0, 0, 0, 0}, TILG_BAD_AREA},
-    {0, 0, 0, 0, ALL, STRIDE, 4, 4, {4, 2, 0, 0, 0, 0}, TILG_BAD_AREA},       {ROOM, 8, 0, 0, ALL, STRIDE, 2, 4, {4, 2, 0, 0, 0, 0}, TILG_BAD_AREA},
-    {ROOM, 8, 0, 0, ALL, STRIDE, 5, 4, {4, 2, 0, 0, 0, 0}, TILG_BAD_AREA},    {ROOM, 8, 0, 0, ALL, STRIDE, 4, SIZE_MAX, {4, 2, 0, 0, 0, 0}, TILG_BAD_AREA},
-    {ROOM, 8, 0, 0, ALL, SIZE_MAX, 4, 4, {4, 2, 0, 0, 0, 0}, TILG_BAD_AREA},  {ROOM, 8, 0, 0, 119, STRIDE, 4, 4, {4, 2, 0, 0, 0, 0}, TILG_BAD_AREA},
+    {0, 0, 0, 0, ALL, STRIDE, 4, 4, {4, 2, 0, 0, 0, 0}, TILG_BAD_AREA},       {ROOM, 8, 0, 0, ALL, STRIDE, 2, 4, {4, 2, 8, 0, 0, 0}, TILG_BAD_AREA},
+    {ROOM, 8, 0, 0, ALL, STRIDE, 5, 4, {4, 2, 8, 0, 0, 0}, TILG_BAD_AREA},    {ROOM, 8, 0, 0, ALL, STRIDE, 4, 2, {4, 2, 0, 8, 0, 0}, TILG_BAD_AREA},
+    {ROOM, 8, 0, 0, ALL, STRIDE, 4, SIZE_MAX, {4, 2, 0, 0, 0, 0}, TILG_BAD_AREA}, {ROOM, 8, 0, 0, ALL, SIZE_MAX, 4, 4, {4, 2, 0, 0, 0, 0}, TILG_BAD_AREA},
+    {ROOM, 8, 0, 0, 119, STRIDE, 4, 4, {4, 2, 8, 8, 0, 0}, TILG_BAD_AREA},
     {ROOM, 8, 0, 0, ALL, STRIDE, 4, 4, {0, 2, 0, 0, 0, 0}, TILG_BAD_SIZE},    {ROOM, 8, 0, 0, ALL, STRIDE, 4, 4, {4, 129, 0, 0, 0, 0}, TILG_BAD_SIZE},
     {ROOM, 8, 0, 0, ALL, STRIDE, 4, 4, {4, 2, 16, 0, 0, 0}, TILG_BAD_FRACTION}, {ROOM, 8, 0, 0, ALL, STRIDE, 4, 4, {4, 2, 0, 0, 0, 4}, TILG_BAD_MODE},
     {ROOM, 8, 0, 0, ALL, STRIDE, 4, 4, {4, 2, 0, 0, 6, 0}, TILG_BAD_MODE},
@@ -122,6 +123,33 @@ static void refused_blocks(void) {
         CHECK(tilg_put_8tap_8(samples, refused[i].room, refused[i].dst_stride, refused[i].dst_x, refused[i].dst_y, reference, refused[i].src_len,
                              refused[i].src_stride, refused[i].src_x, refused[i].src_y, &refused[i].block) == refused[i].status);
     CHECK(are_all_8(samples, ROOM, 7));
+}
+
+/* A block of 4x2 of a plane that ends with the last sample that is read: a sample less is refused. */
+static void from_a_plane_of(size_t len, size_t stride, size_t x, size_t y, uint8_t fraction_x, uint8_t fraction_y) {
+    tilg_motion_block block = {4, 2, fraction_x, fraction_y, TILG_FILTER_SHARP, TILG_FILTER_SMOOTH};
+    uint8_t *reference = malloc(len), samples[8];
+    int16_t values[8];
+    CHECK(reference);
+    memset(reference, 100, len);
+    memset(samples, 0, sizeof samples), memset(values, 0, sizeof values);
+    CHECK(tilg_put_8tap_8(samples, 8, 4, 0, 0, reference, len - 1, stride, x, y, &block) == TILG_BAD_AREA);
+    CHECK(tilg_prep_8tap_8(values, 8, reference, len - 1, stride, x, y, &block) == TILG_BAD_AREA);
+    CHECK(are_all_8(samples, 8, 0) && are_all_16(values, 8, 0));
+    CHECK(tilg_put_8tap_8(samples, 8, 4, 0, 0, reference, len, stride, x, y, &block) == TILG_DONE);
+    CHECK(tilg_prep_8tap_8(values, 8, reference, len, stride, x, y, &block) == TILG_DONE);
+    CHECK(are_all_8(samples, 8, 100) && are_all_16(values, 8, 1600));
+    free(reference);
+}
+
+/* A call reads beside the block only along a dimension with a fraction, and nothing after the last sample. */
+static void planes_that_end_with_the_block(void) {
+    from_a_plane_of(4 * 2, 4, 0, 0, 0, 0);
+    from_a_plane_of(7 + 4, 7, 0, 0, 0, 0);
+    from_a_plane_of(2 * 12 + 1 + 4, 12, 1, 1, 0, 0);
+    from_a_plane_of(11 * 2, 11, 3, 0, 8, 0);
+    from_a_plane_of(4 * 9, 4, 0, 3, 0, 8);
+    from_a_plane_of(8 * 13 + 11, 13, 3, 3, 8, 8);
 }
 
 static void blocks_of_16_bits(void) {
@@ -157,6 +185,7 @@ int main(void) {
     blocks_without_pads();
     averaged_blocks();
     refused_blocks();
+    planes_that_end_with_the_block();
     blocks_of_16_bits();
     return 0;
 }

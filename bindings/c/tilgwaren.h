@@ -8,8 +8,8 @@
  *
  * Statuses: every call except tilg_version returns one. If it is TILG_DONE, the call has written what its
  * comment says. If it is anything else, the call has changed nothing except where its comment says so, and
- * scratch memory: the buffer then still has its old samples. The call checks all arguments, except samples
- * if its comment says so. Two things no call can check, so the caller must guarantee them:
+ * scratch memory. The call checks all arguments, except samples if its comment says so. Two things no call
+ * can check, so the caller must guarantee them:
  *   - Each pointer is valid for the number of elements given by the length next to it, or for one
  *     value. It may be NULL if that length is 0.
  *   - Memory that a call writes (each pointer without `const`) overlaps no other argument. Memory that
@@ -24,8 +24,8 @@
  * and 0. `bit_depth` is 8, 10 or 12: samples of 8 bits have the depth 8.
  *
  * A rectangle lies in its samples if x + width <= stride and (y + height) * stride <= the number of
- * samples: its last row also has `stride` samples. A region (tilgwaren_regions.h) has only its own samples,
- * not those between its rows.
+ * samples: its last row also has `stride` samples, unless a comment says that it may end with its own. A
+ * region (tilgwaren_regions.h) has only its own samples, not those between its rows.
  *
  * Calls keep no state. They may run in several threads at the same time, on memory that the threads
  * don't share. Numbers are in the machine's byte order. Numbers inside a plan, and samples of 16 bits
@@ -46,14 +46,14 @@ extern "C" {
 
 /* ---- versions */
 
-/* The version of this header. As long as major is 0, a header works only with libraries of its own minor version. */
+/* The version of this header. */
 #define TILG_VERSION_MAJOR 0
-#define TILG_VERSION_MINOR 3
+#define TILG_VERSION_MINOR 4
 #define TILG_VERSION_PATCH 0
 #define TILG_VERSION (TILG_VERSION_MAJOR * 65536u + TILG_VERSION_MINOR * 256u + TILG_VERSION_PATCH)
 
-/* The version of the library, in the form of TILG_VERSION. The symbol's name has the minor version. Every file
- * that includes this header refers to it, so that a library of another minor version does not link. */
+/* The version of the library, in the form of TILG_VERSION. As long as major is 0, the symbol's name has the minor
+ * version, and every file that includes this header refers to it: a library of another minor version does not link. */
 uint32_t tilg_version_0_4(void);
 #define tilg_version tilg_version_0_4
 #if defined(__GNUC__)
@@ -296,7 +296,7 @@ typedef struct {
     size_t width;       /* columns of the block: 1 to 128 */
     size_t height;      /* rows of the block: 1 to 128 */
     uint8_t fraction_x; /* how far it is moved right, in sixteenths of a sample: below 16 */
-    uint8_t fraction_y; /* how far it is moved down, in sixteenths of a sample: below 16 */
+    uint8_t fraction_y; /* how far it is moved down, likewise */
     uint8_t filter_x;   /* the filter along rows: a tilg_filter */
     uint8_t filter_y;   /* the filter down columns: a tilg_filter */
 } tilg_motion_block;
@@ -308,7 +308,8 @@ typedef struct {
  *   src, src_len, src_stride    the reference
  *   src_x, src_y                the block's first sample in the reference, before the fractions. If the
  *                               fraction along x is not 0, the call also reads 3 columns before the block
- *                               and 4 after it; the same holds for y and rows
+ *                               and 4 after it; the same holds for y and rows. The last row that is read
+ *                               may end with its own samples
  *   block                       its width and height, the fractions and the filters
  * Returns TILG_DONE, TILG_BAD_SIZE (width or height), TILG_BAD_MODE (a filter), TILG_BAD_FRACTION or
  * TILG_BAD_AREA (either rectangle). */
@@ -317,7 +318,7 @@ TILG_MUST_USE tilg_status tilg_put_8tap_8(uint8_t *dst, size_t dst_len, size_t d
 
 /* Prepares a block of samples of 8 bits for the average with another block: the process of
  * tilg_put_8tap_8, with the rounding of compound prediction. A value is 16 times a sample.
- *   values, values_len          the call writes the first `height * width`, row by row; the rest is unchanged
+ *   values, values_len          the first `height * width` are written, row by row; the rest is unchanged
  *   src .. block                as above
  * Returns TILG_DONE, TILG_BAD_SIZE, TILG_BAD_MODE, TILG_BAD_FRACTION, TILG_BAD_AREA or TILG_TOO_SHORT (the
  * values). */
@@ -358,7 +359,7 @@ typedef struct {
     size_t x;               /* the column of its first visible sample */
     size_t y;               /* the row of its first visible sample */
     size_t width;           /* how many visible columns it has: 1 to 65,536 */
-    size_t height;          /* how many visible rows it has: 1 to 65,536 */
+    size_t height;          /* how many visible rows, likewise */
     uint8_t halved_columns; /* 0 or 1 */
     uint8_t halved_rows;    /* 0 or 1 */
 } tilg_motion_plane;
@@ -366,11 +367,11 @@ typedef struct {
 /* A block of a plane, and the vector that moves it. */
 typedef struct {
     size_t x;         /* the column of its first sample in the visible plane, up to 65,536 */
-    size_t y;         /* the row of its first sample in the visible plane, up to 65,536 */
+    size_t y;         /* the row, likewise */
     size_t width;     /* columns of the block: 1 to 128 */
     size_t height;    /* rows of the block: 1 to 128 */
     int16_t mv_y;     /* how far the vector points down, in eighths of a luma sample */
-    int16_t mv_x;     /* how far the vector points to the right, in eighths of a luma sample */
+    int16_t mv_x;     /* how far it points to the right, likewise */
     uint8_t filter_x; /* the filter along rows: a tilg_filter */
     uint8_t filter_y; /* the filter down columns: a tilg_filter */
 } tilg_moved_block;
@@ -395,8 +396,7 @@ TILG_MUST_USE tilg_status tilg_put_moved_16(uint16_t *dst, size_t dst_len, size_
     const uint16_t *src, size_t src_len, const tilg_motion_plane *plane, const tilg_moved_block *block, uint8_t bit_depth);
 
 /* Prepares such a block for the average with another block: the process of tilg_put_moved_8, with the
- * rounding of compound prediction. The call writes the first `height * width` of `values`, row by row,
- * with the values of tilg_prep_8tap_8 and tilg_prep_tested_16; the rest is unchanged.
+ * values of tilg_prep_8tap_8 and tilg_prep_tested_16.
  * Returns the statuses of the calls above; TILG_TOO_SHORT also if `values` is too short. */
 TILG_MUST_USE tilg_status tilg_prep_moved_8(int16_t *values, size_t values_len, uint8_t *window, size_t window_len, const uint8_t *src, size_t src_len, const
     tilg_motion_plane *plane, const tilg_moved_block *block);
@@ -419,8 +419,7 @@ typedef struct {
     size_t visible_rows;      /* how many visible rows, likewise */
 } tilg_intra_block;
 
-/* Predicts a block by its intra mode from the edges around it. All other samples are unchanged. The last row of
- * the block may end with its own samples.
+/* Predicts a block by its intra mode from the edges around it. All other samples are unchanged.
  *   samples, samples_len, stride  the samples
  *   x, y                  the block's first sample
  *   left, left_len        from the bottom up: the last sample is next to the first row
@@ -568,8 +567,7 @@ TILG_MUST_USE tilg_status tilg_cfl_block_of(tilg_cfl_block *block, const tilg_lu
  *   4. tilg_builder_finish says how long the plan is.
  * tilg_builder_next says at any time which field comes next. Each call appends to the bytes of the plan at the
  * front of `room`. Between calls you may move them to a longer buffer. A tilg_builder holds what comes next; only
- * these calls may write it. To be able to go back, copy it, and keep the bytes. After an error both are unchanged.
- * No call allocates. */
+ * these calls may write it. To be able to go back, copy it, and keep the bytes. No call allocates. */
 
 /* The frame of a plan, and what holds for all its leaves. */
 typedef struct {

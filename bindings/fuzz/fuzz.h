@@ -14,7 +14,7 @@
 #include <sys/mman.h>
 
 #define CHECK(e) do { if (!(e)) { fprintf(stderr, "%s:%d: %s\n", __FILE__, __LINE__, #e); abort(); } } while (0)
-#define OR(status) | 1ull << AV1_##status
+#define OR(status) | 1ull << TILG_##status
 #define UNUSED __attribute__((unused))
 
 enum { PAGE = 4096, SLOT = 128 * PAGE, ZONE = PAGE, SLOTS = 8, KEPT = 0xC3 };
@@ -183,21 +183,43 @@ typedef struct {
     size_t stride, x, y, width, height;
 } area;
 
-/* A buffer that such a rectangle lies in, or nearly. */
-static numbers UNUSED lay_area(area *a, size_t width, size_t height, size_t bytes_each) {
-    a->width = width, a->height = height;
-    a->stride = one_in(24) ? near(width + 1) : width + near(40);
-    a->x = one_in(24) ? near(a->stride + 2) : near(a->stride > width ? a->stride - width + 1 : 1);
-    a->y = near(12);
-    __uint128_t whole = (__uint128_t)(a->y + height) * a->stride;
+/* The place of a rectangle in rows of some stride, now and then outside of them. */
+static area UNUSED some_area(size_t width, size_t height) {
+    area a = {.width = width, .height = height};
+    a.stride = one_in(24) ? near(width + 1) : width + near(40);
+    a.x = one_in(24) ? near(a.stride + 2) : near(a.stride > width ? a.stride - width + 1 : 1);
+    a.y = near(12);
+    return a;
+}
+
+/* A buffer of `whole` numbers, or nearly. */
+static numbers UNUSED lay_nearly(__uint128_t whole, size_t bytes_each) {
     size_t count = whole > SLOT ? below(SLOT) : whole;
     if (one_in(8)) count += below(64);
     if (one_in(24)) count -= below(count + 1 < 300 ? count + 1 : 300);
     return lay(count, bytes_each);
 }
 
+/* A buffer that such a rectangle lies in with whole rows, or nearly. */
+static numbers UNUSED lay_area(area *a, size_t width, size_t height, size_t bytes_each) {
+    *a = some_area(width, height);
+    return lay_nearly(((__uint128_t)a->y + height) * a->stride, bytes_each);
+}
+
+/* The same, but the last row ends with the rectangle. */
+static numbers UNUSED lay_ending(area *a, size_t width, size_t height, size_t bytes_each) {
+    *a = some_area(width, height);
+    return lay_nearly(((__uint128_t)a->y + height - 1) * a->stride + a->x + width, bytes_each);
+}
+
 static bool UNUSED is_inside(numbers made, area a) {
     return (__uint128_t)a.x + a.width <= a.stride && ((__uint128_t)a.y + a.height) * a.stride <= made.count;
+}
+
+/* The same for a rectangle whose last row may end with it. */
+static bool UNUSED is_ending_inside(numbers made, area a) {
+    return (__uint128_t)a.x + a.width <= a.stride && a.y <= made.count
+        && ((__uint128_t)a.y + a.height - 1) * a.stride + a.x + a.width <= made.count;
 }
 
 /* Outside of the rectangle all is as it was, and in it nothing is past `most`. */

@@ -1,4 +1,4 @@
-/* Chroma from luma: tilg_cfl_ac_8, tilg_predict_cfl_8 and _16. */
+/* Chroma from luma: tilg_cfl_ac_8, tilg_predict_cfl_8 and _16, and tilg_cfl_block_of. */
 #include "fuzz.h"
 
 static bool wide;
@@ -104,11 +104,50 @@ static void chroma(void) {
     else all_kept(samples);
 }
 
+/* How many units of 4 samples of chroma no transform codes that begins in the visible plane, along a dimension. */
+static size_t pad_of(size_t side, size_t transform, size_t visible, size_t halved) {
+    size_t shown = side < visible ? side : visible, coded = side <= 8 ? side : (shown + transform - 1) / transform * transform;
+    return coded < side ? (side - coded) / (4 << halved) : 0;
+}
+
+static uint32_t expected_found(const tilg_luma_block *b, tilg_cfl_block *chroma) {
+    if (b->halved_columns > 1 || b->halved_rows > b->halved_columns) return TILG_BAD_SAMPLING;
+    if (b->block_size >= 22 || b->tx_size >= 19) return TILG_BAD_SIZE;
+    const uint8_t *luma = block_sides[b->block_size], *transform = transform_sides[b->tx_size];
+    uint8_t w = luma[0] >> b->halved_columns, h = luma[1] >> b->halved_rows, size = 0;
+    if (b->halved_columns && !b->halved_rows && luma[1] > luma[0]) return TILG_BAD_SIZE;
+    while (size < 22 && (block_sides[size][0] != (w < 4 ? 4 : w) || block_sides[size][1] != (h < 4 ? 4 : h))) size++;
+    if (!is_chroma(size)) return TILG_BAD_SIZE;
+    if (!b->visible_columns || !b->visible_rows) return TILG_BAD_PAD;
+    chroma->block_size = size, chroma->halved_columns = b->halved_columns, chroma->halved_rows = b->halved_rows;
+    chroma->w_pad = pad_of(luma[0], transform[0], b->visible_columns, b->halved_columns);
+    chroma->h_pad = pad_of(luma[1], transform[1], b->visible_rows, b->halved_rows);
+    return TILG_DONE;
+}
+
+static void found(void) {
+    uint8_t sampling = below(3);
+    tilg_luma_block b = {number(22), number(19), sampling > 0, sampling == 2, near(140), near(140)}, told;
+    if (one_in(24)) b.halved_columns = byte(), b.halved_rows = byte();
+    memcpy(&told, &b, sizeof b);
+    tilg_cfl_block block, expected;
+    memset(&block, byte(), sizeof block);
+    memcpy(&expected, &block, sizeof block);
+    uint32_t status = tilg_cfl_block_of(&block, &b);
+    came_up(4, b.block_size, b.tx_size * 4 + sampling, status);
+    CHECK(status == expected_found(&b, &expected));
+    CHECK(!memcmp(&b, &told, sizeof b));
+    CHECK(block.block_size == expected.block_size && block.halved_columns == expected.halved_columns && block.halved_rows == expected.halved_rows);
+    CHECK(block.w_pad == expected.w_pad && block.h_pad == expected.h_pad);
+}
+
 int LLVMFuzzerTestOneInput(const uint8_t *data, size_t length) {
     begin(data, length);
     wide = one_in(2);
     bits = wide ? one_in(40) ? wild() : depth() : 8;
-    if (one_in(2)) differences();
-    else chroma();
+    size_t call = below(256);
+    if (call >= 128) differences();
+    else if (call >= 16) chroma();
+    else found();
     return 0;
 }

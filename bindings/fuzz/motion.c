@@ -23,6 +23,10 @@ static size_t side(void) {
     return one_in(24) ? near(131) : one_in(3) ? 1 + below(128) : 1u << below(8);
 }
 
+static uint8_t fraction(void) {
+    return one_in(3) ? 0 : number(16);
+}
+
 static bool is_side(size_t number) {
     return 1 <= number && number <= 128;
 }
@@ -73,30 +77,41 @@ static void same_written(const call *c, numbers other, area at, size_t width, si
     else same_inside(c->written, (area){c->to.stride, c->to.x, c->to.y, width, height}, other, at);
 }
 
-static uint32_t expected_block(const call *c, const tilg_motion_block *b, area whole) {
+/* What is read for a block: along a dimension with a fraction 3 more samples before it and 4 more after it, else none. */
+static area read_for(const call *c, const tilg_motion_block *b) {
+    size_t left = b->fraction_x ? 3 : 0, top = b->fraction_y ? 3 : 0;
+    return (area){c->from.stride, c->from.x - left, c->from.y - top, b->width + (left ? 7 : 0), b->height + (top ? 7 : 0)};
+}
+
+static bool is_read_inside(const call *c, const tilg_motion_block *b) {
+    area read = read_for(c, b);
+    return read.x <= c->from.x && read.y <= c->from.y && is_ending_inside(c->read, read);
+}
+
+static uint32_t expected_block(const call *c, const tilg_motion_block *b) {
     if (!is_side(b->width) || !is_side(b->height)) return TILG_BAD_SIZE;
     if (!is_filter(b->filter_x) || !is_filter(b->filter_y)) return TILG_BAD_MODE;
     if (b->fraction_x >= 16 || b->fraction_y >= 16) return TILG_BAD_FRACTION;
-    if (!is_written_inside(c, b->width, b->height) || c->from.x < 3 || c->from.y < 3 || !is_inside(c->read, whole)) return TILG_BAD_AREA;
+    if (!is_written_inside(c, b->width, b->height) || !is_read_inside(c, b)) return TILG_BAD_AREA;
     if (c->prepared && c->written.count < b->width * b->height) return TILG_TOO_SHORT;
     return !c->wide || is_depth(c->bits) ? TILG_DONE : TILG_BAD_DEPTH;
 }
 
-/* A block from a reference with pads. */
+/* A block from a reference that has what is read, and often no more. */
 static void by_place(call *c) {
-    tilg_motion_block b = {side(), side(), number(16), number(16), filter(), filter()}, told = b;
+    tilg_motion_block b = {side(), side(), fraction(), fraction(), filter(), filter()}, told = b;
     size_t width = small(b.width), height = small(b.height);
     lay_written(c, width, height);
-    area whole;
-    c->read = lay_area(&whole, width + 7, height + 7, c->wide ? 2 : 1);
+    size_t left = b.fraction_x ? 3 : 0, top = b.fraction_y ? 3 : 0;
+    area read;
+    c->read = lay_ending(&read, width + (left ? 7 : 0), height + (top ? 7 : 0), c->wide ? 2 : 1);
     fill(c->read, most_of(c));
-    c->from = (area){whole.stride, whole.x + 3, whole.y + 3, width, height};
-    whole.x = c->from.x - 3, whole.y = c->from.y - 3, whole.width = b.width + 7, whole.height = b.height + 7;
+    c->from = (area){read.stride, read.x + left, read.y + top, width, height};
     uint32_t status = block(c, c->written, &b);
     came_up(c->wide * 2 + c->prepared, b.filter_x * 8 + b.filter_y, (b.fraction_x != 0) * 2 + (b.fraction_y != 0), status);
     answered(status, 0 OR(DONE) OR(BAD_SIZE) OR(BAD_MODE) OR(BAD_FRACTION) OR(BAD_AREA) | (c->prepared ? 0 OR(TOO_SHORT) : 0)
                          | (c->wide ? 0 OR(BAD_DEPTH) : 0));
-    CHECK(status == expected_block(c, &b, whole));
+    CHECK(status == expected_block(c, &b));
     all_kept(c->read);
     CHECK(!memcmp(&b, &told, sizeof b));
     if (status == TILG_DONE) written_alone(c, width, height);

@@ -11,7 +11,7 @@ STATUSES = {1: "out of memory", 2: "the buffer is too short", 3: "too long", 4: 
             30: "the plan of a part would be too long", 31: "a part is malformed", 32: "a leaf of a part is invalid",
             33: "a part shows the frame of an empty slot"}
 KINDS = {1: "block size", 2: "transform", 3: "mode", 4: "vector", 5: "missing reference", 6: "coefficient"}
-VERSION = 0x300
+VERSION = 0x400
 
 
 class Refusal(ctypes.Structure):

@@ -22,10 +22,11 @@
 //! | tiles of one plane by threads | [`RegionMut`] and [`BlockRoom`], [`predict_in_tile_8`] | `threads` |
 //!
 //! Calls on a block that end in `_8` are for samples of 8 bits. Each has a form in `_16` for
-//! samples of 16 bits.
+//! samples of 16 bits, except `put_8tap_8` and `prep_8tap_8`: see Motion.
 //!
 //! - Residual: [`inverse_transform_add_8`] and [`inverse_transform_add_16`].
-//!   [`inverse_transform_add_rav1e_16`] follows rav1e if it differs from AV1.
+//!   [`inverse_transform_add_rav1e_16`] follows rav1e if it differs from AV1. [`coefficients_len`]
+//!   finds how many coefficients they need, from the end of the block in AV1's scan order.
 //! - Motion: [`put_8tap_8`] predicts a block from one reference. [`prep_8tap_8`] prepares each
 //!   block of two references, and [`mc_avg_8`] averages them. [`put_moved_8`] and [`prep_moved_8`]
 //!   follow a vector in a plane without padding. A reference of 16 bits is checked once by
@@ -81,8 +82,8 @@ pub use region::{BlockRoom, Place, Region, RegionMut};
 pub use tested::{Tested, prep_tested_16, put_tested_16};
 pub use tile::{predict_in_tile_8, predict_in_tile_16};
 pub use transform::{
-    TransformBlock, TransformScratch, inverse_transform_add_8, inverse_transform_add_16,
-    inverse_transform_add_rav1e_16,
+    TransformBlock, TransformScratch, coefficients_len, inverse_transform_add_8,
+    inverse_transform_add_16, inverse_transform_add_rav1e_16,
 };
 
 /// The version of this crate: major times 65,536, minor times 256, patch.

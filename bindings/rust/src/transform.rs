@@ -43,6 +43,41 @@ pub struct TransformBlock {
     pub y: usize,
 }
 
+/// How many elements a list of coefficients has up to the last one among the first `eob` in AV1's
+/// scan order. [`inverse_transform_add_8`] needs no more of them, because those after the end of
+/// the block are 0. `eob` counts coefficients, so it is 1 if there is no other than the first.
+#[must_use]
+pub fn coefficients_len(tx_size: TxSize, tx_type: TxType, eob: usize) -> usize {
+    let (width, height) = (tx_size.width().min(32), tx_size.height().min(32));
+    if eob == 0 || eob >= width * height {
+        return eob.min(width * height);
+    }
+    match tx_type {
+        TxType::HDct | TxType::HAdst | TxType::HFlipAdst => eob,
+        TxType::VDct | TxType::VAdst | TxType::VFlipAdst if eob < width => (eob - 1) * height + 1,
+        TxType::VDct | TxType::VAdst | TxType::VFlipAdst => (width - 1) * height + eob / width,
+        _ => len_by_diagonals(width, height, eob),
+    }
+}
+
+// The same for a scan by diagonals. The diagonals of a high block go from their last column to the
+// first, and those of a wide block from the first to the last. Those of a square take turns.
+fn len_by_diagonals(width: usize, height: usize, eob: usize) -> usize {
+    let (mut left, mut before) = (eob - 1, 0);
+    for diagonal in 0..width + height - 1 {
+        let (first, last) = (diagonal.saturating_sub(height - 1), diagonal.min(width - 1));
+        let len_to = |column: usize| column * height + (diagonal - column) + 1;
+        if left <= last - first {
+            let goes_down = width < height || (width == height && diagonal % 2 == 1);
+            let column = if goes_down { last } else { first + left };
+            return len_to(column).max(before);
+        }
+        left -= last - first + 1;
+        before = len_to(last);
+    }
+    width * height
+}
+
 macro_rules! transform_calls {
     ($call:ident, $sample:ident, $coefficient:ident, $($depth:ident,)? $(#[$doc:meta])+) => {
         $(#[$doc])+

@@ -1,8 +1,8 @@
 //! Residuals, added to samples and rejected.
 
 use tilgwaren::{
-    BitDepth, Error, TransformBlock, TransformScratch, TxSize, TxType, inverse_transform_add_8,
-    inverse_transform_add_16, inverse_transform_add_rav1e_16,
+    BitDepth, Error, TransformBlock, TransformScratch, TxSize, TxType, coefficients_len,
+    inverse_transform_add_8, inverse_transform_add_16, inverse_transform_add_rav1e_16,
 };
 
 // A block of 4x4 by the cosine transform both ways.
@@ -39,6 +39,42 @@ fn coefficients_are_ordered_column_by_column() {
     let added = inverse_transform_add_8(scratch, &[0, 0, 0, 80], &mut samples, 4, identity);
     assert_eq!(added, Ok(()));
     assert_eq!((samples[0], samples[3], samples[12]), (100, 100, 110));
+}
+
+// AV1's scan: the row and the column of each coefficient.
+fn scan(width: usize, height: usize, tx_type: TxType) -> Vec<(usize, usize)> {
+    let mut places: Vec<_> = (0..width * height)
+        .map(|i| (i / width, i % width))
+        .collect();
+    match tx_type {
+        TxType::VDct | TxType::VAdst | TxType::VFlipAdst => {}
+        TxType::HDct | TxType::HAdst | TxType::HFlipAdst => places.sort_by_key(|&(r, c)| (c, r)),
+        _ => places.sort_by_key(|&(r, c)| {
+            let goes_down = width < height || (width == height && (r + c) % 2 == 1);
+            (r + c, if goes_down { r } else { c })
+        }),
+    }
+    places
+}
+
+#[test]
+fn coefficients_up_to_an_end_of_block() {
+    for &size in TxSize::ALL {
+        for &tx_type in TxType::ALL {
+            let (width, height) = (size.width().min(32), size.height().min(32));
+            let mut len = 0;
+            assert_eq!(coefficients_len(size, tx_type, 0), 0);
+            for (i, (row, column)) in scan(width, height, tx_type).into_iter().enumerate() {
+                len = len.max(column * height + row + 1);
+                assert_eq!(
+                    coefficients_len(size, tx_type, i + 1),
+                    len,
+                    "{size} {tx_type} {i}"
+                );
+            }
+            assert_eq!(coefficients_len(size, tx_type, usize::MAX), len);
+        }
+    }
 }
 
 #[test]

@@ -3,7 +3,7 @@ ghost use Rattle.std.specs.Prelude.{◌≡◌};
 
 /// The version: major times 65,536, minor times 256, patch. It is `TILG_VERSION` in C's header and `VERSION` in the
 /// Rust crate.
-pub const VERSION: u32 = 768;
+pub const VERSION: u32 = 1024;
 
 /// The version of the linked library. Compare it with the version of the header that your code was compiled with.
 #[unsafe(no_mangle)]

@@ -2,6 +2,7 @@
 
 The mask of processor features chooses between them: the library is a feature of its own.
 """
+import glob
 import hashlib
 import os
 import shutil
@@ -79,7 +80,8 @@ def build(archive, as_drawn=False, sanitize="none"):
     kind = "as_drawn" if as_drawn else "av1"
     source = os.path.join(OUT, kind if sanitize == "none" else f"{kind}_{sanitize}", f"dav1d-{VERSION}")
     folder, stamp = os.path.join(source, "build"), os.path.join(source, "built-of")
-    made = digest([*FILES, os.path.join(BINDINGS, "c/tilgwaren.h"), archive], repr(changes))
+    headers = sorted(glob.glob(os.path.join(BINDINGS, "c/tilgwaren*.h")))
+    made = digest([*FILES, *headers, archive], repr(changes))
     if os.path.isfile(stamp) and open(stamp, encoding="utf-8").read() == made:
         return folder
     os.makedirs(decoder.OUT, exist_ok=True)

@@ -19,9 +19,9 @@
 #include "common/intops.h"
 #include "src/cpu.h"
 #include "src/library.h"
-#include "src/scan.h"
 #include "src/tables.h"
 
+#include "tilgwaren_codec.h"
 #include "tilgwaren_regions.h"
 
 #if BITDEPTH == 8
@@ -116,14 +116,15 @@ static inline void check(const uint32_t status) {
 static inline void finish(const uint32_t status, pixel *const dst, const ptrdiff_t stride, const int w, const int h) {
     const REGION region = { dst, stride, (size_t) w, (size_t) h };
     check(status);
-    if (!status && needs_copy(stride)) CALL(store_region)(&region, 0, 0, (size_t) w, (size_t) h, block_copy, BLOCK_LEN);
+    if (!status && needs_copy(stride))
+        check(CALL(store_region)(&region, 0, 0, (size_t) w, (size_t) h, block_copy, BLOCK_LEN));
 }
 
 static inline void load(pixel *const to, const size_t len, const pixel *const from, const ptrdiff_t stride, const int w,
                         const int h)
 {
     const READ_REGION region = { from, stride, (size_t) w, (size_t) h };
-    CALL(load_region)(to, len, &region, 0, 0, (size_t) w, (size_t) h);
+    check(CALL(load_region)(to, len, &region, 0, 0, (size_t) w, (size_t) h));
 }
 
 /* ---- motion compensation: Dav1dMCDSPContext */
@@ -134,39 +135,36 @@ static inline void load(pixel *const to, const size_t len, const pixel *const fr
     X(8TAP_SHARP_REGULAR, TILG_FILTER_SHARP, 0) X(8TAP_SHARP_SMOOTH, TILG_FILTER_SHARP, 1) X(8TAP_SHARP, TILG_FILTER_SHARP, TILG_FILTER_SHARP) \
     X(8TAP_SMOOTH_REGULAR, 1, 0) X(8TAP_SMOOTH, 1, 1) X(8TAP_SMOOTH_SHARP, 1, TILG_FILTER_SHARP) X(BILINEAR, 3, 3)
 
-/* The calls read 3 columns and rows before a block and 4 after it. dav1d has them only beside a fraction, so without one
- * they are zeros in a copy. Intra block copy reads the plane that it writes, so its filter always gets a copy. */
-static inline const pixel *reference(const pixel *const src, ptrdiff_t *const stride, const int w, const int h,
-                                     const int mx, const int my, const int filter)
+/* A reference: the samples that a call reads, and where the block begins in them. */
+typedef struct {
+    const pixel *at;
+    size_t len, stride, x, y;
+} reference;
+
+/* The reference in its plane: along a dimension with a fraction, dav1d has 3 samples before the block and 4 after it. If rows go
+ * upwards there is no slice, and intra block copy, whose filter is bilinear, reads the plane that it writes: both get a copy. */
+static inline reference reference_of(const pixel *const src, const ptrdiff_t stride, const int w, const int h, const int mx,
+                                     const int my, const int filter)
 {
-    const int x = mx ? 3 : 0, columns = w + 7;
-    if (mx && my && *stride > 0 && filter != 3) return src - 3 * *stride - 3;
-    pixel *row = window;
-    for (int i = -3; i < h + 4; i++, row += columns) {
-        if (!my && (i < 0 || i >= h)) {
-            pixel_set(row, 0, columns);
-            continue;
-        }
-        if (!mx) pixel_set(row, 0, 3);
-        pixel_copy(row + 3 - x, src + i * *stride - x, mx ? columns : w);
-        if (!mx) pixel_set(row + 3 + w, 0, 4);
-    }
-    *stride = columns;
-    return window;
+    const int x = mx ? 3 : 0, y = my ? 3 : 0, columns = w + (mx ? 7 : 0), lines = h + (my ? 7 : 0);
+    const pixel *const first = src - y * stride - x;
+    if (stride > 0 && filter != TILG_FILTER_BILINEAR)
+        return (reference) { first, (size_t) (stride * (lines - 1) + columns), (size_t) stride, (size_t) x, (size_t) y };
+    load(window, WINDOW_LEN, first, stride, columns, lines);
+    return (reference) { window, (size_t) (columns * lines), (size_t) columns, (size_t) x, (size_t) y };
 }
 
-/* mc[]: copies a reference that has a fraction of 0. */
+/* mc[]: copies a reference of intra block copy. */
 static ALWAYS_INLINE void put(pixel *const dst, const ptrdiff_t dst_stride, const pixel *const src,
                               const ptrdiff_t src_stride, const int w, const int h, const int mx, const int my,
                               const uint8_t fx, const uint8_t fy HIGHBD_DECL_SUFFIX)
 {
-    ptrdiff_t stride = PXSTRIDE(src_stride);
-    const pixel *const from = reference(src, &stride, w, h, mx, my, fx);
+    const reference from = reference_of(src, PXSTRIDE(src_stride), w, h, mx, my, fx);
     const rows to = rows_of(dst, PXSTRIDE(dst_stride), w, h);
     const tilg_motion_block b = { (size_t) w, (size_t) h, (uint8_t) mx, (uint8_t) my, fx, fy };
     count_as("put", w, h, (mx ? 1 : 0) | (my ? 2 : 0), fx, fy);
-    finish(MOTION_CALL(put)(to.at, to.len, to.stride, 0, 0, from, (size_t) (stride * (h + 7)), (size_t) stride, 3, 3,
-                            &b DEPTH_ARG), dst, PXSTRIDE(dst_stride), w, h);
+    finish(MOTION_CALL(put)(to.at, to.len, to.stride, 0, 0, from.at, from.len, from.stride, from.x, from.y, &b DEPTH_ARG), dst,
+           PXSTRIDE(dst_stride), w, h);
 }
 
 /* mct[]: copies the same. */
@@ -174,11 +172,10 @@ static ALWAYS_INLINE void prep(int16_t *const tmp, const pixel *const src, const
                                const int h, const int mx, const int my, const uint8_t fx, const uint8_t fy
                                HIGHBD_DECL_SUFFIX)
 {
-    ptrdiff_t stride = PXSTRIDE(src_stride);
-    const pixel *const from = reference(src, &stride, w, h, mx, my, fx);
+    const reference from = reference_of(src, PXSTRIDE(src_stride), w, h, mx, my, fx);
     const tilg_motion_block b = { (size_t) w, (size_t) h, (uint8_t) mx, (uint8_t) my, fx, fy };
     count_as("prep", w, h, (mx ? 1 : 0) | (my ? 2 : 0), fx, fy);
-    check(MOTION_CALL(prep)(tmp, (size_t) (w * h), from, (size_t) (stride * (h + 7)), (size_t) stride, 3, 3, &b DEPTH_ARG));
+    check(MOTION_CALL(prep)(tmp, (size_t) (w * h), from.at, from.len, from.stride, from.x, from.y, &b DEPTH_ARG));
 }
 
 #define MOTION(name, fx, fy) \
@@ -201,19 +198,10 @@ static decl_avg_fn(library_avg) {
 
 /* ---- intra prediction: Dav1dIntraPredDSPContext */
 
-/* The number of a transform by the logarithms of a quarter of its sides; 255 if there is none. */
-static const uint8_t tx_sizes[5][5] = {
-    { TX_4X4,    RTX_4X8,   RTX_4X16,  255,       255       },
-    { RTX_8X4,   TX_8X8,    RTX_8X16,  RTX_8X32,  255       },
-    { RTX_16X4,  RTX_16X8,  TX_16X16,  RTX_16X32, RTX_16X64 },
-    { 255,       RTX_32X8,  RTX_32X16, TX_32X32,  RTX_32X64 },
-    { 255,       255,       RTX_64X16, RTX_64X32, TX_64X64  },
-};
-
 static inline tilg_intra_block intra_block(const int w, const int h, const int has_left, const int has_above
                                           HIGHBD_DECL_SUFFIX)
 {
-    return (tilg_intra_block) { .tx_size = tx_sizes[ctz(w) - 2][ctz(h) - 2], .bit_depth = DEPTH,
+    return (tilg_intra_block) { .tx_size = tilg_tx_size_of((size_t) w, (size_t) h), .bit_depth = DEPTH,
                                .has_left = (uint8_t) has_left, .has_above = (uint8_t) has_above,
                                .visible_columns = 65536, .visible_rows = 65536 };
 }
@@ -247,24 +235,15 @@ INTRA(smooth_v, 10, 1, 1)
 INTRA(smooth_h, 11, 1, 1)
 INTRA(paeth, 12, 1, 1)
 
-/* A block of a mode that turns: finds the mode and its steps from dav1d's angle, of which bit 9 is the smooth neighbour and
- * bit 10 the edge filter. An angle that no mode turns to gets a step that the library rejects. */
+/* A block of a mode that turns, by dav1d's angle, of which bit 9 is the smooth neighbour and bit 10 the edge filter. The library
+ * rejects an angle that no mode turns to. */
 static inline tilg_intra_block turned(const int w, const int h, const int angle HIGHBD_DECL_SUFFIX) {
-    static const struct { uint8_t mode, angle; } modes[8] = {
-        { 3, 45 }, { 8, 67 }, { 1, 90 }, { 5, 113 }, { 4, 135 }, { 6, 157 }, { 2, 180 }, { 7, 203 }
-    };
+    const tilg_turned_mode mode = tilg_mode_of_angle(angle & 511);
     tilg_intra_block b = intra_block(w, h, 1, 1 HIGHBD_TAIL_SUFFIX);
     b.smooth_neighbour = angle >> 9 & 1;
     b.edge_filter = angle >> 10 & 1;
-    b.mode = 3;
-    b.angle_step = 100;
-    for (int i = 0; i < 8; i++) {
-        const int turn = (angle & 511) - modes[i].angle;
-        if (turn < -9 || turn > 9 || turn % 3) continue;
-        b.mode = modes[i].mode;
-        b.angle_step = (int8_t) (turn / 3);
-        break;
-    }
+    b.mode = mode.mode;
+    b.angle_step = mode.angle_step;
     return b;
 }
 
@@ -302,14 +281,12 @@ static decl_angular_ipred_fn(library_z3) {
     predict(dst, stride, &b, left, width + height, *topleft, topleft + 1, 0, width, height);
 }
 
-/* The number of a chroma block by the logarithms of a quarter of its sides; 255 if there is none. */
-static const uint8_t cfl_sizes[4][4] = { { 0, 1, 16, 255 }, { 2, 3, 4, 18 }, { 17, 5, 6, 7 }, { 255, 19, 8, 9 } };
-
-/* cfl_ac[]: finds the size's number from the sides. At 16 bits dav1d doesn't pass the depth; at 12 the values are the same. */
+/* cfl_ac[]: as it is. At 16 bits dav1d doesn't pass the depth; at 12 the values are the same. */
 static ALWAYS_INLINE void cfl_ac(int16_t *const ac, const pixel *luma, const ptrdiff_t luma_stride, const int w_pad,
                                  const int h_pad, const int w, const int h, const int xdec, const int ydec)
 {
-    const tilg_cfl_block b = { cfl_sizes[ctz(w) - 2][ctz(h) - 2], (uint8_t) xdec, (uint8_t) ydec, (size_t) w_pad, (size_t) h_pad };
+    const tilg_cfl_block b = { tilg_block_size_of((size_t) w, (size_t) h), (uint8_t) xdec, (uint8_t) ydec, (size_t) w_pad,
+                               (size_t) h_pad };
     const int columns = imin(w << xdec, imax((w - 4 * w_pad) << xdec, 8));
     const int luma_rows = imin(h << ydec, imax((h - 4 * h_pad) << ydec, 8));
     ptrdiff_t stride = PXSTRIDE(luma_stride);
@@ -345,36 +322,14 @@ CFL(dc_left, 1, 0)
 
 /* ---- inverse transforms: Dav1dInvTxfmDSPContext */
 
-/* How many coefficients a transform of both directions has up to the last that isn't 0, by the end of block. */
-static uint16_t lengths[N_RECT_TX_SIZES][1024];
-
-static COLD void init_lengths(void) {
-    for (int tx = 0; tx < N_RECT_TX_SIZES; tx++) {
-        const int n = imin(dav1d_txfm_dimensions[tx].w * 4, 32) * imin(dav1d_txfm_dimensions[tx].h * 4, 32);
-        for (int i = 0, most = 0; i < n; i++) {
-            most = imax(most, dav1d_scans[tx][i] + 1);
-            lengths[tx][i] = (uint16_t) most;
-        }
-    }
-}
-
-/* The same for any type: transforms of one direction have the scans of rows or of columns. */
-static inline size_t length(const int eob, const int tx, const int type) {
-    const int w = imin(dav1d_txfm_dimensions[tx].w * 4, 32), h = imin(dav1d_txfm_dimensions[tx].h * 4, 32);
-    if (type == WHT_WHT) return 16;
-    if (dav1d_tx_type_class[type] == TX_CLASS_2D) return lengths[tx][eob];
-    if (dav1d_tx_type_class[type] == TX_CLASS_H) return (size_t) eob + 1;
-    return (size_t) (eob >= w ? (w - 1) * h + eob / w + 1 : eob * h + 1);
-}
-
-/* itxfm_add[]: finds the number of coefficients from the end of block, and clears them after the call. */
+/* itxfm_add[]: clears the coefficients after the call. dav1d counts the end of block from 0. */
 static NOINLINE void itx(pixel *const dst, const ptrdiff_t dst_stride, coef *const coeff, const int eob, const int tx,
                          const int type HIGHBD_DECL_SUFFIX)
 {
     const int w = dav1d_txfm_dimensions[tx].w * 4, h = dav1d_txfm_dimensions[tx].h * 4;
     const ptrdiff_t stride = PXSTRIDE(dst_stride);
     const rows to = rows_of(dst, stride, w, h);
-    const size_t n = length(eob, tx, type);
+    const size_t n = tilg_coefficients_len((uint8_t) tx, (uint8_t) type, (size_t) eob + 1);
     if (needs_copy(stride)) load(block_copy, BLOCK_LEN, dst, stride, w, h);
     count_as("itx", w, h, type, eob, 0);
     finish(CALL(inverse_transform_add)(to.at, to.len, to.stride, 0, 0, &scratch, coeff, n, (uint8_t) tx,
@@ -517,7 +472,6 @@ COLD void bitfn(library_ipred_init)(Dav1dIntraPredDSPContext *const c) {
 
 COLD void bitfn(library_itx_init)(Dav1dInvTxfmDSPContext *const c) {
     if (!is_chosen()) return;
-    init_lengths();
 #define SET_ITX(tx, type) c->itxfm_add[tx][type] = library_itx_##tx##_##type;
     TRANSFORMS(SET_ITX)
 }

@@ -222,11 +222,11 @@ fn read<T: Pixel, S: Sample>(
 /// Adds the residue of a block to the samples of `output`, in place of rav1e's function of this name.  Identities wrap where
 /// the encoder's do.
 pub fn inverse_transform_add<T: Pixel>(
-  input: &[T::Coeff], output: &mut PlaneRegionMut<'_, T>, _eob: usize, tx_size: TxSize, tx_type: TxType, bd: usize,
+  input: &[T::Coeff], output: &mut PlaneRegionMut<'_, T>, eob: usize, tx_size: TxSize, tx_type: TxType, bd: usize,
   _cpu: CpuFeatureLevel,
 ) {
-  // FITTED: the encoder's count follows its scan, and the call takes the first in raster order: so all are handed over.
   let sides = (tx_size.width(), tx_size.height());
+  let input = &input[..tilgwaren::coefficients_len(named(tx_size as usize), named(tx_type as usize), eob)];
   let block = |at: Place| TransformBlock { tx_size: named(tx_size as usize), tx_type: named(tx_type as usize), x: at.x, y: at.y };
   SCRATCH.with(|scratch| {
     let scratch = &mut scratch.borrow_mut();

@@ -57,7 +57,7 @@ pub const FIELD_CHROMA_MODE: u32 = 6;
 pub const FIELD_FIRST: u32 = 7;
 pub const FIELD_SECOND: u32 = 8;
 pub const FIELD_COEFFICIENTS: u32 = 9;
-pub const VERSION: u32 = 768;
+pub const VERSION: u32 = 1024;
 
 /// `tilg_transform_scratch`.
 #[repr(C, align(64))]
