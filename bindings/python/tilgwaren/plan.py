@@ -54,7 +54,7 @@ class Plan:
         """How many bytes the planes have."""
         return (1 if self.depth == 8 else 2) * sum(width * height for width, height in self.dimensions())
 
-    def place(self, sample):
+    def position(self, sample):
         """Plane, row and column of a sample, by its number in the planes from 0."""
         for plane, (width, height) in enumerate(self.dimensions()):
             if sample < width * height:
