@@ -134,8 +134,8 @@ class Drawing:
         return self.draw.randint(-3, 3) if mode in DIRECTIONS and leaf.has_steps() else 0
 
     def luma(self, leaf):
-        places = [(x, y) for y in range(leaf.y, leaf.y + leaf.height, 4) for x in range(leaf.x, leaf.x + leaf.width, 4)]
-        return [self.block(leaf) if self.frame.is_coded(*it) else None for it in places]
+        corners = [(x, y) for y in range(leaf.y, leaf.y + leaf.height, 4) for x in range(leaf.x, leaf.x + leaf.width, 4)]
+        return [self.block(leaf) if self.frame.is_coded(*it) else None for it in corners]
 
     def block(self, leaf):
         if leaf.skipped or self.draw.random() < 0.2:
