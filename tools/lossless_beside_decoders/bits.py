@@ -104,22 +104,19 @@ class Tile:
     def node(self, node, x, y, side):
         self.partition(PARTITIONS[node.partition], x, y, side)
         half = side // 2
-        corners = [(x + dx, y + dy) for dy in (0, half) for dx in (0, half) if self.is_coded(x + dx, y + dy)]
+        corners = [(x + dx, y + dy) for dy in (0, half) for dx in (0, half) if self.frame.is_coded(x + dx, y + dy)]
         for at, part in enumerate(node.parts):
             if isinstance(part, Leaf):
                 self.leaf(part)
             else:
                 self.node(part, *corners[at], half)
 
-    def is_coded(self, x, y):
-        return x < self.frame.coded_width and y < self.frame.coded_height
-
     def partition(self, mark, x, y, side):
         above, left = self.beside(x, y)
         context = int(above is not None and above.width < side) + 2 * int(left is not None and left.height < side)
         level = side.bit_length() - 4
         frequencies = self.tables.partition[4 * (level - 1) + context] if level else self.tables.partition_8[context]
-        has_columns, has_rows = self.is_coded(x + side // 2, y), self.is_coded(x, y + side // 2)
+        has_columns, has_rows = self.frame.is_coded(x + side // 2, y), self.frame.is_coded(x, y + side // 2)
         if has_columns and has_rows:
             self.put(mark, frequencies)
         elif has_columns or has_rows:

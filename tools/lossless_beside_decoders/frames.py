@@ -33,6 +33,10 @@ class Frame(tilgwaren.Plan):
     kind: str = "any"
     is_monochrome: bool = False
 
+    def is_coded(self, x, y):
+        """Whether this position is in the coded frame."""
+        return x < self.coded_width and y < self.coded_height
+
 
 # ---- levels: what a bitstream has of coefficients, which a lossless frame multiplies by 4
 
@@ -93,9 +97,6 @@ class Drawing:
                            kind=KINDS[seed // 12 % 5], is_monochrome=self.sampling == 3)
         self.frame.superblocks = [[self.node(x, y, 64) for y in range(0, height, 64) for x in range(0, width, 64)]]
 
-    def is_coded(self, x, y):
-        return x < self.frame.coded_width and y < self.frame.coded_height
-
     def marks(self, x, y, side):
         """The marks that a bitstream can code for a node, and whose leaves plans can say as lossless ones."""
         marks = set(MARKS if self.frame.is_monochrome and side > 8 else MARKS_OF_8[self.sampling] if side == 8 else (3,))
@@ -108,7 +109,7 @@ class Drawing:
 
     def node(self, x, y, side):
         partition = MARKS[self.draw.choice(self.marks(x, y, side))]
-        parts = [it for it in places(partition, x, y, side) if self.is_coded(*it[:2])]
+        parts = [it for it in places(partition, x, y, side) if self.frame.is_coded(*it[:2])]
         is_split = partition == "SPLIT" and side > 8
         return Node(partition, [self.node(*it[:3]) if is_split else self.leaf(*it) for it in parts])
 
@@ -133,8 +134,8 @@ class Drawing:
         return self.draw.randint(-3, 3) if mode in DIRECTIONS and leaf.has_steps() else 0
 
     def luma(self, leaf):
-        places = [(x, y) for y in range(leaf.y, leaf.y + leaf.height, 4) for x in range(leaf.x, leaf.x + leaf.width, 4)]
-        return [self.block(leaf) if self.is_coded(*it) else None for it in places]
+        corners = [(x, y) for y in range(leaf.y, leaf.y + leaf.height, 4) for x in range(leaf.x, leaf.x + leaf.width, 4)]
+        return [self.block(leaf) if self.frame.is_coded(*it) else None for it in corners]
 
     def block(self, leaf):
         if leaf.skipped or self.draw.random() < 0.2:

@@ -91,7 +91,7 @@ def first_difference(frame, wanted, given):
     size = 1 if frame.depth == 8 else 2
     at = next(at for at in range(0, len(wanted), size) if wanted[at:at + size] != given[at:at + size])
     values = [int.from_bytes(it[at:at + size], "little") for it in (wanted, given)]
-    plane, row, column = frame.place(at // size)
+    plane, row, column = frame.position(at // size)
     return f"{'YUV'[plane]} row {row} column {column}: {values[1]}, {values[0]} by {REFERENCE}"
 
 

@@ -60,11 +60,11 @@ class Plans(unittest.TestCase):
         self.assertEqual([[(leaf.x, leaf.y) for leaf in group] for group in shared.chroma_groups()], [[(0, 0), (4, 0), (0, 4), (4, 4)]])
         self.assertEqual([len(leaf.coefficient_lists()) for leaf in shared.leaves()], [1, 1, 1, 3])
 
-    def test_places_of_samples(self):
+    def test_positions_of_samples(self):
         plan = tilgwaren.Plan(5, 3)
-        self.assertEqual([plan.place(sample) for sample in (0, 14, 15, 20, 21, 26)],
+        self.assertEqual([plan.position(sample) for sample in (0, 14, 15, 20, 21, 26)],
                          [(0, 0, 0), (0, 2, 4), (1, 0, 0), (1, 1, 2), (2, 0, 0), (2, 1, 2)])
-        self.assertRaises(ValueError, plan.place, 27)
+        self.assertRaises(ValueError, plan.position, 27)
 
     def test_planes_are_cut_and_padded(self):
         planes = tilgwaren.Planes.read(bytes([1, 2, 3, 4, 5, 6]), [(2, 1), (1, 2), (2, 1)], 8)

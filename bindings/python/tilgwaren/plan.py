@@ -54,7 +54,7 @@ class Plan:
         """How many bytes the planes have."""
         return (1 if self.depth == 8 else 2) * sum(width * height for width, height in self.dimensions())
 
-    def place(self, sample):
+    def position(self, sample):
         """Plane, row and column of a sample, by its number in the planes from 0."""
         for plane, (width, height) in enumerate(self.dimensions()):
             if sample < width * height:
@@ -185,10 +185,8 @@ def read_planes(reader, plan):
     length = min(plan.planes_length(), reader.end - start)
     size = 1 if plan.depth == 8 else 2
     samples, = reader.take(f"{length}s")
-    if size == 2:
-        past = next((at for at in range(0, length - 1, 2) if samples[at + 1] >> plan.depth - 8), None)
-        if past is not None:
-            raise FormatError(start + past)
+    if size == 2 and max(samples[1::2], default=0) >> plan.depth - 8:
+        raise FormatError(start + 2 * next(sample for sample, byte in enumerate(samples[1::2]) if byte >> plan.depth - 8))
     if length < plan.planes_length():
         raise FormatError(start + length // size * size)
     return Planes.read(samples, plan.dimensions(), plan.depth)

@@ -107,7 +107,7 @@ class Comparison:
             self.counts["follow"] += 1
         else:
             first = next((i for i, (a, b) in enumerate(zip(seen, dav1d)) if a != b), None)
-            place = "lengths" if first is None else frame.true.place(first if frame.true.depth == 8 else first // 2)
+            place = "lengths" if first is None else frame.true.position(first if frame.true.depth == 8 else first // 2)
             self.differs(frame, "unlisted", f"encoder and decoder differ first at {place}", said)
 
     def differs(self, frame, count, what, said):

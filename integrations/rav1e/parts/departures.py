@@ -1,8 +1,8 @@
-"""Where rav1e departs from AV1 in plans of versions 1 and 2 (docs/DIFFERENCES.md)."""
+"""The differences from AV1 that rav1e has in plans of versions 1 and 2 (docs/DIFFERENCES.md)."""
 
 
 def departure(plan, leaf):
-    """What docs/DIFFERENCES.md lists of this leaf, where rav1e departs from AV1, or None."""
+    """The difference that docs/DIFFERENCES.md lists for this leaf, or None."""
     chroma = [side >> is_half for side, is_half in zip((leaf.width, leaf.height), plan.halved)]
     if plan.version == 3:
         return None
