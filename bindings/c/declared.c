@@ -336,7 +336,6 @@ tilg_status tilg_builder_begin(tilg_builder *, uint8_t *, size_t, const tilg_pla
 tilg_status tilg_builder_reference(tilg_builder *, uint8_t *, size_t, const uint16_t *, size_t, const uint16_t *,
     size_t, const uint16_t *, size_t);
 tilg_status tilg_builder_mark(tilg_builder *, uint8_t *, size_t, uint8_t);
-tilg_status tilg_builder_finish(size_t *, const tilg_builder *, const uint8_t *, size_t);
 tilg_status tilg_builder_leaf(tilg_builder *, uint8_t *, size_t, uint32_t *, const tilg_leaf *, const tilg_coefficient
     *, size_t, const tilg_coefficient *, size_t, const tilg_coefficient *, size_t);
 tilg_status tilg_builder_next(tilg_next_field *, const tilg_builder *);

@@ -242,7 +242,7 @@ static void builder(void) {
     tilg_builder builder;
     tilg_next_field next;
     uint32_t field;
-    size_t deepest = 0, len;
+    size_t deepest = 0;
     DEEP(tilg_builder_begin(&builder, room, MOST, &header));
     tell("tilg_builder_begin", deepest);
     deepest = 0;
@@ -257,9 +257,6 @@ static void builder(void) {
     deepest = 0;
     DEEP(tilg_builder_next(&next, &builder));
     tell("tilg_builder_next", deepest);
-    deepest = 0;
-    DEEP(tilg_builder_finish(&len, &builder, room, MOST));
-    tell("tilg_builder_finish", deepest);
 }
 
 int main(int count, char **words) {

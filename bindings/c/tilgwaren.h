@@ -682,7 +682,14 @@ TILG_MUST_USE tilg_status tilg_builder_next(tilg_next_field *next, const tilg_bu
 
 /* Says how many bytes the finished plan has: those at the front of `room`. The builder is unchanged.
  * Returns TILG_DONE, TILG_NOT_NOW (a field is still missing) or TILG_BAD_STATE. */
-TILG_MUST_USE tilg_status tilg_builder_finish(size_t *len, const tilg_builder *builder, const uint8_t *room, size_t room_len);
+TILG_MUST_USE static inline tilg_status tilg_builder_finish(size_t *len, const tilg_builder *builder, const uint8_t *room, size_t room_len) {
+    tilg_next_field next;
+    (void)room;
+    if (tilg_builder_next(&next, builder) != TILG_DONE || builder->written > room_len) return TILG_BAD_STATE;
+    if (next.kind != TILG_NEXT_NOTHING) return TILG_NOT_NOW;
+    *len = builder->written;
+    return TILG_DONE;
+}
 
 /* A length of `room` that is enough for every plan with this header and this many coefficients in all: a superblock
  * has at most 85 marks, and 256 leaves of 20 bytes. No plan has more than 2^26 bytes. */

@@ -458,12 +458,10 @@ impl PlanBuilder {
     ///
     /// `NotNow` if a field is still missing.
     pub fn finish(mut self) -> Result<Vec<u8>, BuildError> {
-        let mut len = 0;
-        // SAFETY: pointer and length come from one slice; the call writes only a local.
-        told(unsafe {
-            sys::builder_finish(&mut len, &self.builder, self.room.as_ptr(), self.room.len())
-        })?;
-        self.room.truncate(len);
+        if self.next_field() != Field::End {
+            return Err(BuildError::NotNow);
+        }
+        self.room.truncate(self.builder.written);
         Ok(self.room)
     }
 }

@@ -9,3 +9,4 @@ pub mod Parts
 pub mod TileGrids
 pub mod Sequences
 pub mod TraceCalls
+pub mod NextFields

@@ -1,10 +1,8 @@
-//! The calls of a builder, except the call on leaves.
+//! The calls of a builder that append a header, planes and marks.
 
-ghost use Rattle.std.specs.Prelude.{◌≡◌, ◌≢◌, ◌≤◌, true, length, take, if◌then◌else◌, OnErr, OnOk};
-ghost use Rattle.av1_plan.specs.Grammar.{plan};
+ghost use Rattle.std.specs.Prelude.{◌≡◌, ◌≢◌, true, length, OnErr, OnOk};
 ghost use Rattle.av1_plan.specs.Plan.{PlanValue};
-ghost use Rattle.av1_plan.specs.Spelling.{AreText};
-ghost use Rattle.av1_planwrite.specs.Building.{Tells, asks_more, begun, header_refusal, mark_refusal, plan_begun, plan_with_reference, reference_refusal};
+ghost use Rattle.av1_planwrite.specs.Building.{Tells, begun, header_refusal, mark_refusal, plan_begun, plan_with_reference, reference_refusal};
 ghost use Rattle.av1_planwrite.specs.Building.{with_mark, with_reference};
 ghost use Rattle.av1_c.specs.BuildFaults.{answered, asked_status};
 ghost use Rattle.av1_c.specs.Builders.{Hold, header_of, is_builder, plan_of};
@@ -13,7 +11,6 @@ use crate::appending::{append, append_planes};
 use crate::build_fault::{BuildFault, answer};
 use crate::builder::Builder;
 use crate::plan_header::PlanHeader;
-use crate::status::{BAD_STATE, NOT_NOW};
 use av1_calls::DONE;
 use av1_planwrite::{BuildError, Progress, header_fields};
 
@@ -158,33 +155,4 @@ pub extern "C" fn tilg_builder_mark(builder: &mut Builder, room: &mut [u8], mark
     ensures kept { result ≢ DONE → (builder.new ≡ builder.old) × (room.new ≡ room.old) }
 {
     answer(give_mark(builder, room, mark))
-}
-
-// ---- the end
-
-/// Gives the length of the plan in bytes, after all its fields are given. The plan is at the front of `room`.
-///
-/// `DONE`: `len` has the length. `NOT_NOW`: the plan still needs a field. `BAD_STATE`: `builder` is not a valid builder
-/// over `room`. The call changes neither the builder nor the buffer.
-#[unsafe(no_mangle)]
-pub extern "C" fn tilg_builder_finish(len: &mut usize, builder: &Builder, room: &[u8]) -> u32
-    ensures done { result ≡ DONE → take len.new room.now ≡ (plan_of builder.now room.now).bytes }
-    ensures within { result ≡ DONE → len.new ≤ length room.now }
-    // The bytes are the text of the plan whose parts were given.
-    ensures text { (p : PlanValue) → Tells (plan_of builder.now room.now) p → result ≡ DONE → AreText plan (take len.new room.now) p }
-    // The builder decides the status.
-    ensures status { result ≡ (if is_builder builder.now (length room.now) then (if asks_more (plan_of builder.now room.now) then NOT_NOW else DONE)
-        else BAD_STATE) }
-    ensures kept { result ≢ DONE → len.new ≡ len.old }
-{
-    match builder.progress(room.len()) {
-        Ok(progress) => {
-            if progress.asks_more() {
-                return NOT_NOW;
-            }
-            *len = builder.written;
-            DONE
-        }
-        Err(_) => BAD_STATE,
-    }
 }

@@ -1,7 +1,10 @@
 //! The call of a builder that says what the plan needs next.
 
-ghost use Rattle.std.specs.Prelude.{◌≡◌, ◌≢◌, true, [], if◌then◌else◌};
-ghost use Rattle.av1_planwrite.specs.Building.{asked_part};
+ghost use Rattle.std.specs.Prelude.{◌≡◌, ◌≢◌, ℕ, List, true, [], take, if◌then◌else◌};
+ghost use Rattle.av1_plan.specs.Grammar.{plan};
+ghost use Rattle.av1_plan.specs.Plan.{PlanValue};
+ghost use Rattle.av1_plan.specs.Spelling.{AreText};
+ghost use Rattle.av1_planwrite.specs.Building.{Tells, asked_part};
 ghost use Rattle.av1_c.specs.Builders.{is_builder, plan_of};
 ghost use Rattle.av1_c.specs.NextFields.{next_field, node_size, part_field};
 
@@ -82,13 +85,17 @@ fn next_field(slot: usize, part: Option<Part>) -> NextField
     part_field(part)
 }
 
-/// Says which field the plan needs next. The call changes neither the builder nor the plan.
+/// Says which field the plan needs next. The call changes neither the builder nor the plan. If the plan needs nothing
+/// more, its text is the first `builder.written` bytes of the buffer.
 ///
 /// `DONE`: `next` has the field. `BAD_STATE`: `builder` is not a valid builder.
 #[unsafe(no_mangle)]
 pub extern "C" fn tilg_builder_next(next: &mut NextField, builder: &Builder) -> u32
     // `next` is the field that the grammar needs after the fields so far.
     ensures done { result ≡ DONE → next.new ≡ next_field builder.now.slot (asked_part (plan_of builder.now [])) }
+    // If the plan needs nothing more, the bytes in the buffer are the text of the plan whose parts were given.
+    ensures text { (room : List ℕ) → (p : PlanValue) → Tells (plan_of builder.now room) p → result ≡ DONE → next.new.kind ≡ NEXT_NOTHING
+        → AreText plan (take builder.now.written room) p }
     // The builder decides the status.
     ensures status { result ≡ (if is_builder builder.now builder.now.written then DONE else BAD_STATE) }
     ensures kept { result ≢ DONE → next.new ≡ next.old }

@@ -59,9 +59,7 @@ mod tiles;
 mod transform_calls;
 mod version;
 
-pub use build_calls::{
-    tilg_builder_begin, tilg_builder_finish, tilg_builder_mark, tilg_builder_reference,
-};
+pub use build_calls::{tilg_builder_begin, tilg_builder_mark, tilg_builder_reference};
 pub use build_leaf::tilg_builder_leaf;
 pub use build_next::{NextField, tilg_builder_next};
 pub use builder::{Builder, BuilderPart};

@@ -2,7 +2,6 @@ pub mod IntraCalls
 pub mod EdgeCalls
 pub mod Blocks
 pub mod Limits
-pub mod Residues
 pub mod Lanes
 pub mod Motions
 pub mod LumaCalls
@@ -10,5 +9,4 @@ pub mod CflPads
 pub mod MotionPlaces
 pub mod PlaneCalls
 pub mod MovedBlocks
-pub mod StoredRows
 pub mod Windows

@@ -1,8 +1,10 @@
 -- The least and the greatest of some numbers tell whether all have so many bits.
-use Rattle.std.proofs.Common.{ℕ, ◌≡◌, ◌⊎◌, inl, inr, ◌+◌, ◌<◌, ℤ, ◌≤ℤ◌, List, arith, sym, subst}
+use Rattle.std.proofs.Common.{ℕ, ◌≡◌, ◌⊎◌, inl, inr, ◌+◌, ◌<◌, ◌≤◌, ℤ, pos, ◌≤ℤ◌, List, length, arith, sym, subst}
 use Rattle.std.proofs.lemmas.Bool.{cases_lt}
 use Rattle.std.proofs.lemmas.Int.{ints}
+use Rattle.std.proofs.lemmas.List.{get_or_past}
 use Rattle.av1_dct.specs.Arithmetic.{at, FitsBits}
+use Rattle.av1_dct.proofs.Fits.{zero_fits}
 
 -- The first n numbers lie between these two, each of which fits where they do.
 pub record AreLimits (bits n : ℕ) (numbers : List ℤ) (least greatest : ℤ) : Type 0 where
@@ -37,3 +39,12 @@ limits_on bits n numbers least greatest number least' greatest' is old l0 l1 le 
           λ all. either_fits bits greatest' greatest number ge (old.greatest_fits (λ k h. all k (omega arith)))
           (subst (FitsBits bits) (sym is) (all n (omega arith)));
     }
+
+-- coefficients past the end of a list have so many bits, too
+pub given_fit : (bits count given : ℕ) (coefficients : List ℤ) → ((i : ℕ) → i < count → given ≤ i → length coefficients ≤ i)
+    → ((i : ℕ) → i < given → FitsBits bits (at coefficients i)) → (i : ℕ) → i < count → FitsBits bits (at coefficients i)
+given_fit bits count given coefficients rest fit i h =
+    elim (cases_lt i given) [
+      | inl b ↦ fit i b
+      | inr b ↦ subst (FitsBits bits) (sym (get_or_past coefficients i (pos 0) (rest i h b))) (zero_fits bits)
+    ]

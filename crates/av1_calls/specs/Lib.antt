@@ -9,7 +9,4 @@ pub mod MovedBlocks
 pub mod Samples
 pub mod LumaBlocks
 pub mod TestedSamples
-pub mod AngleSteps
-pub mod SmoothNeighbours
 pub mod CflPads
-pub mod Rows

@@ -1,16 +1,13 @@
--- The contract of the call that finds where a vector leads. AV1 specification: motion vector scaling process at a scale
--- of one, block inter prediction process.
-use Rattle.std.specs.Prelude.{◌≡◌, ◌≢◌, ◌⊎◌, ℕ, ◌+◌, ◌<◌, ◌≤◌, ℤ, pos, ◌+ℤ◌, ◌-ℤ◌, ◌≤ℤ◌}
+-- Where a vector leads. AV1 specification: motion vector scaling process at a scale of one, block inter prediction
+-- process.
+use Rattle.std.specs.Prelude.{◌≡◌, ℕ, ◌+◌, ◌<◌, ◌≤◌, ℤ, pos, ◌+ℤ◌, ◌-ℤ◌, ◌≤ℤ◌}
 use Rattle.av1_frame.specs.Slices.{nearest_visible}
 use Rattle.av1_inter.specs.Reference.{sixteenths, whole_part}
 use Rattle.av1_calls.specs.IntraEdges.{halvings}
 use Rattle.av1_calls.specs.Motions.{AreSides}
-use Rattle.av1_calls.specs.declared.argument.BadArgument.{BadArgument}
-use Rattle.av1_calls.specs.declared.argument.BadArgument.TheVariants as bad
 use Rattle.av1_calls.specs.declared.motion_place.MovedPlace.{MovedPlace}
 use Rattle.av1_calls.specs.declared.motion_place.MotionPlane.{MotionPlane}
 use Rattle.av1_calls.specs.declared.motion_place.MovedBlock.{MovedBlock}
-use Rattle.av1_calls.specs.declared.status.TheConstants.{BAD_AREA, BAD_SIZE, DONE}
 
 -- ---- what is required
 
@@ -50,25 +47,3 @@ pub record IsPlaceOf (plane : MotionPlane) (block : MovedBlock) (place : MovedPl
   pub row_frac : place.row_frac ≡ sixteenths block.row (halvings plane.halved_rows)
   pub few_columns : place.col_frac < 16
   pub few_rows : place.row_frac < 16
-
--- ---- the contracts
-
--- The call finds a place: `before` is the place before the call, `after` after it, and `answer` is the status.
-pub record FindsPlace (plane : MotionPlane) (block : MovedBlock) (before after : MovedPlace) (answer : ℕ) : Type 0 where
-  -- The block may be moved, and the place is where it is read.
-  pub done : answer ≡ DONE → IsMoved plane block × IsPlaceOf plane block after
-  -- The call requires nothing else of its arguments.
-  pub asked : IsMoved plane block → answer ≡ DONE
-  -- The status names the first bad argument, and these clauses say what is wrong with it.
-  pub size : answer ≡ BAD_SIZE → ¬ AreSides block.width block.height
-  pub area : answer ≡ BAD_AREA → AreSides block.width block.height × (¬ LiesNear plane block)
-  -- If the call rejects an argument, the place is unchanged.
-  pub kept : answer ≢ DONE → after ≡ before
-  pub known : (answer ≡ DONE) ⊎ ((answer ≡ BAD_SIZE) ⊎ (answer ≡ BAD_AREA))
-
--- ---- definitions for private contracts: why nothing is written
-
-abbrev pub IsMovedFault : MotionPlane → MovedBlock → BadArgument → Type 0
-IsMovedFault plane block bad.Size = ¬ AreSides block.width block.height
-IsMovedFault plane block bad.Area = AreSides block.width block.height × (¬ LiesNear plane block)
-IsMovedFault plane block _ = ⊥

@@ -304,11 +304,6 @@ IsAverageFault to room width height first second bad.Area = LiesNowhere to room 
 IsAverageFault to room width height first second bad.Short = HasFewOfTwo to room width height first second
 IsAverageFault to room width height first second _ = ⊥
 
-abbrev pub IsSampleFault : (depth : ℕ) → (from : Place) → List ℕ → MotionBlock → BadArgument → Type 0
-IsSampleFault depth from samples block bad.Depth = ¬ IsDepth depth
-IsSampleFault depth from samples block bad.Sample = HasDeepSample depth from samples block
-IsSampleFault depth from samples block _ = ⊥
-
 abbrev pub IsDeepPutFault : (depth : ℕ) (to : Place) (room : ℕ) (from : Place) → List ℕ → MotionBlock →
     BadArgument → Type 0
 IsDeepPutFault depth to room from samples block bad.Depth = IsPut to room from (length samples) block ×

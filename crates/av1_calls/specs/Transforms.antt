@@ -1,7 +1,7 @@
 -- The contracts of the calls that add a residual. Size and type are numbers, the first sample is at column x of row y,
 -- and rows are `stride` samples apart. Coefficients past the end of their list are 0 (`at`).
 use Rattle.std.specs.Prelude.{◌≡◌, ◌≢◌, ◌⊎◌, Bool, true, ℕ, ◌+◌, ◌<◌, IsTrue, Some, ℤ, pos, ◌+ℤ◌, List, length}
-use Rattle.std.specs.Prelude.{map, slice_get}
+use Rattle.std.specs.Prelude.{slice_get}
 use Rattle.av1_blocks.specs.Depths.{IsDepth}
 use Rattle.av1_blocks.specs.Transforms.{coded_area, valid_av1_transform}
 use Rattle.av1_blocks.specs.declared.transform.TheConstants.TxType as tx_types
@@ -9,7 +9,7 @@ use Rattle.av1_blocks.specs.declared.transform.TxSize.{TxSize}
 use Rattle.av1_blocks.specs.declared.transform.TxSize.TheVariants.{TX_4X4}
 use Rattle.av1_blocks.specs.declared.transform.TxType.{TxType}
 use Rattle.av1_blocks.specs.declared.transform.TxType.TheVariants.{WHT_WHT}
-use Rattle.av1_dct.specs.Arithmetic.{at, clamp_value, FitsBits}
+use Rattle.av1_dct.specs.Arithmetic.{at, FitsBits}
 use Rattle.av1_frame.specs.Areas.{AreRows}
 use Rattle.av1_frame.specs.Arithmetic.{clip}
 use Rattle.av1_frame.specs.Samples.{paint}
@@ -58,10 +58,6 @@ with_residue by_av1 depth stride x y size type coefficients samples =
     paint stride (rectangle x y size)
     (λ r c v. clip depth (pos v +ℤ residue_by by_av1 size type depth coefficients r c))
     samples
-
--- each coefficient as the nearest number of this many bits, including its sign
-abbrev pub cut_to : ℕ → List ℤ → List ℤ
-cut_to bits coefficients = map (λ z. clamp_value z bits) coefficients
 
 -- ---- what is rejected: each reason includes that the tests before it passed
 
@@ -120,28 +116,6 @@ pub record AddsResidue (by_av1 wide : Bool) (bit_depth size_number type_number s
   pub kept : answer ≢ DONE → after ≡ before
   pub known : (answer ≡ DONE) ⊎ ((answer ≡ BAD_SIZE) ⊎ ((answer ≡ BAD_TYPE) ⊎ ((answer ≡ BAD_AREA)
       ⊎ OnlyWide wide ((answer ≡ BAD_DEPTH) ⊎ (answer ≡ BAD_COEFFICIENT)))))
-
--- The call adds a residual by AV1's rule, after it clamps coefficients that are too large for the depth.
-pub record AddsClamped (bit_depth size_number type_number stride x y : ℕ) (coefficients : List ℤ)
-    (before after : List ℕ) (answer : ℕ) : Type 0 where
-  -- The arguments name a transform, and the residual of the clamped coefficients is added.
-  pub done : answer ≡ DONE → (size : TxSize) × ((type : TxType)
-      × (IsBlock size_number type_number stride x y (length before) size type
-      × (IsDepth bit_depth
-      × (after ≡ with_residue true bit_depth stride x y size type (cut_to (bit_depth + 8) coefficients) before))))
-  -- The call requires nothing else of its arguments.
-  pub asked : (size : TxSize) → (type : TxType)
-      → IsBlock size_number type_number stride x y (length before) size type
-      → IsDepth bit_depth → answer ≡ DONE
-  -- The status names the first bad argument, and these clauses say what is wrong with it.
-  pub size : answer ≡ BAD_SIZE → HasNoSize size_number
-  pub kind : answer ≡ BAD_TYPE → HasNoType size_number type_number
-  pub area : answer ≡ BAD_AREA → HasNoRectangle size_number type_number stride x y (length before)
-  pub depth : answer ≡ BAD_DEPTH → HasNoDepth bit_depth size_number type_number stride x y (length before)
-  -- If the call rejects an argument, the samples are unchanged.
-  pub kept : answer ≢ DONE → after ≡ before
-  pub known : (answer ≡ DONE) ⊎ ((answer ≡ BAD_SIZE) ⊎ ((answer ≡ BAD_TYPE) ⊎ ((answer ≡ BAD_AREA)
-      ⊎ (answer ≡ BAD_DEPTH))))
 
 -- ---- definitions for private contracts: why nothing is written
 

@@ -76,7 +76,7 @@ struct PredictedBlock {
 
 // The intra mode of this number, except chroma from luma.
 #[inline(always)]
-pub(crate) fn mode_of(number: u8) -> Option<PredictionMode>
+fn mode_of(number: u8) -> Option<PredictionMode>
     ensures found { IfSome result (IsIntraMode number) }
     ensures none { result ≡ None → HasNoMode number }
 {

@@ -1,28 +1,21 @@
 //! Calls on one block of samples. Each call tests all of its arguments.
 //!
 //! - Residual: [`tilg_inverse_transform_add_8`] and [`tilg_inverse_transform_add_16`] add the residual of a block to
-//!   samples, by AV1's rule. [`tilg_inverse_transform_add_clamped_16`] first clamps the coefficients to the depth.
-//!   [`tilg_inverse_transform_add_rav1e_16`] adds the residual by rav1e's rule.
-//! - Motion: [`tilg_put_8tap_8`] and [`tilg_put_8tap_16`] predict a block from a reference. [`tilg_prep_8tap_8`] and
-//!   [`tilg_prep_8tap_16`] prepare a block from one of two references. [`tilg_mc_avg_8`] and [`tilg_mc_avg_16`] average
-//!   two prepared blocks.
-//! - Motion without margins: [`tilg_motion_place`] finds where a vector leads. [`tilg_put_moved_8`],
-//!   [`tilg_put_moved_16`], [`tilg_prep_moved_8`] and [`tilg_prep_moved_16`] follow a vector in a plane without
-//!   margins.
+//!   samples, by AV1's rule. [`tilg_inverse_transform_add_rav1e_16`] adds the residual by rav1e's rule.
+//! - Motion: [`tilg_put_8tap_8`] and [`tilg_put_tested_16`] predict a block from a reference. [`tilg_prep_8tap_8`] and
+//!   [`tilg_prep_tested_16`] prepare a block from one of two references. [`tilg_mc_avg_8`] and [`tilg_mc_avg_16`]
+//!   average two prepared blocks.
+//! - Motion without margins: [`tilg_put_moved_8`], [`tilg_put_moved_16`], [`tilg_prep_moved_8`] and
+//!   [`tilg_prep_moved_16`] follow a vector in a plane without margins.
 //! - Intra: [`tilg_predict_intra_8`], [`tilg_predict_intra_16`], [`tilg_predict_cfl_8`] and [`tilg_predict_cfl_16`]
 //!   predict a block from the edge that the caller passes. [`tilg_intra_edge_8`] and [`tilg_intra_edge_16`] prepare
 //!   this edge from a plane. [`tilg_predict_in_plane_8`] and [`tilg_predict_in_plane_16`] do both.
 //! - Chroma from luma: [`tilg_cfl_ac_8`] and [`tilg_cfl_ac_16`] give the differences of luma from its mean, which
 //!   predict chroma.
-//! - Arguments: [`tilg_cfl_block_of`], [`tilg_angle_step`] and [`tilg_smooth_neighbour`] compute numbers that other
-//!   calls require.
+//! - Arguments: [`tilg_cfl_block_of`] computes numbers that [`tilg_cfl_ac_8`] and [`tilg_cfl_ac_16`] require.
 //!
-//! [`tilg_put_8tap_16`] and [`tilg_prep_8tap_16`] test the samples that they read.
-//! [`tilg_put_tested_16`], [`tilg_prep_tested_16`], [`tilg_put_moved_16`] and [`tilg_prep_moved_16`] don't. For these,
-//! [`tilg_test_samples_16`] tests a reference once.
-//!
-//! [`load_rows`] and [`store_rows`] copy a block from rows of samples and into rows of samples. The caller lends each
-//! row separately. So other threads may use the samples between the rows.
+//! [`tilg_put_tested_16`], [`tilg_prep_tested_16`], [`tilg_put_moved_16`] and [`tilg_prep_moved_16`] do not test the
+//! samples that they read. For these calls, [`tilg_test_samples_16`] tests a reference once.
 //!
 //! This crate uses `av1_itx` for transforms and `av1_inter` for motion, and `av1_edges` and `av1_intra` for intra
 //! prediction. `av1_c` exports the calls for C.
@@ -33,13 +26,11 @@
 //! - Only the four calls that don't test samples have a requirement: no sample that they read is past the depth.
 //! - Valid arguments give [`DONE`], and [`DONE`] says that the arguments are valid.
 //! - After [`DONE`] the contract says what was written: samples (`specs/Transforms.antt`, `specs/Motions.antt`,
-//!   `specs/MovedBlocks.antt`, `specs/IntraBlocks.antt`, `specs/IntraEdges.antt`, `specs/IntraPlanes.antt`), a position
-//!   (`specs/MotionPlaces.antt`), differences of luma (`specs/LumaBlocks.antt`), numbers (`specs/CflPads.antt`,
-//!   `specs/AngleSteps.antt`, `specs/SmoothNeighbours.antt`) or rows (`specs/Rows.antt`).
+//!   `specs/MovedBlocks.antt`, `specs/IntraBlocks.antt`, `specs/IntraEdges.antt`, `specs/IntraPlanes.antt`),
+//!   differences of luma (`specs/LumaBlocks.antt`) or a block of chroma (`specs/CflPads.antt`).
 //! - Each other status names the first bad argument. The output is then unchanged. Scratch buffers may have changed.
 #![tactic(auto)]
 
-mod angle_step;
 mod argument;
 mod cfl_block;
 mod intra;
@@ -54,16 +45,12 @@ mod prep_8tap;
 mod prep_moved;
 mod put_8tap;
 mod put_moved;
-mod rows;
 mod samples;
-mod smooth_neighbour;
 mod status;
 mod tested;
 mod transform_add;
-mod transform_clamped;
 mod window;
 
-pub use angle_step::tilg_angle_step;
 pub use argument::filter_mode;
 pub use av1_itx::TxRoom;
 pub use cfl_block::{LumaLeafBlock, tilg_cfl_block_of};
@@ -78,13 +65,11 @@ pub use intra_plane::{FROM_LUMA, tilg_predict_in_plane_8, tilg_predict_in_plane_
 pub use luma::{CflBlock, tilg_cfl_ac_8, tilg_cfl_ac_16};
 pub use mc_avg::{tilg_mc_avg_8, tilg_mc_avg_16};
 pub use motion::{MotionBlock, RAV1E_SHARP, SHARP};
-pub use motion_place::{MotionPlane, MovedBlock, MovedPlace, tilg_motion_place};
-pub use prep_8tap::{tilg_prep_8tap_8, tilg_prep_8tap_16, tilg_prep_tested_16};
+pub use motion_place::{MotionPlane, MovedBlock};
+pub use prep_8tap::{tilg_prep_8tap_8, tilg_prep_tested_16};
 pub use prep_moved::{tilg_prep_moved_8, tilg_prep_moved_16};
-pub use put_8tap::{tilg_put_8tap_8, tilg_put_8tap_16, tilg_put_tested_16};
+pub use put_8tap::{tilg_put_8tap_8, tilg_put_tested_16};
 pub use put_moved::{tilg_put_moved_8, tilg_put_moved_16};
-pub use rows::{load_rows, store_rows};
-pub use smooth_neighbour::{Neighbours, tilg_smooth_neighbour};
 pub use status::{
     BAD_ANGLE, BAD_AREA, BAD_COEFFICIENT, BAD_DEPTH, BAD_FRACTION, BAD_MODE, BAD_PAD, BAD_SAMPLE,
     BAD_SAMPLING, BAD_SIZE, BAD_TYPE, DONE, ROOM_TOO_SMALL, TOO_SHORT,
@@ -94,4 +79,3 @@ pub use transform_add::{
     tilg_inverse_transform_add_8, tilg_inverse_transform_add_16,
     tilg_inverse_transform_add_rav1e_16,
 };
-pub use transform_clamped::tilg_inverse_transform_add_clamped_16;

@@ -2,12 +2,12 @@
 ghost use Rattle.std.specs.Prelude.{◌≡◌, true, ◌≤◌, IfOk, IfErr, length, drop};
 ghost use Rattle.av1_frame.specs.Samples.{row_start};
 ghost use Rattle.av1_inter.specs.Places.{read_before, read_beside};
-ghost use Rattle.av1_calls.specs.Motions.{AreFilters, AreFractions, AreOfDepth, AreSides, IsAverage, IsAverageFault, IsFilterNumber, IsMotion};
-ghost use Rattle.av1_calls.specs.Motions.{IsMotionFault, IsPrep, IsPrepFault, IsPut, IsPutFault, IsSampleFault, IsSource, filter_along};
+ghost use Rattle.av1_calls.specs.Motions.{AreFilters, AreFractions, AreSides, IsAverage, IsAverageFault, IsFilterNumber, IsMotion};
+ghost use Rattle.av1_calls.specs.Motions.{IsMotionFault, IsPrep, IsPrepFault, IsPut, IsPutFault, IsSource, filter_along};
 ghost use Rattle.av1_calls.specs.Motions.{read_for, rectangle_at};
 
-use crate::argument::{BadArgument, are_rows, filter_mode, is_depth};
-use crate::samples::{are_held, are_held_within};
+use crate::argument::{BadArgument, are_rows, filter_mode};
+use crate::samples::are_held;
 use av1_blocks::FilterMode;
 use av1_frame::{Pixel, StoredArea};
 use av1_inter::{Moved, mode_along};
@@ -250,31 +250,6 @@ pub(crate) fn test_average(
     }
     if first < height * width || second < height * width {
         return Err(BadArgument::Short);
-    }
-    Ok(())
-}
-
-/// Tests the depth, and that no sample that is read for the block is past it.
-///
-/// # Errors
-///
-/// `Depth`, then `Sample`.
-#[inline(always)]
-pub(crate) fn test_samples(
-    from: Place,
-    samples: &[u16],
-    block: MotionBlock,
-    bit_depth: usize,
-) -> Result<(), BadArgument>
-    requires { IsMotion from block (length samples.now) }
-    ensures good { IfOk result (λ _. AreOfDepth bit_depth from samples.now block) }
-    ensures fault { IfErr result (IsSampleFault bit_depth from samples.now block) }
-{
-    if !is_depth(bit_depth) {
-        return Err(BadArgument::Depth);
-    }
-    if !are_held_within(samples, from.stride, read_for(from, block), bit_depth) {
-        return Err(BadArgument::Sample);
     }
     Ok(())
 }

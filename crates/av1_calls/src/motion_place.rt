@@ -1,15 +1,12 @@
 //! Finds where a block that a vector moves is read in its reference.
 //!
 //! AV1 specification: motion vector scaling process at a scale of one, block inter prediction process.
-ghost use Rattle.std.specs.Prelude.{◌≡◌, true, ◌+◌, ◌<◌, ◌≤◌, ◌-ℤ◌, ◌≤ℤ◌, IfOk, IfErr, pos};
-ghost use Rattle.av1_calls.specs.MotionPlaces.{FindsPlace, IsMoved, IsMovedFault, IsPlaceFor, IsPlaceOf, LiesNear, first_read};
+ghost use Rattle.std.specs.Prelude.{◌≡◌, true, ◌+◌, ◌<◌, ◌≤◌, ◌-ℤ◌, ◌≤ℤ◌, pos};
+ghost use Rattle.av1_calls.specs.MotionPlaces.{IsMoved, IsPlaceFor, IsPlaceOf, LiesNear, first_read};
 ghost use Rattle.av1_inter.specs.Reference.{sixteenths, whole_part};
 ghost use Rattle.std.specs.Int.{int_max, int_min};
 
-use crate::argument::BadArgument;
 use crate::intra_edge::{halvings, signed};
-use crate::motion::are_sides;
-use crate::status::DONE;
 use av1_inter::sixteenths;
 
 /// The greatest number of columns, or rows, of a frame.
@@ -58,8 +55,7 @@ pub struct MovedBlock {
 }
 
 /// The position at which a block is read in a reference.
-#[repr(C)]
-#[derive(Clone, Copy, Debug, PartialEq, Eq)]
+#[derive(Clone, Copy)]
 pub struct MovedPlace {
     /// The column of its first sample in the reference, counted from the first visible one.
     pub x: isize,
@@ -82,24 +78,6 @@ pub(crate) fn lies_near(plane: MotionPlane, block: MovedBlock) -> bool
         && plane.height <= MOST
         && block.x <= MOST
         && block.y <= MOST
-}
-
-/// Tests that a vector can move the block.
-///
-/// # Errors
-///
-/// `Size`, then `Area`.
-fn test_moved(plane: MotionPlane, block: MovedBlock) -> Result<(), BadArgument>
-    ensures good { IfOk result (λ _. IsMoved plane block) }
-    ensures fault { IfErr result (IsMovedFault plane block) }
-{
-    if !are_sides(block.width, block.height) {
-        return Err(BadArgument::Size);
-    }
-    if !lies_near(plane, block) {
-        return Err(BadArgument::Area);
-    }
-    Ok(())
 }
 
 // The fraction of a sample by which a component moves a block, in sixteenths.
@@ -158,7 +136,9 @@ fn place_along(at: usize, side: usize, component: i16, decimation: usize, visibl
     kept_between(first, pads_begin(side), signed(visible)) + 3
 }
 
-/// The position at which the block is read.
+/// The position at which the block is read. This is the specification's "motion vector scaling process" at a scale of
+/// one. Each sample outside the plane has the value of the nearest visible sample. So a vector that leads far outside
+/// gets a position nearer to the plane, with the same samples.
 pub(crate) fn place_of(plane: MotionPlane, block: MovedBlock) -> MovedPlace
     requires { IsMoved plane block }
     ensures { IsPlaceOf plane block result }
@@ -169,29 +149,5 @@ pub(crate) fn place_of(plane: MotionPlane, block: MovedBlock) -> MovedPlace
         y: place_along(block.y, block.height, block.row, rows, plane.height),
         col_frac: fraction(block.col, columns),
         row_frac: fraction(block.row, rows),
-    }
-}
-
-/// Finds where a block that a vector moves is read in its reference. This is the specification's "motion vector scaling
-/// process" at a scale of one. `place` becomes the position of the block's first sample, counted from the first visible
-/// sample of the plane. It also gets the fractions of the vector, in sixteenths of a sample. The call does not read the
-/// filters, nor the plane's `stride`, `x` and `y`.
-///
-/// Each sample outside the plane has the value of the nearest visible sample. So a vector that leads far outside gets a
-/// position nearer to the plane, with the same samples. Padding of `width + 7` columns and `height + 7` rows on each
-/// side of the plane is enough for every vector.
-///
-/// `DONE`: success. `BAD_SIZE`: the width or the height is 0 or above 128. `BAD_AREA`: the plane has no samples, or the
-/// plane's dimensions or the block's position are above 65,536.
-pub fn tilg_motion_place(place: &mut MovedPlace, plane: &MotionPlane, block: &MovedBlock) -> u32
-    ensures { FindsPlace plane.now block.now place.old place.new result }
-{
-    let (plane, block) = (*plane, *block);
-    match test_moved(plane, block) {
-        Ok(()) => {
-            *place = place_of(plane, block);
-            DONE
-        }
-        Err(fault) => fault.status(),
     }
 }

@@ -7,7 +7,7 @@ ghost use Rattle.av1_inter.specs.Places.{IsReadFrom};
 ghost use Rattle.av1_calls.specs.Motions.{Prepares, AreOfDepth, HoldBlock, IsDeepPrepFault, IsPrep, IsReadWithin, place, read_at};
 
 use crate::argument::{BadArgument, is_depth};
-use crate::motion::{MotionBlock, Place, moved_by, read_from, test_prep, test_samples};
+use crate::motion::{MotionBlock, Place, moved_by, read_from, test_prep};
 use crate::samples::have_8_bits;
 use crate::status::DONE;
 use av1_frame::Pixel;
@@ -38,27 +38,6 @@ pub(crate) fn prep<T: Pixel>(
         moved_by(block),
         bit_depth,
     );
-}
-
-/// Tests the arguments of a call on samples of 16 bits.
-///
-/// # Errors
-///
-/// `Size`, then `Mode`, then `Fraction`, then `Area`, then `Short`, then `Depth`, then `Sample`.
-#[inline(always)]
-fn test_deep_prep(
-    room: usize,
-    from: Place,
-    samples: &[u16],
-    block: MotionBlock,
-    bit_depth: usize,
-) -> Result<(), BadArgument>
-    ensures good { IfOk result (λ _. IsPrep room from (length samples.now) block) }
-    ensures deep { IfOk result (λ _. AreOfDepth bit_depth from samples.now block) }
-    ensures fault { IfErr result (IsDeepPrepFault bit_depth room from samples.now block) }
-{
-    test_prep(room, from, samples.len(), block)?;
-    test_samples(from, samples, block, bit_depth)
 }
 
 /// Tests the arguments of a call on samples of 16 bits, except the samples.
@@ -123,37 +102,10 @@ pub fn tilg_prep_8tap_8(
 }
 
 /// Prepares a block as [`tilg_prep_8tap_8`] does, from samples of 16 bits at a depth of 8, 10 or 12. At depths above 8,
-/// each value is less by 8192. At 12, a value is 4 times a sample before that.
+/// each value is less by 8192. At 12, a value is 4 times a sample before that. The call does not test the samples. The
+/// caller has to ensure that no sample that is read is past the depth. `tilg_test_samples_16` tests a whole reference.
 ///
-/// `BAD_DEPTH`: samples have no such depth. `BAD_SAMPLE`: a sample that is read is past the depth.
-pub fn tilg_prep_8tap_16(
-    values: &mut [i16],
-    src: &[u16],
-    src_stride: usize,
-    src_x: usize,
-    src_y: usize,
-    block: &MotionBlock,
-    bit_depth: usize,
-) -> u32
-    ensures { Prepares true bit_depth (place src_stride src_x src_y) block.now src.now values.old values.new result }
-{
-    let block = *block;
-    let from = Place {
-        stride: src_stride,
-        x: src_x,
-        y: src_y,
-    };
-    match test_deep_prep(values.len(), from, src, block, bit_depth) {
-        Ok(()) => {
-            prep(values, src, from, block, bit_depth);
-            DONE
-        }
-        Err(refused) => refused.status(),
-    }
-}
-
-/// Prepares a block as [`tilg_prep_8tap_16`] does, but does not test the samples. The caller has to ensure that no
-/// sample that is read is past the depth. `tilg_test_samples_16` tests a whole reference.
+/// `BAD_DEPTH`: samples have no such depth.
 pub fn tilg_prep_tested_16(
     values: &mut [i16],
     src: &[u16],

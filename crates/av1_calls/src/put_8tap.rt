@@ -9,7 +9,7 @@ ghost use Rattle.av1_calls.specs.Motions.{Puts, AreOfDepth, IsDeepPutFault, IsPu
 
 use crate::argument::{BadArgument, is_depth};
 use crate::motion::{
-    MotionBlock, Place, moved_by, read_from, rectangle_at, test_put, test_samples,
+    MotionBlock, Place, moved_by, read_from, rectangle_at, test_put,
 };
 use crate::samples::have_8_bits;
 use crate::status::DONE;
@@ -43,28 +43,6 @@ pub(crate) fn put<T: Pixel>(
         moved_by(block),
         bit_depth,
     );
-}
-
-/// Tests the arguments of a call on samples of 16 bits.
-///
-/// # Errors
-///
-/// `Size`, then `Mode`, then `Fraction`, then `Area`, then `Depth`, then `Sample`.
-#[inline(always)]
-fn test_deep_put(
-    to: Place,
-    room: usize,
-    from: Place,
-    samples: &[u16],
-    block: MotionBlock,
-    bit_depth: usize,
-) -> Result<(), BadArgument>
-    ensures good { IfOk result (λ _. IsPut to room from (length samples.now) block) }
-    ensures deep { IfOk result (λ _. AreOfDepth bit_depth from samples.now block) }
-    ensures fault { IfErr result (IsDeepPutFault bit_depth to room from samples.now block) }
-{
-    test_put(to, room, from, samples.len(), block)?;
-    test_samples(from, samples, block, bit_depth)
 }
 
 /// Tests the arguments of a call on samples of 16 bits, except the samples.
@@ -139,45 +117,11 @@ pub fn tilg_put_8tap_8(
     }
 }
 
-/// Predicts as [`tilg_put_8tap_8`] does, in samples of 16 bits at a depth of 8, 10 or 12.
+/// Predicts as [`tilg_put_8tap_8`] does, in samples of 16 bits at a depth of 8, 10 or 12. The call does not test the
+/// samples. The caller has to ensure that no sample that is read is past the depth. `tilg_test_samples_16` tests a whole
+/// reference.
 ///
-/// `BAD_DEPTH`: samples have no such depth. `BAD_SAMPLE`: a sample that is read is past the depth.
-pub fn tilg_put_8tap_16(
-    dst: &mut [u16],
-    dst_stride: usize,
-    dst_x: usize,
-    dst_y: usize,
-    src: &[u16],
-    src_stride: usize,
-    src_x: usize,
-    src_y: usize,
-    block: &MotionBlock,
-    bit_depth: usize,
-) -> u32
-    ensures { Puts true bit_depth (place dst_stride dst_x dst_y) (place src_stride src_x src_y) block.now src.now dst.old dst.new result }
-{
-    let block = *block;
-    let to = Place {
-        stride: dst_stride,
-        x: dst_x,
-        y: dst_y,
-    };
-    let from = Place {
-        stride: src_stride,
-        x: src_x,
-        y: src_y,
-    };
-    match test_deep_put(to, dst.len(), from, src, block, bit_depth) {
-        Ok(()) => {
-            put(dst, to, src, from, block, bit_depth);
-            DONE
-        }
-        Err(refused) => refused.status(),
-    }
-}
-
-/// Predicts as [`tilg_put_8tap_16`] does, but does not test the samples. The caller has to ensure that no sample that
-/// is read is past the depth. `tilg_test_samples_16` tests a whole reference.
+/// `BAD_DEPTH`: samples have no such depth.
 pub fn tilg_put_tested_16(
     dst: &mut [u16],
     dst_stride: usize,

@@ -206,15 +206,10 @@ fn bound_of(bit_depth: usize) -> u16
     1 << bit_depth
 }
 
-// Whether no sample of a rectangle is past the depth. The last row may end with its samples.
+// Whether no sample of a rectangle is past the depth.
 #[inline(always)]
-pub(crate) fn are_held_within(
-    samples: &[u16],
-    stride: usize,
-    area: StoredArea,
-    bit_depth: usize,
-) -> bool
-    requires rows { AreHeld stride area (length samples.now) }
+pub(crate) fn are_within(samples: &[u16], stride: usize, area: StoredArea, bit_depth: usize) -> bool
+    requires rows { AreRows stride area (length samples.now) }
     requires depths { IsDepth bit_depth }
     ensures true_is { result ≡ true → AreBelow (2 ^ bit_depth) stride area samples.now }
     ensures is_true { AreBelow (2 ^ bit_depth) stride area samples.now → result ≡ true }
@@ -228,17 +223,6 @@ pub(crate) fn are_held_within(
         area.height,
         bound_of(bit_depth),
     )
-}
-
-// The same for a rectangle of whole rows.
-#[inline(always)]
-pub(crate) fn are_within(samples: &[u16], stride: usize, area: StoredArea, bit_depth: usize) -> bool
-    requires rows { AreRows stride area (length samples.now) }
-    requires depths { IsDepth bit_depth }
-    ensures true_is { result ≡ true → AreBelow (2 ^ bit_depth) stride area samples.now }
-    ensures is_true { AreBelow (2 ^ bit_depth) stride area samples.now → result ≡ true }
-{
-    are_held_within(samples, stride, area, bit_depth)
 }
 
 // Whether row `last` ends in `samples` samples. The product has twice the bits of a `usize`, so it can't overflow.

@@ -18,10 +18,10 @@ use av1_itx::{TxRoom, inverse_transform_add_in};
 
 /// A transform, and the rectangle to which its residual is added.
 #[derive(Clone, Copy)]
-pub(crate) struct ResidualBlock {
-    pub(crate) size: TxSize,
-    pub(crate) kind: TxType,
-    pub(crate) area: StoredArea,
+struct ResidualBlock {
+    size: TxSize,
+    kind: TxType,
+    area: StoredArea,
 }
 
 // Whether the size has an inverse transform of this type.
@@ -90,7 +90,7 @@ fn greater(a: i32, b: i32) -> i32
     if a < b { b } else { a }
 }
 
-pub(crate) fn number_at(numbers: &[i32], i: usize) -> i32
+fn number_at(numbers: &[i32], i: usize) -> i32
     requires { i < length numbers.now }
     ensures { result ≡ at numbers.now i }
 {
@@ -134,7 +134,7 @@ fn all_fit(numbers: &[i32], count: usize, bits: usize) -> bool
 }
 
 /// How many of a transform's `count` coefficients the list has. The transform takes 0 for each missing one.
-pub(crate) fn given_count(coefficients: &[i32], count: usize) -> usize
+fn given_count(coefficients: &[i32], count: usize) -> usize
     ensures most { result ≤ count }
     ensures there { result ≤ length coefficients.now }
     ensures all { (i : ℕ) → i < count → result ≤ i → length coefficients.now ≤ i }
@@ -143,7 +143,7 @@ pub(crate) fn given_count(coefficients: &[i32], count: usize) -> usize
 }
 
 /// Whether each of a transform's `count` coefficients fits `bits` bits. A coefficient past the end of the list is 0.
-pub(crate) fn all_given_fit(coefficients: &[i32], count: usize, bits: usize) -> bool
+fn all_given_fit(coefficients: &[i32], count: usize, bits: usize) -> bool
     requires { (1 ≤ bits) × (bits ≤ 32) }
     ensures true_is { result ≡ true → (i : ℕ) → i < count → FitsBits bits (at coefficients.now i) }
     ensures is_true { ((i : ℕ) → i < count → FitsBits bits (at coefficients.now i)) → result ≡ true }
@@ -158,7 +158,7 @@ pub(crate) fn all_given_fit(coefficients: &[i32], count: usize, bits: usize) -> 
 ///
 /// `Size`, then `Kind`, then `Area`, then `Depth`.
 #[inline(always)]
-pub(crate) fn block_at_depth(
+fn block_at_depth(
     tx_size: u8,
     tx_type: u8,
     at: Place,
@@ -208,7 +208,7 @@ fn deep_block_of(
 
 /// Adds the residual of coefficients that fit the depth, by AV1's rule or by rav1e's.
 #[inline(always)]
-pub(crate) fn add_deep(
+fn add_deep(
     scratch: &mut TxRoom,
     coefficients: &[i32],
     samples: &mut [u16],

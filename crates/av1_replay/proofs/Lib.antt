@@ -4,3 +4,4 @@ pub mod Fitting
 pub mod Rectangles
 pub mod Numbered
 pub mod Drawing
+pub mod Reading

@@ -1,11 +1,13 @@
 //! The calls on one block, by the type of samples.
 
+ghost use Rattle.std.specs.Prelude.{◌^◌, ◌<◌, All};
+
 use crate::samples::Target;
 use av1_calls::{
     CflBlock, EdgeBlock, EdgePlane, IntraBlock, MotionBlock, tilg_cfl_ac_8, tilg_cfl_ac_16,
     tilg_intra_edge_8, tilg_intra_edge_16, tilg_mc_avg_8, tilg_mc_avg_16, tilg_predict_cfl_8,
     tilg_predict_cfl_16, tilg_predict_intra_8, tilg_predict_intra_16, tilg_prep_8tap_8,
-    tilg_prep_8tap_16, tilg_put_8tap_8, tilg_put_8tap_16,
+    tilg_prep_tested_16, tilg_put_8tap_8, tilg_put_tested_16,
 };
 use av1_frame::Pixel;
 
@@ -29,17 +31,19 @@ pub struct BlockSides<'a, T> {
 
 /// Types of samples that the calls take. Each call returns its status.
 pub trait Called: Pixel {
-    /// Predicts a block from a reference.
+    /// Predicts a block from a reference whose samples are within the depth.
     fn put(
         to: &mut [Self],
         target: Target,
         from: Source<Self>,
         block: &MotionBlock,
         depth: u8,
-    ) -> u32;
+    ) -> u32
+        requires within { All (λ sample. Self.num sample < 2 ^ depth) from.entry.samples.now };
 
-    /// Prepares a block of a reference.
-    fn prepare(values: &mut [i16], from: Source<Self>, block: &MotionBlock, depth: u8) -> u32;
+    /// Prepares a block of a reference whose samples are within the depth.
+    fn prepare(values: &mut [i16], from: Source<Self>, block: &MotionBlock, depth: u8) -> u32
+        requires within { All (λ sample. Self.num sample < 2 ^ depth) from.entry.samples.now };
 
     /// Averages two prepared blocks.
     fn average(to: &mut [Self], target: Target, first: &[i16], second: &[i16], depth: u8) -> u32;
@@ -178,7 +182,7 @@ impl Called for u16 {
         block: &MotionBlock,
         depth: u8,
     ) -> u32 {
-        tilg_put_8tap_16(
+        tilg_put_tested_16(
             to,
             target.stride,
             target.area.x,
@@ -194,7 +198,7 @@ impl Called for u16 {
 
     fn prepare(values: &mut [i16], from: Source<u16>, block: &MotionBlock, depth: u8) -> u32 {
         let depth = usize::from(depth);
-        tilg_prep_8tap_16(
+        tilg_prep_tested_16(
             values,
             from.samples,
             from.stride,

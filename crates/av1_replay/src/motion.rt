@@ -1,6 +1,6 @@
 //! Replays prediction from references.
 
-ghost use Rattle.std.specs.Prelude.{◌≡◌, ◌+◌, ◌≤◌, IfErr, IfSome, length};
+ghost use Rattle.std.specs.Prelude.{◌≡◌, ◌+◌, ◌^◌, ◌<◌, ◌≤◌, All, IfErr, IfOk, IfSome, length};
 ghost use Rattle.av1_replay.specs.Fields.{unread};
 ghost use Rattle.av1_replay.specs.Rows.{depth_of};
 
@@ -100,6 +100,7 @@ impl Reference {
         numbers: &mut Numbers,
     ) -> Result<Vec<T>, OutOfMemory>
         requires deep { depth_of self.now.format ≤ T.Pixel.BITS }
+        ensures within { IfOk result (λ samples. All (λ sample. T.Pixel.num sample < 2 ^ depth_of self.now.format) samples.items) }
     {
         let count = (usize::from(self.height) + ROUND) * self.stride();
         numbers.samples(alloc, count, self.format.depth(), self.way)

@@ -338,14 +338,6 @@ extern "C" {
     #[link_name = "tilg_builder_mark"]
     pub fn builder_mark(builder: *mut Builder, room: *mut u8, room_len: usize, mark: u8) -> u32;
 
-    #[link_name = "tilg_builder_finish"]
-    pub fn builder_finish(
-        len: *mut usize,
-        builder: *const Builder,
-        room: *const u8,
-        room_len: usize,
-    ) -> u32;
-
     #[link_name = "tilg_builder_leaf"]
     pub fn builder_leaf(
         builder: *mut Builder,

@@ -1,5 +1,5 @@
 use Rattle.std.proofs.Common.{arith}
-use Rattle.av1_calls.proofs.Residues.{given_fit}
+use Rattle.av1_calls.proofs.Limits.{given_fit}
 use Rattle.av1_calls.proofs.transform_add.all_given_fit.Goals as goal
 
 pub returns-clause-true_is : goal.returns-clause-true_is
