@@ -1,5 +1,5 @@
--- Where a vector leads. AV1 specification: motion vector scaling process at a scale of one, block inter prediction
--- process.
+-- The position that a vector leads to. AV1 specification: motion vector scaling process at a scale of one, block
+-- inter prediction process.
 use Rattle.std.specs.Prelude.{◌≡◌, ℕ, ◌+◌, ◌<◌, ◌≤◌, ℤ, pos, ◌+ℤ◌, ◌-ℤ◌, ◌≤ℤ◌}
 use Rattle.av1_frame.specs.Slices.{nearest_visible}
 use Rattle.av1_inter.specs.Reference.{sixteenths, whole_part}

@@ -116,8 +116,8 @@ pub fn tilg_put_8tap_8(
 }
 
 /// Predicts as [`tilg_put_8tap_8`] does, in samples of 16 bits at a depth of 8, 10 or 12. The call does not test the
-/// samples. The caller has to ensure that no sample that is read is past the depth. `tilg_test_samples_16` tests a whole
-/// reference.
+/// samples. The caller has to ensure that no sample that is read is past the depth. `tilg_test_samples_16` tests a
+/// whole reference.
 ///
 /// `BAD_DEPTH`: samples have no such depth.
 pub fn tilg_put_tested_16(
