@@ -8,9 +8,7 @@ ghost use Rattle.av1_inter.specs.Places.{IsReadFrom};
 ghost use Rattle.av1_calls.specs.Motions.{Puts, AreOfDepth, IsDeepPutFault, IsPut, IsReadWithin, moved_sample, place, read_at, rectangle_at};
 
 use crate::argument::{BadArgument, is_depth};
-use crate::motion::{
-    MotionBlock, Place, moved_by, read_from, rectangle_at, test_put,
-};
+use crate::motion::{MotionBlock, Place, moved_by, read_from, rectangle_at, test_put};
 use crate::samples::have_8_bits;
 use crate::status::DONE;
 use av1_frame::Pixel;
