@@ -14,7 +14,7 @@ use av1_frame::Pixel;
 /// The column and row of a block in its reference. The samples that the filters read begin with the first sample.
 pub const BEFORE: usize = 3;
 
-/// The samples of a reference, in rows that are `stride` apart.
+/// Samples of luma, in rows that are `stride` apart.
 #[derive(Clone, Copy)]
 pub struct Source<'a, T> {
     pub samples: &'a [T],
@@ -35,15 +35,22 @@ pub trait Called: Pixel {
     fn put(
         to: &mut [Self],
         target: Target,
-        from: Source<Self>,
+        from: &[Self],
+        stride: usize,
         block: &MotionBlock,
         depth: u8,
     ) -> u32
-        requires within { All (λ sample. Self.num sample < 2 ^ depth) from.entry.samples.now };
+        requires within { All (λ sample. Self.num sample < 2 ^ depth) from.now };
 
     /// Prepares a block of a reference whose samples are within the depth.
-    fn prepare(values: &mut [i16], from: Source<Self>, block: &MotionBlock, depth: u8) -> u32
-        requires within { All (λ sample. Self.num sample < 2 ^ depth) from.entry.samples.now };
+    fn prepare(
+        values: &mut [i16],
+        from: &[Self],
+        stride: usize,
+        block: &MotionBlock,
+        depth: u8,
+    ) -> u32
+        requires within { All (λ sample. Self.num sample < 2 ^ depth) from.now };
 
     /// Averages two prepared blocks.
     fn average(to: &mut [Self], target: Target, first: &[i16], second: &[i16], depth: u8) -> u32;
@@ -83,7 +90,8 @@ impl Called for u8 {
     fn put(
         to: &mut [u8],
         target: Target,
-        from: Source<u8>,
+        from: &[u8],
+        stride: usize,
         block: &MotionBlock,
         _depth: u8,
     ) -> u32 {
@@ -92,16 +100,22 @@ impl Called for u8 {
             target.stride,
             target.area.x,
             target.area.y,
-            from.samples,
-            from.stride,
+            from,
+            stride,
             BEFORE,
             BEFORE,
             block,
         )
     }
 
-    fn prepare(values: &mut [i16], from: Source<u8>, block: &MotionBlock, _depth: u8) -> u32 {
-        tilg_prep_8tap_8(values, from.samples, from.stride, BEFORE, BEFORE, block)
+    fn prepare(
+        values: &mut [i16],
+        from: &[u8],
+        stride: usize,
+        block: &MotionBlock,
+        _depth: u8,
+    ) -> u32 {
+        tilg_prep_8tap_8(values, from, stride, BEFORE, BEFORE, block)
     }
 
     fn average(to: &mut [u8], target: Target, first: &[i16], second: &[i16], _depth: u8) -> u32 {
@@ -178,7 +192,8 @@ impl Called for u16 {
     fn put(
         to: &mut [u16],
         target: Target,
-        from: Source<u16>,
+        from: &[u16],
+        stride: usize,
         block: &MotionBlock,
         depth: u8,
     ) -> u32 {
@@ -187,8 +202,8 @@ impl Called for u16 {
             target.stride,
             target.area.x,
             target.area.y,
-            from.samples,
-            from.stride,
+            from,
+            stride,
             BEFORE,
             BEFORE,
             block,
@@ -196,17 +211,15 @@ impl Called for u16 {
         )
     }
 
-    fn prepare(values: &mut [i16], from: Source<u16>, block: &MotionBlock, depth: u8) -> u32 {
+    fn prepare(
+        values: &mut [i16],
+        from: &[u16],
+        stride: usize,
+        block: &MotionBlock,
+        depth: u8,
+    ) -> u32 {
         let depth = usize::from(depth);
-        tilg_prep_tested_16(
-            values,
-            from.samples,
-            from.stride,
-            BEFORE,
-            BEFORE,
-            block,
-            depth,
-        )
+        tilg_prep_tested_16(values, from, stride, BEFORE, BEFORE, block, depth)
     }
 
     fn average(to: &mut [u16], target: Target, first: &[i16], second: &[i16], depth: u8) -> u32 {

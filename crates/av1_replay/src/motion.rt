@@ -5,7 +5,7 @@ ghost use Rattle.av1_replay.specs.Fields.{unread};
 ghost use Rattle.av1_replay.specs.Rows.{depth_of};
 
 use crate::answer::Answer;
-use crate::called::{Called, Source};
+use crate::called::Called;
 use crate::drawn::Numbers;
 use crate::error::CallFault;
 use crate::fields::Fields;
@@ -115,11 +115,8 @@ impl Reference {
         let count = usize::from(self.width) * usize::from(self.height) + BEHIND;
         let mut values = vec![in alloc; 77; count]?;
         let samples = self.samples::<T>(alloc, &mut Numbers::new(self.seed))?;
-        let from = Source {
-            samples: &samples,
-            stride: self.stride(),
-        };
-        let status = T::prepare(&mut values, from, &self.block(), self.format.depth());
+        let depth = self.format.depth();
+        let status = T::prepare(&mut values, &samples, self.stride(), &self.block(), depth);
         Ok(Answer::of_shorts(alloc, status, &values))
     }
 
@@ -131,13 +128,10 @@ impl Reference {
         let depth = self.format.depth();
         let mut numbers = Numbers::new(self.seed);
         let samples = self.samples::<T>(alloc, &mut numbers)?;
-        let from = Source {
-            samples: &samples,
-            stride: self.stride(),
-        };
         let target = margins.round(usize::from(self.width), usize::from(self.height));
         let mut to = numbers.samples::<T>(alloc, target.count, depth, Way::Any)?;
-        let status = T::put(&mut to, target, from, &self.block(), depth);
+        let (stride, block) = (self.stride(), self.block());
+        let status = T::put(&mut to, target, &samples, stride, &block, depth);
         Ok(Answer::of_samples(alloc, status, &to))
     }
 }

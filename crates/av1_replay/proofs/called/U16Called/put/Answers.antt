@@ -1,6 +1,10 @@
-use Rattle.av1_calls.specs.Motions.{place}
+use Rattle.std.proofs.Common.{ℕ, sym, subst}
+use Rattle.av1_calls.specs.Motions.{IsReadWithin, place}
 use Rattle.av1_replay.proofs.Reading.{read_within}
 use Rattle.av1_replay.proofs.called.U16Called.put.Goals as goal
 
 pub tilg_put_tested_16-requires : goal.tilg_put_tested_16-requires
-tilg_put_tested_16-requires c = read_within c.args.depth (place c.args.from.stride 3 3) c.args.block.now c.args.from.samples.now c.requires.within
+tilg_put_tested_16-requires c =
+    let a = c.args in
+    let from = place a.stride 3 3 in
+    subst (λ (depth : ℕ). IsReadWithin depth from a.block.now a.from.now) (sym c.from.ensures) (read_within a.depth from a.block.now a.from.now c.requires.within)
