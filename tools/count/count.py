@@ -91,7 +91,7 @@ class Counts:
             found += 1
             if crate == "av1_c":
                 self.exports.add(name)
-            elif number > MOST_PARAMETERS and name not in RAV1E and not name.startswith("av1_"):
+            elif number > MOST_PARAMETERS and name not in RAV1E and not name.startswith("tilg_"):
                 self.wide.append(f"{crate}::{name} ({number})")
         return found
 
