@@ -12,8 +12,6 @@ __attribute__((constructor)) static void keep(int number, char **given) {
     words = given;
 }
 
-size_t rattle_arg_count(void) { return count; }
-
 /* Puts argument `i` at the start of `room`, and returns its length: -1 if there is no such argument, -2 if it is longer than `room`. */
 ptrdiff_t rattle_arg(size_t i, char *room, size_t len) {
     if (i >= count) return -1;
