@@ -17,6 +17,7 @@
  * What is measured begins when all arguments are in memory. dav1d's transforms also clear the coefficients, so the library's
  * measured calls include that they are cleared afterwards. */
 #include "src/library.c"
+#include "src/scan.h"
 
 #include <dlfcn.h>
 #include <valgrind/callgrind.h>
@@ -234,7 +235,7 @@ static uint64_t make_intra(const call *const c, const int by, const int times) {
 static uint64_t make_cfl_ac(const call *const c, const int by, const int times) {
     static const uint8_t layouts[4] = { DAV1D_PIXEL_LAYOUT_I444, DAV1D_PIXEL_LAYOUT_I422, 0, DAV1D_PIXEL_LAYOUT_I420 };
     const int w = c->w, h = c->h, halved = c->more[0], w_pad = c->more[1], h_pad = c->more[2];
-    const tilg_cfl_block b = { cfl_sizes[ctz(w) - 2][ctz(h) - 2], halved & 1, halved >> 1 & 1, (size_t) w_pad, (size_t) h_pad };
+    const tilg_cfl_block b = { tilg_block_size_of((size_t) w, (size_t) h), halved & 1, halved >> 1 & 1, (size_t) w_pad, (size_t) h_pad };
     if (by >= OWN) {
         READY(library, libraries[by - OWN].cfl_ac);
         MEASURED(status |= library(written.values, (size_t) (w * h), samples, ROWS * STRIDE, STRIDE, 0, 0, &b ANY_DEPTH_ARG));
@@ -257,12 +258,12 @@ static uint64_t make_cfl_pred(const call *const c, const int by, const int times
 }
 
 static uint64_t make_itx(const call *const c, const int by, const int times) {
-    const int tx = tx_sizes[ctz(c->w) - 2][ctz(c->h) - 2], type = c->more[0], eob = c->more[1];
-    const size_t n = length(eob, tx, type);
+    const int tx = tilg_tx_size_of((size_t) c->w, (size_t) c->h), type = c->more[0], eob = c->more[1];
+    const size_t n = tilg_coefficients_len((uint8_t) tx, (uint8_t) type, (size_t) eob + 1);
     for (int i = 0; i < times; i++) memcpy(written.coefficients[i], drawn_coefficients, sizeof(drawn_coefficients));
     if (by >= OWN) {
         READY(library, libraries[by - OWN].itx);
-        MEASURED(status |= library(&scratch, written.coefficients[i], n, LIBRARY_ROWS, (uint8_t) tx, (uint8_t) type DEPTH_ARG);
+        MEASURED(status |= library(LIBRARY_ROWS, &scratch, written.coefficients[i], n, (uint8_t) tx, (uint8_t) type DEPTH_ARG);
                  memset(written.coefficients[i], 0, n * sizeof(coef)));
     }
     READY(own, tables[by].itx.itxfm_add[tx][type]);
@@ -289,7 +290,6 @@ static uint64_t make(const call *const c, const int by, const int times) {
 /* ---- all implementations */
 
 static COLD void init_tables(void) {
-    init_lengths();
     for (int by = 0; by < OWN; by++) {
         dav1d_set_cpu_flags_mask(masks[by]);
         bitfn(dav1d_mc_dsp_init)(&tables[by].mc);
@@ -302,7 +302,7 @@ static void prepare(const call *const c) {
     if (!tables[0].mc.avg) init_tables();
     prepare_edge(c->w, c->h);
     if (!strcmp(c->kind, "itx"))
-        draw_coefficients(tx_sizes[ctz(c->w) - 2][ctz(c->h) - 2], c->more[0], c->more[1], c->w, c->h);
+        draw_coefficients(tilg_tx_size_of((size_t) c->w, (size_t) c->h), c->more[0], c->more[1], c->w, c->h);
 }
 
 /* Compares the results of all implementations with those of dav1d's C, samples beside the block too. */
