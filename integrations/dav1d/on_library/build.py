@@ -78,7 +78,7 @@ def build(archive, as_drawn=False, sanitize="none"):
             sys.exit(f"{name} is missing: apt-get install --no-install-recommends {package}")
     archive, changes = os.path.abspath(archive), EDITS + ([] if as_drawn else DRAWS)
     kind = "as_drawn" if as_drawn else "av1"
-    source = os.path.join(OUT, kind if sanitize == "none" else f"{kind}_{sanitize}", f"dav1d-{VERSION}")
+    source = os.path.join(OUT, kind if sanitize == "none" else f"{kind}_{sanitize.replace(',', '_')}", f"dav1d-{VERSION}")
     folder, stamp = os.path.join(source, "build"), os.path.join(source, "built-of")
     headers = sorted(glob.glob(os.path.join(BINDINGS, "c/tilgwaren*.h")))
     made = digest([*FILES, *headers, archive], repr(changes))

@@ -31,7 +31,7 @@ LUMA = ("  let leaf = crate::library::Luma {\n    block: bsize,\n    transform: 
 
 # What `library.rs` has otherwise in 0.8.1: the type of a count, and a buffer that the caller of `get_intra_edges` has.
 OWN = [
-    Edit("the type of a count", "src/library.rs", "_eob: usize,", "_eob: u16,"),
+    Edit("the type of a count", "src/library.rs", "eob: usize,", "eob: u16,"),
     Edit("a buffer for sides", "src/library.rs", "pub fn get_intra_edges<T: Pixel>(\n  dst:",
          "pub fn get_intra_edges<T: Pixel>(\n  _buffer: &mut crate::util::Aligned<[std::mem::MaybeUninit<T>; 1]>, dst:"),
 ]

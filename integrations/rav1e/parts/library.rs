@@ -226,7 +226,7 @@ pub fn inverse_transform_add<T: Pixel>(
   _cpu: CpuFeatureLevel,
 ) {
   let sides = (tx_size.width(), tx_size.height());
-  let input = &input[..tilgwaren::coefficients_len(named(tx_size as usize), named(tx_type as usize), eob)];
+  let input = &input[..tilgwaren::coefficients_len(named(tx_size as usize), named(tx_type as usize), eob as usize)];
   let block = |at: Place| TransformBlock { tx_size: named(tx_size as usize), tx_type: named(tx_type as usize), x: at.x, y: at.y };
   SCRATCH.with(|scratch| {
     let scratch = &mut scratch.borrow_mut();
