@@ -44,6 +44,21 @@ fn rise(bit_depth: usize) -> i16
     }
 }
 
+/// The sum of a number and such a rise, or the greatest number of 16 bits.
+#[inline(always)]
+fn raised<T: Pixel>(number: i16, rise: i16) -> i16
+    requires { Between 0 16400 rise }
+    ensures { result ≡ saturate_signed w16 (number +ℤ rise) }
+{
+    if T::BITS == 8 {
+        // The compiler knows the rise: this is one instruction.
+        held_sum(number, rise)
+    } else {
+        // The number is cut before the sum, so the sum never leaves 16 bits.
+        number.min(32767 - rise) + rise
+    }
+}
+
 /// The number of the sample that is the average of two prepared values. A compiler knows all but the shift if samples
 /// have one byte: a known shift next to the limits makes it form these in a longer way.
 #[inline(always)]
@@ -53,7 +68,7 @@ fn average_number<T: Pixel>(first: i16, second: i16, bit_depth: usize) -> i16
     ensures { result ≡ pos (averaged bit_depth first second) }
 {
     let known = depth_of::<T>(bit_depth);
-    let sum = held_sum(held_sum(first, second), rise(known));
+    let sum = raised::<T>(held_sum(first, second), rise(known));
     (sum >> (intermediate_bits(bit_depth) + 1))
         .max(0)
         .min(greatest(known))

@@ -79,13 +79,6 @@ entry_bound u n k m h l =
       | inr e ↦ subst (λ v. n / 2 ^ (6 - v) + k * 2 ^ v + 1 ≤ (m + k) * 2 ^ v) (let f : 1 ≡ u = omega arith in f) (omega arith)
     ]
 
-pub upsampled_few : (u s : ℕ) → u ≤ 1 → s ≤ 128 → s * 2 ^ u ≤ 256
-upsampled_few u s h l =
-    elim (cases_eq u 0) [
-      | inl e ↦ subst (λ v. s * 2 ^ v ≤ 256) (sym e) (omega arith)
-      | inr e ↦ subst (λ v. s * 2 ^ v ≤ 256) (let f : 1 ≡ u = omega arith in f) (omega arith)
-    ]
-
 pub upsampled_le : (u a b : ℕ) → a ≤ b → a * 2 ^ u ≤ b * 2 ^ u
 upsampled_le u a b h = mul-le-mul_right (2 ^ u) h
 

@@ -1,4 +1,6 @@
 pub mod Mixes
+pub mod Groups
+pub mod Nearest
 pub mod RowReads
 pub mod Filter
 pub mod Upsampled
@@ -7,7 +9,10 @@ pub mod Derivatives
 pub mod Ranges
 pub mod RowParts
 pub mod Lines
-pub mod PaintedColumns
+pub mod Repeated
+pub mod EightLanes
+pub mod Doubled
+pub mod FilledStrips
 pub mod ModeAngles
 pub mod Means
 pub mod Weighted

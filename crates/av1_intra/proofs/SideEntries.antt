@@ -9,7 +9,6 @@ use Rattle.av1_frame.proofs.Update.{length-update, get_or-update}
 use Rattle.av1_intra.specs.Sides.{Side, entries, numbers}
 use Rattle.av1_intra.specs.Directional.{side}
 use Rattle.av1_intra.specs.EdgeFilter.{filtered}
-use Rattle.av1_intra.specs.Upsampling.{upsampled}
 
 -- a list whose first w entries were painted by a side, which is the list's own side from there on
 pub entries_painted : (w : ℕ) (F : Side) (s t : List ℕ) → t ≡ paint_row w (λ e _. F e) s → w ≤ length s → ((e : ℕ) → w ≤ e → F e ≡ entries s e) → entries t ≡ F
@@ -46,15 +45,10 @@ entries_filtered size n s old t q e l =
     ∙ ap (λ v. paint_row size (λ e _. filtered n s v e) old) r in
     entries_painted size (filtered n s (entries old)) old t a l (λ k h. grind (arith, nat_tests))
 
--- what the upsampling leaves of a list
-pub entries_upsampled : (depth m : ℕ) (old t : List ℕ) → t ≡ paint_row (2 * m + 1) (λ e _. upsampled depth m (numbers (λ x. x) old) e) old →
-    2 * m + 1 ≤ length old → entries t ≡ upsampled depth m (entries old)
-unfolding upsampled
-entries_upsampled depth m old t q l =
-    let r : numbers (λ (x : ℕ). x) old ≡ entries old = ap entries (map-id old) in
-    let a : t ≡ paint_row (2 * m + 1) (λ e _. upsampled depth m (entries old) e) old = q ∙ ap (λ v. paint_row (2 * m + 1) (λ e _. upsampled depth m v e) old) r
-    in
-    entries_painted (2 * m + 1) (upsampled depth m (entries old)) old t a l (λ k h. grind (arith, nat_tests))
+-- what the filter leaves past the places that it smooths
+pub kept_past : (n strength e : ℕ) (A : Side) → n < e → filtered n strength A e ≡ A e
+unfolding filtered
+kept_past n strength e A h = grind (arith, nat_tests)
 
 -- a side that holds n places is 0 past them, and holds the number of each
 pub side_past : (x n e : ℕ) (xs : List ℕ) → n + 1 ≤ e → entries (x ∷ take n xs) e ≡ 0

@@ -48,6 +48,7 @@ pub fn dr_intra_derivative(p_angle: usize) -> usize
 }
 
 /// The weight of luma in eighths: 0 for a parameter of another kind.
+#[inline]
 pub fn alpha_of(intra_param: IntraParam) -> i16
     ensures { result ≡ alpha_of intra_param }
 {
@@ -58,6 +59,7 @@ pub fn alpha_of(intra_param: IntraParam) -> i16
 }
 
 /// The angle of a mode and its parameter in degrees; for chroma from luma, the weight in eighths.
+#[inline]
 pub fn angle_or_alpha(mode: PredictionMode, intra_param: IntraParam) -> isize
     ensures { result ≡ angle_or_alpha mode intra_param }
 {

@@ -24,6 +24,7 @@ use av1_blocks::PredictionMode;
 use av1_frame::{Pixel, StoredArea};
 
 /// Returns the samples of a left side next to a block of `height` rows: the last ones.
+#[inline(always)]
 fn beside<T: Pixel>(left: &[T], height: usize) -> &[T]
     ensures last { result.now ≡ drop (length left.now - height) left.now }
     ensures len { length result.now ≡ min height (length left.now) }
@@ -32,6 +33,7 @@ fn beside<T: Pixel>(left: &[T], height: usize) -> &[T]
 }
 
 /// Returns the sample of DC prediction, from the sides that lie in the tile.
+#[inline(always)]
 fn dc_sample<T: Pixel>(
     variant: PredictionVariant,
     above: &[T],
@@ -57,6 +59,7 @@ fn dc_sample<T: Pixel>(
 }
 
 /// Predicts a rectangle along an angle: 90 and 180 degrees copy a side.
+#[inline(always)]
 fn predict_along<T: Pixel>(
     samples: &mut [T],
     stride: usize,
@@ -83,6 +86,7 @@ fn predict_along<T: Pixel>(
 }
 
 /// Predicts a rectangle by one of the smooth modes, or by Paeth prediction.
+#[inline(never)]
 fn predict_smooth<T: Pixel>(
     mode: PredictionMode,
     samples: &mut [T],
@@ -124,6 +128,7 @@ fn predict_smooth<T: Pixel>(
 /// the corner.
 ///
 /// AV1 specification: intra prediction process.
+#[inline(always)]
 pub fn dispatch_predict_intra_to<T: Pixel>(
     mode: PredictionMode,
     variant: PredictionVariant,

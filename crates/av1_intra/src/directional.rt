@@ -9,9 +9,9 @@ ghost use Rattle.av1_intra.specs.Directional.{directional};
 ghost use Rattle.av1_intra.specs.Blocks.{IsRectangle};
 
 use crate::angle::dr_intra_derivative;
-use crate::columns::{Slopes, columns_past_180, rows_between};
-use crate::filtered_side::{FilteredSide, prepare_above, prepare_left};
+use crate::filtered_side::{FilteredSide, prepare_above, prepare_left, repeat_entry};
 use crate::interpolation::rows_below_90;
+use crate::strips::{Slopes, columns_past_180, rows_between};
 use av1_frame::{Pixel, StoredArea};
 
 /// A block as an intra mode predicts it.
@@ -55,6 +55,7 @@ fn directional_below_90<T: Pixel>(
     let smoothed = block.width.min(block.visible_columns) + block.height;
     let mut side = FilteredSide::empty();
     prepare_above(&mut side, above, corner, block, smoothed, places);
+    repeat_entry(&mut side.numbers, places << side.upsampling);
     rows_below_90(samples, stride, area, &side, places, dx, block.bit_depth);
 }
 
@@ -155,6 +156,7 @@ fn directional_past_180<T: Pixel>(
 /// `corner` is between both. A side that the angle doesn't meet is not read.
 ///
 /// AV1 specification: directional intra prediction process.
+#[inline(never)]
 pub fn pred_directional_to<T: Pixel>(
     samples: &mut [T],
     stride: usize,

@@ -8,13 +8,27 @@ use av1_frame::{Pixel, StoredArea, fill_area};
 
 /// Sets each sample of the rectangle to `value`. The rows of `samples` are `stride` apart. This is `fill_area` with the
 /// widths of transforms known to the compiler.
+#[inline(always)]
 pub fn fill_block<T: Pixel>(samples: &mut [T], stride: usize, area: StoredArea, value: T)
     requires rows { AreRows stride area (length samples.old) }
     ensures { samples.new ≡ paint stride area (λ _ _ _. value) samples.old }
 {
+    if area.width == 4 {
+        fill_columns(samples, stride, area, value, 4);
+    } else if area.width == 8 {
+        fill_columns(samples, stride, area, value, 8);
+    } else {
+        fill_wide(samples, stride, area, value);
+    }
+}
+
+/// As `fill_block`, for rectangles of more columns.
+#[inline(never)]
+fn fill_wide<T: Pixel>(samples: &mut [T], stride: usize, area: StoredArea, value: T)
+    requires rows { AreRows stride area (length samples.old) }
+    ensures { samples.new ≡ paint stride area (λ _ _ _. value) samples.old }
+{
     match area.width {
-        4 => fill_columns(samples, stride, area, value, 4),
-        8 => fill_columns(samples, stride, area, value, 8),
         16 => fill_columns(samples, stride, area, value, 16),
         32 => fill_columns(samples, stride, area, value, 32),
         64 => fill_columns(samples, stride, area, value, 64),

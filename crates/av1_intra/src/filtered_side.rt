@@ -1,15 +1,16 @@
 //! A side of a block as directional prediction reads it: filtered, and upsampled, as the angle requires.
 
-ghost use Rattle.std.specs.Prelude.{◌≡◌, ◌+◌, ◌-◌, ◌*◌, ◌/◌, ◌<◌, ◌≤◌, length, map, take, reverse, replicate, if◌then◌else◌, IsTrue};
+ghost use Rattle.std.specs.Prelude.{◌≡◌, ℕ, ◌+◌, ◌-◌, ◌*◌, ◌/◌, ◌<◌, ◌≤◌, length, map, take, reverse, replicate, if◌then◌else◌, IsTrue};
 ghost use Rattle.av1_intra.specs.Sides.{entries, distance};
 ghost use Rattle.av1_intra.specs.EdgeFilter.{filtered};
 ghost use Rattle.av1_intra.specs.Upsampling.{upsampled};
-ghost use Rattle.av1_intra.specs.Directional.{side, blend, prepared, upsampling};
+ghost use Rattle.av1_intra.specs.Directional.{side, prepared, upsampling};
+ghost use Rattle.av1_intra.specs.Scaffolding.{IsRepeated};
 
 use crate::directional::DirectionalBlock;
 use crate::edge_filter::{filter_edge, select_ief_strength};
-use crate::upsampling::{select_ief_upsample, upsample_edge};
-use av1_frame::{Pixel, clip};
+use crate::upsampling::{select_ief_upsample, upsample_side};
+use av1_frame::{Pixel, fill_row};
 
 /// The greatest number of entries of a side: a corner and 128 places, upsampled.
 const ENTRIES: usize = 257;
@@ -62,15 +63,16 @@ fn prepare(
     bit_depth: usize,
 )
     requires strength { strength ≤ 3 }
-    requires smoothed { smoothed ≤ 128 }
+    requires smoothed { (smoothed ≤ 128) × (smoothed ≤ places) }
     requires places { IsTrue upsample → places ≤ 61 }
+    requires past { (e : ℕ) → places < e → entries numbers.old e ≡ 0 }
     requires depth { bit_depth ≤ 16 }
     ensures { entries numbers.new ≡ (if upsample then upsampled bit_depth places (filtered smoothed strength (entries numbers.old))
         else filtered smoothed strength (entries numbers.old)) }
 {
     filter_edge(smoothed + 1, strength, numbers);
     if upsample {
-        upsample_edge(places, numbers, bit_depth);
+        upsample_side(numbers, places, bit_depth);
     }
 }
 
@@ -83,8 +85,9 @@ fn filter_side(
     smoothed: usize,
     places: usize,
 ) -> usize
-    requires smoothed { smoothed ≤ 128 }
+    requires smoothed { (smoothed ≤ 128) × (smoothed ≤ places) }
     requires places { places ≤ block.width + block.height }
+    requires past { (e : ℕ) → places < e → entries numbers.old e ≡ 0 }
     requires sides { block.width + block.height ≤ 128 }
     requires angle { block.p_angle < 300 }
     requires straight { straight < 300 }
@@ -122,7 +125,7 @@ pub(crate) fn prepare_above<T: Pixel>(
     places: usize,
 )
     requires empty { ready.old.numbers ≡ replicate 257 0 }
-    requires smoothed { smoothed ≤ 128 }
+    requires smoothed { (smoothed ≤ 128) × (smoothed ≤ places) }
     requires places { places ≤ block.width + block.height }
     requires sides { block.width + block.height ≤ 128 }
     requires long { places ≤ length above.now }
@@ -147,7 +150,7 @@ pub(crate) fn prepare_left<T: Pixel>(
     places: usize,
 )
     requires empty { ready.old.numbers ≡ replicate 257 0 }
-    requires smoothed { smoothed ≤ 128 }
+    requires smoothed { (smoothed ≤ 128) × (smoothed ≤ places) }
     requires places { places ≤ block.width + block.height }
     requires sides { block.width + block.height ≤ 128 }
     requires long { places ≤ length left.now }
@@ -162,6 +165,17 @@ pub(crate) fn prepare_left<T: Pixel>(
     ready.upsampling = filter_side(&mut ready.numbers, block, 180, smoothed, places);
 }
 
+/// Repeats the entry `last` after it, as far as a row of 64 samples reads.
+pub(crate) fn repeat_entry(numbers: &mut [u16; ENTRIES], last: usize)
+    requires { last ≤ 128 }
+    ensures kept { (k : ℕ) → k ≤ last → entries numbers.new k ≡ entries numbers.old k }
+    ensures repeated { IsRepeated last (entries numbers.new) }
+{
+    let value = numbers[last];
+    let (_, rest) = numbers.split_at_mut(last);
+    fill_row(rest, value, 66);
+}
+
 impl FilteredSide {
     /// A side without samples.
     pub(crate) fn empty() -> FilteredSide
@@ -171,17 +185,5 @@ impl FilteredSide {
             numbers: [0; ENTRIES],
             upsampling: 0,
         }
-    }
-
-    /// The sample between the entries `e` and `e + 1`, `z` 32nds past the first.
-    pub(crate) fn blended<T: Pixel>(&self, e: usize, z: u32, bit_depth: usize) -> T
-        requires e { e < 256 }
-        requires z { z < 32 }
-        requires depth { bit_depth ≤ T.BITS }
-        ensures { result ≡ T.pixel (blend bit_depth (entries self.now.numbers) e z) }
-    {
-        let near = u32::from(self.numbers[e]);
-        let far = u32::from(self.numbers[e + 1]);
-        clip(((near * (32 - z) + far * z + 16) / 32) as i32, bit_depth)
     }
 }

@@ -28,7 +28,6 @@
 mod angle;
 mod by_mode;
 mod chroma_from_luma;
-mod columns;
 mod dc;
 mod directional;
 mod edge_filter;
@@ -40,9 +39,11 @@ mod laws;
 mod luma;
 mod neighbours;
 mod paeth;
+mod row_lines;
 mod samples;
 mod smooth;
 mod straight;
+mod strips;
 mod upsampling;
 mod variant;
 

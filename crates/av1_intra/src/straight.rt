@@ -12,14 +12,32 @@ use av1_frame::{Pixel, StoredArea, copy_row, fill_row};
 
 /// Predicts the samples of a rectangle: each row becomes the samples of `above`, which runs from the left. The rows of
 /// `samples` are `stride` apart. Samples of `above` past the rectangle's width are not read.
+#[inline(always)]
 pub fn pred_v_to<T: Pixel>(samples: &mut [T], stride: usize, area: StoredArea, above: &[T])
     requires rows { AreRows stride area (length samples.old) }
     requires above_long { area.width ≤ length above.now }
     ensures { samples.new ≡ paint stride area (λ _ c _. T.pixel (numbers T.num above.now c)) samples.old }
 {
+    if area.width == 4 {
+        copy_down(samples, stride, area, above, 4);
+    } else if area.width == 8 {
+        copy_down(samples, stride, area, above, 8);
+    } else {
+        copy_down_wide(samples, stride, area, above);
+    }
+}
+
+/// As `pred_v_to`, for rectangles of more columns.
+#[inline(never)]
+fn copy_down_wide<T: Pixel>(samples: &mut [T], stride: usize, area: StoredArea, above: &[T])
+    requires rows { AreRows stride area (length samples.old) }
+    requires above_long { area.width ≤ length above.now }
+    ensures { samples.new ≡ paint stride area (λ _ c _. T.pixel (numbers T.num above.now c)) samples.old }
+{
     match area.width {
-        4 => copy_down(samples, stride, area, above, 4),
-        8 => copy_down(samples, stride, area, above, 8),
+        16 => copy_down(samples, stride, area, above, 16),
+        32 => copy_down(samples, stride, area, above, 32),
+        64 => copy_down(samples, stride, area, above, 64),
         _ => copy_down(samples, stride, area, above, area.width),
     }
 }
@@ -50,14 +68,32 @@ fn copy_down<T: Pixel>(
 ///
 /// `left` runs from the bottom up: of as many samples as the rectangle has rows, the last is next to the first row.
 /// Other samples are not read.
+#[inline(always)]
 pub fn pred_h_to<T: Pixel>(samples: &mut [T], stride: usize, area: StoredArea, left: &[T])
     requires rows { AreRows stride area (length samples.old) }
     requires left_long { area.height ≤ length left.now }
     ensures { samples.new ≡ paint stride area (λ r _ _. T.pixel (from_top T.num area.height left.now r)) samples.old }
 {
+    if area.width == 4 {
+        copy_across(samples, stride, area, left, 4);
+    } else if area.width == 8 {
+        copy_across(samples, stride, area, left, 8);
+    } else {
+        copy_across_wide(samples, stride, area, left);
+    }
+}
+
+/// As `pred_h_to`, for rectangles of more columns.
+#[inline(never)]
+fn copy_across_wide<T: Pixel>(samples: &mut [T], stride: usize, area: StoredArea, left: &[T])
+    requires rows { AreRows stride area (length samples.old) }
+    requires left_long { area.height ≤ length left.now }
+    ensures { samples.new ≡ paint stride area (λ r _ _. T.pixel (from_top T.num area.height left.now r)) samples.old }
+{
     match area.width {
-        4 => copy_across(samples, stride, area, left, 4),
-        8 => copy_across(samples, stride, area, left, 8),
+        16 => copy_across(samples, stride, area, left, 16),
+        32 => copy_across(samples, stride, area, left, 32),
+        64 => copy_across(samples, stride, area, left, 64),
         _ => copy_across(samples, stride, area, left, area.width),
     }
 }

@@ -18,6 +18,7 @@ pub enum PredictionVariant {
 
 impl PredictionVariant {
     /// The variant of a block at column `x` of row `y` of the tile.
+    #[inline]
     pub fn new(x: usize, y: usize) -> PredictionVariant
         ensures { result ≡ variant_at x y }
     {

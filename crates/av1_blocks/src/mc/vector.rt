@@ -1,12 +1,13 @@
 //! The arithmetic of motion vectors, component by component.
 #![tactic(auto)]
 
-ghost use Rattle.std.specs.Prelude.{◌≡◌, ◌<◌, ◌≤◌, ◌^◌, ◌↔◌, pos, IsTrue};
+ghost use Rattle.std.specs.Prelude.{◌≡◌, ◌<◌, ◌≤◌, ◌^◌, ◌↔◌, pos, int_rem, nat_abs, IsTrue};
 ghost use Rattle.av1_blocks.specs.Vectors.{
   FitsVector,
   added,
   scaled,
   shifted_right,
+  to_whole,
   to_fullpel,
   IsFullpel,
   IsNoLonger,
@@ -28,8 +29,8 @@ impl MotionVector {
         ensures once { to_fullpel result ≡ result }
     {
         MotionVector {
-            row: self.row / 8 * 8,
-            col: self.col / 8 * 8,
+            row: component_to_fullpel(self.row),
+            col: component_to_fullpel(self.col),
         }
     }
 
@@ -49,6 +50,17 @@ impl MotionVector {
     {
         is_valid_component(self.row) && is_valid_component(self.col)
     }
+}
+
+/// A component cut to whole samples, toward zero.
+#[inline]
+fn component_to_fullpel(component: i16) -> i16
+    ensures value { result ≡ to_whole component }
+    ensures whole { int_rem result (pos 8) ≡ pos 0 }
+    ensures nearer { nat_abs result ≤ nat_abs component }
+    ensures once { to_whole result ≡ result }
+{
+    component / 8 * 8
 }
 
 /// Whether a component lies strictly between its bounds.
@@ -87,10 +99,7 @@ impl Mul<u16> for MotionVector {
 
     #[inline]
     fn mul(self, rhs: u16) -> MotionVector {
-        MotionVector {
-            row: self.row * rhs as i16,
-            col: self.col * rhs as i16,
-        }
+        self * rhs as i16
     }
 }
 

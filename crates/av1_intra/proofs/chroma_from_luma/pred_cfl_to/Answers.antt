@@ -17,6 +17,6 @@ pub returns-else-alpha-eq0 : goal.returns-else-alpha-eq0
 returns-else-alpha-eq0 g c =
     let a = to_z-of_z w16 c.args.alpha c.ranges.alpha in
     let t = some_weight c.args.alpha c.if-alpha-eq0.false in
-    c.block_from_luma.ensures
+    c.weighted_from_luma.ensures
     ∙ paint_same c.args.stride c.args.area _ _ c.args.samples.now
     (λ q p v h k. ap g.T.Pixel.pixel (weighed c.args.bit_depth c.args.alpha _ (g.T.Pixel.num c.args.dc) (ac_at c.args.area.width c.args.ac.now q p) a t))

@@ -1,7 +1,13 @@
-use Rattle.std.proofs.Common.{ap, ◌∙◌}
+use Rattle.std.proofs.Common.{arith, ap, ◌∙◌, map}
+use Rattle.av1_intra.proofs.SideEntries.{side_past}
 use Rattle.av1_intra.specs.Sides.{Side, distance}
 use Rattle.av1_intra.specs.Directional.{prepared}
 use Rattle.av1_intra.proofs.filtered_side.prepare_above.Goals as goal
+
+pub filter_side-ready-requires-clause-past : goal.filter_side-ready-requires-clause-past
+filter_side-ready-requires-clause-past g c = λ e l.
+    ap (λ (A : Side). A e) c.above_numbers.ensures
+    ∙ side_past (g.T.Pixel.num c.args.corner) c.args.places e (map g.T.Pixel.num c.args.above.now) (omega (arith, l))
 
 pub returns-clause-numbers : goal.returns-clause-numbers
 returns-clause-numbers g c =

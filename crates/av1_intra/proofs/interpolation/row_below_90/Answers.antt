@@ -1,52 +1,65 @@
-use Rattle.std.proofs.Common.{ℕ, ◌≡◌, ◌+◌, ◌-◌, ◌*◌, ◌/◌, ◌^◌, ◌≤◌, length, get_or, take, min, arith, ap, ◌∙◌, sym, subst, pos, to_z, of_z, w32}
-use Rattle.std.proofs.lemmas.Int.{ints}
-use Rattle.std.proofs.lemmas.List.{places}
-use Rattle.av1_frame.specs.Arithmetic.{clip}
+use Rattle.std.proofs.Common.{ℕ, ◌≡◌, ◌<◌, ◌∙◌, ◌+◌, ◌*◌, ◌^◌, min, arith, ap, subst, sym}
+use Rattle.av1_frame.specs.Samples.{paint_row}
+use Rattle.av1_frame.proofs.Depths.{below_depth}
+use Rattle.av1_frame.proofs.Paint.{paint_row_none}
 use Rattle.av1_intra.specs.Sides.{entries}
 use Rattle.av1_intra.specs.Directional.{at, below_90}
-use Rattle.av1_intra.proofs.Derivatives.{upsampled_few}
-use Rattle.av1_intra.proofs.RowParts.{painted_front, painted_rest}
-use Rattle.av1_intra.proofs.Lines.{columns_before, columns_inside, shifted, interpolated_column, repeated_column}
+use Rattle.av1_intra.proofs.Groups.{group_inside}
+use Rattle.av1_intra.proofs.Lines.{at_moved}
+use Rattle.av1_intra.proofs.Repeated.{at_repeated, few_numbers, eight_in_reach, sample_in_reach}
+use Rattle.av1_intra.proofs.Within.{at_within}
 use Rattle.av1_intra.proofs.interpolation.row_below_90.Goals as goal
 
-pub interpolate_row-requires-clause-inside : goal.interpolate_row-requires-clause-inside
-interpolate_row-requires-clause-inside g c = λ some.
-    let u = c.args.above.now.upsampling in
-    let m = c.min-count.result in
-    let last = shifted u c.args.sides c.requires.upsampling (omega arith) in
-    let M : m ≡ min c.args.width (columns_before u c.args.sides c.args.n) = c.min-count.ensures
-    ∙ ap (λ v. min c.args.width ((v + u) / 2 ^ u)) (c.saturating_sub.ensures ∙ ap (λ v. v - c.args.n / 2 ^ (6 - u)) last) in
-    let e : length (take m c.args.row.now) ≡ m = grind (arith, places) in
-    subst (λ l. c.args.n / 2 ^ (6 - u) + l * 2 ^ u ≤ 256 + u) (sym e)
-    (columns_inside u c.args.sides c.args.n m c.requires.upsampling c.requires.sides (omega (arith, M)) (omega (arith, some, e)))
+pub loop-g-init : goal.loop-g-init
+loop-g-init g c =
+    let a = c.args in
+    let f = λ (j : ℕ) (_v : g.row.T.Denot). g.T.Pixel.pixel (below_90 a.bit_depth (entries a.above.now.numbers) a.above.now.upsampling a.sides a.n j) in
+    let none : 0 ≡ g.row.N * 0 = omega arith in
+    paint_row_none f a.row.now ∙ ap (λ n. paint_row n f a.row.now) none
 
-pub bounds-above-last : goal.bounds-above-last
-bounds-above-last g c =
-    let b = upsampled_few c.args.above.now.upsampling c.args.sides c.requires.upsampling c.requires.sides in
-    let e = shifted c.args.above.now.upsampling c.args.sides c.requires.upsampling (omega arith) in
-    omega arith
+pub eight_from-line-requires-clause-n : goal.eight_from-line-requires-clause-n
+eight_from-line-requires-clause-n g c =
+    let a = c.args in
+    few_numbers a.above.now.upsampling a.sides g.row.N a.groups c.loop-g.g c.min-n.result c.requires.upsampling
+    (group_inside g.row.N a.groups c.loop-g.g c.loop-g-test.true) c.requires.reach c.requires.sides (omega (arith, c.min-n.ensures))
+
+pub eight_from-line-requires-clause-inside : goal.eight_from-line-requires-clause-inside
+eight_from-line-requires-clause-inside g c =
+    let a = c.args in
+    eight_in_reach a.above.now.upsampling a.sides g.row.N a.groups c.loop-g.g c.min-n.result c.requires.upsampling
+    (group_inside g.row.N a.groups c.loop-g.g c.loop-g-test.true) c.requires.reach c.requires.sides (omega (arith, c.min-n.ensures))
+
+pub write_numbers-requires-clause-fits : goal.write_numbers-requires-clause-fits
+write_numbers-requires-clause-fits g c = λ q l.
+    let a = c.args in
+    subst (λ (n : ℕ). n < 2 ^ g.T.Pixel.BITS) (sym (c.eight_from-line.ensures (0 + q) (omega (arith, l, c.requires.short))))
+    (below_depth _ a.bit_depth g.T.Pixel.BITS (at_within a.bit_depth (entries a.above.now.numbers) a.above.now.upsampling _ (0 + q)) c.requires.depth)
+
+pub loop-g-preserved : goal.loop-g-preserved
+loop-g-preserved g c =
+    let a = c.args in
+    let E = entries a.above.now.numbers in
+    let u = a.above.now.upsampling in
+    let m = g.row.N in
+    let k = c.loop-g.g in
+    let n = c.min-n.result in
+    let f = λ (j : ℕ) (_v : g.row.T.Denot). g.T.Pixel.pixel (below_90 a.bit_depth E u a.sides a.n j) in
+    let inside = group_inside m a.groups k c.loop-g-test.true in
+    let next : m * k + m ≡ m * (k + 1) = grind arith in
+    c.write_numbers.ensures f a.row.now c.loop-g.invariant
+    (λ q v l. let z : m * k + (0 + q) ≡ m * k + q = omega arith in
+    ap g.T.Pixel.pixel (c.eight_from-line.ensures (0 + q) (omega (arith, l, c.requires.short))
+    ∙ at_moved a.bit_depth E u n (m * k) (0 + q) c.requires.upsampling
+    ∙ ap (λ x. at a.bit_depth E u x (m * k + (0 + q))) c.min-n.ensures
+    ∙ ap (λ x. at a.bit_depth E u (min a.n (64 * a.sides)) x) z
+    ∙ at_repeated a.bit_depth E u a.sides a.n (m * k + q) c.requires.upsampling
+    (sample_in_reach u m a.groups k q c.requires.upsampling inside l c.requires.reach)
+    c.requires.repeated))
+    ∙ ap (λ n. paint_row n f a.row.now) next
 
 pub returns : goal.returns
 returns g c =
-    let u = c.args.above.now.upsampling in
-    let s = c.args.sides in
-    let n = c.args.n in
-    let w = c.args.width in
-    let m = c.min-count.result in
-    let depth = c.args.bit_depth in
-    let E = entries c.args.above.now.numbers in
-    let last = shifted u s c.requires.upsampling (omega arith) in
-    let M : m ≡ min w (columns_before u s n) = c.min-count.ensures
-    ∙ ap (λ v. min w ((v + u) / 2 ^ u)) (c.saturating_sub.ensures ∙ ap (λ v. v - n / 2 ^ (6 - u)) last) in
-    let F = λ (k : ℕ) (_v : _). g.T.Pixel.pixel (at depth E u n k) in
-    let G = λ (k : ℕ) (_v : _). g.T.Pixel.pixel (below_90 depth E u s n k) in
-    let front =
-    painted_front m _ F G c.args.row.now c.interpolate_row.new.row (omega (arith, M))
-    (grind (arith, places)) c.interpolate_row.ensures
-    (λ k v l. ap g.T.Pixel.pixel (interpolated_column depth E u s n k c.requires.upsampling (omega (arith, M)))) in
-    let whole : to_z w32 (of_z w32 c.from.result) ≡ c.from.result = omega (arith, ints) in
-    painted_rest m _ w (λ _ _. c.clip-end.result) G c.args.row.now _ c.fill_row.new.row (omega (arith, M)) c.requires.row_long (grind (arith, places)) front
-    c.fill_row.ensures
-    (λ k v l. c.clip-end.ensures
-    ∙ ap g.T.Pixel.pixel (ap (clip depth) (whole ∙ c.from.ensures ∙ ap (λ e. pos (get_or c.args.above.now.numbers e 0)) last)
-    ∙ repeated_column depth E u s n (m + k) c.requires.upsampling (omega (arith, M))))
+    let a = c.args in
+    let f = λ (j : ℕ) (_v : g.row.T.Denot). g.T.Pixel.pixel (below_90 a.bit_depth (entries a.above.now.numbers) a.above.now.upsampling a.sides a.n j) in
+    let all : c.loop-g.g ≡ a.groups = omega arith in
+    c.loop-g.invariant ∙ ap (λ k. paint_row (g.row.N * k) f a.row.now) all

@@ -1,0 +1,12 @@
+use Rattle.std.proofs.Common.{◌≡◌, ◌+◌, slice_index_or, pos, ◌+ℤ◌}
+use Rattle.av1_frame.specs.Arithmetic.{clip}
+use Rattle.av1_frame.specs.Samples.{paint_row}
+use Rattle.av1_intra.specs.ChromaFromLuma.{scaled_luma}
+use Rattle.av1_intra.proofs.chroma_from_luma.line_from_luma.Given as goal
+
+abbrev pub invariant-loop-c : goal.invariant-loop-c
+invariant-loop-c g l =
+    l.line ≡ paint_row l.c
+    (λ c _. g.T.Pixel.pixel
+    (clip l.weight.bit_depth (pos (g.T.Pixel.num l.weight.dc) +ℤ scaled_luma l.weight.alpha (slice_index_or l.ac (l.start + c) (pos 0)))))
+    l.initial.line

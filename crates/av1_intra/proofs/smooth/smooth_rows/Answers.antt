@@ -1,0 +1,24 @@
+use Rattle.std.proofs.Common.{ℕ, ◌+◌, ◌-◌, ◌/◌, ◌∙◌, ap, slice_index, sym}
+use Rattle.av1_frame.specs.Samples.{paint_row}
+use Rattle.av1_frame.proofs.Paint.{row_painted_rest}
+use Rattle.av1_intra.specs.Sides.{numbers}
+use Rattle.av1_intra.specs.Smooth.{mix}
+use Rattle.av1_intra.proofs.smooth.smooth_rows.Goals as goal
+
+pub loop-r-preserved : goal.loop-r-preserved
+loop-r-preserved g c =
+    let a = c.args in
+    let num = g.T.Pixel.num in
+    let rows = c.split_at_mut-row.ensures in
+    let row = c.split_at_mut-row.result.1.now in
+    let F = λ (n side bottom right : ℕ).
+    paint_row n
+    (λ q (_v : g.row.T.Denot).
+    g.T.Pixel.pixel ((mix (slice_index c.smooth_weights-row_weights.result.now c.loop-r.r) (numbers num a.above.now q) bottom + mix
+    (slice_index c.smooth_weights-column_weights.result.now q) side right + 256) / 512)) row in
+    row_painted_rest _ a.area c.loop-r.r _ _ c.loop-r.samples _ _ _ c.requires.rows c.loop-r-test.true c.loop-r.invariant rows.front rows.back
+    (c.smooth_row.ensures
+    ∙ ap (λ n. F n c.number_at-side.result c.number_at-bottom.result c.number_at-right.result) (sym c.requires.groups)
+    ∙ ap (λ s. F a.area.width s c.number_at-bottom.result c.number_at-right.result) c.number_at-side.ensures.value
+    ∙ ap (λ b. F a.area.width (numbers num a.left.now (a.area.height - 1 - c.loop-r.r)) b c.number_at-right.result) c.number_at-bottom.ensures.value
+    ∙ ap (λ e. F a.area.width (numbers num a.left.now (a.area.height - 1 - c.loop-r.r)) (numbers num a.left.now 0) e) c.number_at-right.ensures.value)

@@ -1,0 +1,12 @@
+use Rattle.std.proofs.Common.{◌≡◌, ◌+◌, ◌-◌, ◌/◌, slice_index}
+use Rattle.av1_frame.specs.Samples.{corner, paint}
+use Rattle.av1_intra.specs.Sides.{numbers}
+use Rattle.av1_intra.specs.Smooth.{mix}
+use Rattle.av1_intra.proofs.smooth.smooth_rows.Given as goal
+
+abbrev pub invariant-loop-r : goal.invariant-loop-r
+invariant-loop-r g l =
+    l.samples ≡ paint l.stride (corner l.area l.area.width l.r)
+    (λ r c _. g.T.Pixel.pixel ((mix (slice_index l.row_weights r) (numbers g.T.Pixel.num l.above c) (numbers g.T.Pixel.num l.left 0) + mix
+    (slice_index l.column_weights c) (numbers g.T.Pixel.num l.left (l.area.height - 1 - r)) (numbers g.T.Pixel.num l.above (l.area.width - 1)) + 256) / 512))
+    l.initial.samples

@@ -1,0 +1,10 @@
+use Rattle.std.proofs.Common.{◌+◌, ◌*◌}
+use Rattle.av1_intra.specs.Sides.{entries}
+use Rattle.av1_intra.specs.Directional.{at}
+use Rattle.av1_intra.specs.Scaffolding.{IsFilled}
+use Rattle.av1_intra.proofs.strips.fill_past_180.Given as goal
+
+abbrev pub invariant-loop-c : goal.invariant-loop-c
+invariant-loop-c g l =
+    IsFilled g.row.STEP l.c (λ _. 0) (λ r c. at l.bit_depth (entries l.left.numbers) l.left.upsampling ((c + 1) * l.dy + 64) (l.first + r)) l.initial.strip
+    l.strip
