@@ -7,12 +7,11 @@ use Rattle.av1_blocks.specs.Depths.{IsDepth}
 use Rattle.av1_blocks.specs.Transforms.{tx_width, tx_height, coded, coded_area, valid_av1_transform}
 use Rattle.av1_dct.specs.Arithmetic.{at, FitsBits}
 use Rattle.av1_itx.specs.declared.block.Block.{Block}
-use Rattle.av1_itx.specs.Kinds.{column_kind, row_kind}
+use Rattle.av1_itx.specs.declared.inverse.StridedArea.{StridedArea}
+use Rattle.av1_itx.specs.Kinds.{column_kind}
 use Rattle.av1_itx.specs.Networks.{HasNetwork}
-use Rattle.av1_itx.specs.Residue.{column_power, column_range, is_lossless, row_input, row_power, row_range}
-use Rattle.av1_itx.specs.Scaffolding.{AreCoefficients, AreColumns, block_columns, block_rows, column_bits}
-use Rattle.av1_itx.proofs.ExactRows.{network_row}
-use Rattle.av1_itx.proofs.Passes.{input-fits}
+use Rattle.av1_itx.specs.Residue.{column_power, column_range, is_lossless, row_power}
+use Rattle.av1_itx.specs.Scaffolding.{AreCoefficients, AreColumns, IsPlaceFor, block_columns, column_bits}
 use Rattle.av1_itx.proofs.Sizes.{both_run, sides}
 use Rattle.av1_itx.proofs.Widths.{is_length}
 
@@ -26,6 +25,14 @@ groups size =
     elim size as (λ t. (4 * (tx_width t / 4) ≡ tx_width t) × (8 ≤ tx_width t → 8 * (tx_width t / 8) ≡ tx_width t) × (tx_width t ≤ 64))
     [ TX_4X4 ↦ (refl, (λ h. omega arith), omega arith) | _ ↦ (refl, (λ h. omega arith), omega arith) ]
 
+-- so is the width of the place for a block
+pub width_in_fours : {block : Block} {place : StridedArea} {count : ℕ} → IsPlaceFor block place count → 4 * (place.area.width / 4) ≡ place.area.width
+width_in_fours {block} p = subst (λ (n : ℕ). 4 * (n / 4) ≡ n) (sym p.width) (groups block.tx_size).0
+
+pub width_in_eights : {block : Block} {place : StridedArea} {count : ℕ} → IsPlaceFor block place count → 8 ≤ place.area.width →
+    8 * (place.area.width / 8) ≡ place.area.width
+width_in_eights {block} p = subst (λ (n : ℕ). 8 ≤ n → 8 * (n / 8) ≡ n) (sym p.width) (groups block.tx_size).1
+
 -- how many samples and coefficients a block has at most
 pub areas : (size : TxSize) → (tx_height size * tx_width size ≤ 4096) × (tx_width size * coded (tx_height size) ≤ 2048)
 areas size =
@@ -38,32 +45,6 @@ pub coefficients_are : {C : Type 0} (val : C → ℤ) (block : Block) (input : L
 coefficients_are val block input depth valid lossless fit =
     let both = both_run block.tx_size block.tx_type valid lossless in
     record { depth = (omega arith, omega arith); rows = both.0; columns = both.1; fit = fit }
-
--- rows that were filled
-pub rows_are : (block : Block) (count : ℕ) (cs scaled : List ℤ) → (8 ≤ block.bd) × (block.bd ≤ 12)
-    → HasNetwork (row_kind block.tx_type) (row_power block.tx_size) → 4 * (count / 4) ≡ count
-    → (8 ≤ coded (tx_height block.tx_size) → 8 * (count / 8) ≡ count) → count ≤ coded (tx_height block.tx_size)
-    → length scaled ≡ tx_width block.tx_size * coded (tx_height block.tx_size)
-    → ((c r : ℕ) → c < tx_width block.tx_size → r < coded (tx_height block.tx_size)
-    → at scaled (c * coded (tx_height block.tx_size) + r) ≡ row_input block.tx_size block.tx_type block.bd cs r c)
-    → AreColumns (block_rows block count) scaled
-rows_are block count cs scaled depth has fours eights within long filled =
-    let size = block.tx_size in
-    let P : ℤ → Type 0 = λ z. FitsBits (row_range block.bd) z in
-    let s = sides size in
-    let few : coded (tx_height size) ≤ 64 = omega arith in
-    record {
-      fours = fours;
-      eights = eights;
-      within = within;
-      few = few;
-      height = is_length (row_power size) (tx_width size) s.0 s.1 (powers size).0;
-      power = (powers size).0;
-      has = network_row block.by_av1 block.tx_type (row_power size) has;
-      long = long;
-      range = (omega arith, omega arith);
-      fit = λ c r hc hr. subst P (sym (filled c r hc (omega (arith, hr, within)))) (input-fits size block.tx_type block.bd cs r c);
-    }
 
 pub bits_in : (block : Block) → block.bd ≤ 12 → (16 ≤ column_bits block) × (column_bits block ≤ 20)
 bits_in block few =

@@ -14,11 +14,11 @@ pub mod Outputs
 pub mod Zeros
 pub mod ExactRows
 pub mod Passes
-pub mod Tiles
 pub mod Eights
 pub mod Sizes
 pub mod Unclamped
 pub mod Handed
+pub mod Added
 pub mod Singles
 pub mod Shifts
 pub mod NoWrap

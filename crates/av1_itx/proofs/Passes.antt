@@ -1,29 +1,29 @@
 -- The rows and the columns of a block.
 use Rattle.std.proofs.Common.{ℕ, Bool, true, false, cond, ltb, ◌&&◌, ◌≡◌, ◌≤◌, ◌<◌, ◌+◌, ◌*◌, ◌/◌, ◌^◌, ℤ, pos, ◌*ℤ◌, List, All, arith, ap, sym, subst, ◌∙◌}
 use Rattle.std.proofs.Common.{refl}
-use Rattle.std.proofs.Common.{inl, inr, length, min}
+use Rattle.std.proofs.Common.{inl, inr, length}
 use Rattle.std.specs.Int.{int_shr}
 use Rattle.std.proofs.lemmas.Bool.{cases_lt}
 use Rattle.std.proofs.lemmas.Bool.Decides.{nat_tests}
 use Rattle.std.proofs.lemmas.Nat.{pow_pos}
-use Rattle.std.proofs.Math.Nat.{div-eq_of_lt, mul-le-mul_right}
+use Rattle.std.proofs.Math.Nat.{div-eq_of_lt}
 use Rattle.std.proofs.lemmas.List.{get_or_past}
 use Rattle.av1_blocks.specs.declared.transform.TxSize.{TxSize}
 use Rattle.av1_blocks.specs.declared.transform.TxType.{TxType}
 use Rattle.av1_blocks.specs.declared.transform.TxType.TheVariants.{WHT_WHT}
-use Rattle.av1_blocks.specs.Transforms.{tx_width, tx_height, coded, coded_area}
+use Rattle.av1_blocks.specs.Transforms.{tx_width, tx_height, coded}
 use Rattle.av1_dct.specs.Arithmetic.{at, FitsBits, clamp_value}
 use Rattle.av1_dct.specs.Columns.{column_of}
 use Rattle.av1_lists.specs.Lists.{by_index}
+use Rattle.av1_dct.proofs.Places.{at-by_index}
 use Rattle.av1_dct.proofs.Zero.{IsZero, clamp-zero, cond-zero, by_index-zero}
 use Rattle.av1_frame.specs.Arithmetic.{round_shift}
 use Rattle.av1_itx.specs.Kinds.{row_kind_by, column_kind}
 use Rattle.av1_itx.specs.Networks.{network, network_with}
 use Rattle.av1_itx.specs.Residue.{row_value, row_input, row_power, row_range, row_shift, is_two_to_one, is_lossless, transformed_row}
 use Rattle.av1_itx.specs.Residue.{column_network, column_power, column_range, column_shift, column_value, transformed_column, residue_by}
-use Rattle.av1_lists.proofs.Lists.{by_index-all, by_index-same}
+use Rattle.av1_lists.proofs.Lists.{by_index-all, by_index-same, length-by_index}
 use Rattle.av1_dct.proofs.Fits.{zero_fits, clamp_value-fits, all-fit}
-use Rattle.av1_itx.proofs.Lines.{place_in}
 use Rattle.av1_itx.proofs.Outputs.{network-fits}
 use Rattle.av1_itx.proofs.Zeros.{network-zero, zero_line}
 
@@ -39,24 +39,6 @@ input_past size type depth cs r c h = grind (arith, nat_tests)
 row_value-zero : (size : TxSize) (type : TxType) (depth : ℕ) → row_value size type depth (pos 0) ≡ pos 0
 unfolding row_value
 row_value-zero size type depth = clamp-zero _ (row_range depth) (cond-zero (is_two_to_one size) _ _ refl (cond-zero (is_lossless type) _ _ refl refl))
-
--- An input of a row, where z is the scaled coefficient at a place that is given, and 0 elsewhere.
-pub input_given : (size : TxSize) (type : TxType) (depth : ℕ) (cs : List ℤ) (given r c : ℕ) (z : ℤ) → given ≡ min (length cs) (coded_area size)
-    → r < coded (tx_height size)
-    → (c * coded (tx_height size) + r < given → z ≡ row_value size type depth (at cs (c * coded (tx_height size) + r)))
-    → (given ≤ c * coded (tx_height size) + r → z ≡ pos 0)
-    → z ≡ row_input size type depth cs r c
-input_given size type depth cs given r c z is hr below past =
-    let h = coded (tx_height size) in
-    let p = c * h + r in
-    elim (cases_lt c (coded (tx_width size))) [
-      | inl hc ↦ (let inside = place_in c r h (coded (tx_width size)) hc hr in elim (cases_lt p given) [
-        | inl lo ↦ below lo ∙ input_in size type depth cs r c hc
-        | inr hi ↦ (let none : at cs p ≡ pos 0 = get_or_past cs p (pos 0) (omega arith) in
-            past hi ∙ sym (row_value-zero size type depth) ∙ ap (row_value size type depth) (sym none) ∙ input_in size type depth cs r c hc)
-      ])
-      | inr hc ↦ (let room = mul-le-mul_right h hc in past (omega arith) ∙ input_past size type depth cs r c hc)
-    ]
 
 pub input-fits : (size : TxSize) (type : TxType) (depth : ℕ) (cs : List ℤ) (r c : ℕ) → FitsBits (row_range depth) (row_input size type depth cs r c)
 unfolding row_input row_value
@@ -143,6 +125,22 @@ pub taken-zero : (by_av1 : Bool) (size : TxSize) (type : TxType) (depth : ℕ) (
 taken-zero by_av1 size type depth z none =
     let shifted = shifted-zero z (row_shift size) none in
     cond-zero (by_av1 && is_lossless type) _ _ shifted (clamp-zero _ (column_range depth) shifted)
+
+-- past the last row of coefficients
+pub taken-past : (by_av1 : Bool) (size : TxSize) (type : TxType) (depth : ℕ) (cs : List ℤ) (r c : ℕ) → coded (tx_height size) ≤ r →
+    column_value by_av1 size type depth (at (transformed_row by_av1 size type depth cs r) c) ≡ pos 0
+taken-past by_av1 size type depth cs r c past = taken-zero by_av1 size type depth _ (row_past by_av1 size type depth cs r c past)
+
+-- a row of zeros
+pub taken-none : (by_av1 : Bool) (size : TxSize) (type : TxType) (depth : ℕ) (cs : List ℤ) (r c : ℕ) → r < coded (tx_height size) →
+    ((x : ℕ) → x < tx_width size → row_input size type depth cs r x ≡ pos 0)
+    → column_value by_av1 size type depth (at (transformed_row by_av1 size type depth cs r) c) ≡ pos 0
+taken-none by_av1 size type depth cs r c lt none =
+    let w = tx_width size in
+    let f = row_input size type depth cs r in
+    let zeros = zero_line (by_index w f) (λ x hx. let h : x < w = omega (arith, hx, length-by_index w f) in at-by_index w f x h ∙ none x h) in
+    let n = network-zero (row_kind_by by_av1 type) (row_range depth) (row_power size) (by_index w f) zeros in
+    taken-zero by_av1 size type depth _ (sym (row_is by_av1 size type depth cs r c lt) ∙ n.at c)
 
 input-zero : (size : TxSize) (type : TxType) (depth : ℕ) (cs : List ℤ) (r c : ℕ) → IsZero cs → row_input size type depth cs r c ≡ pos 0
 unfolding row_input

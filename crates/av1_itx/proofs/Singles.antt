@@ -26,9 +26,8 @@ use Rattle.av1_itx.specs.Scaffolding.{top_of}
 use Rattle.av1_itx.proofs.Eights.{cosine_value}
 use Rattle.av1_itx.proofs.Handed.{powers}
 use Rattle.av1_itx.proofs.ExactRows.{cosine_row}
-use Rattle.av1_itx.proofs.Passes.{input_alone, input_in, row_is}
+use Rattle.av1_itx.proofs.Passes.{input_alone, input_in, row_is, taken-none, taken-past}
 use Rattle.av1_itx.proofs.Sizes.{sides}
-use Rattle.av1_itx.proofs.Tiles.{taken-none, taken-past}
 
 -- f 0, f 1, .. with no value but the first
 pub first_alone : (n : ℕ) (f : ℕ → ℤ) → ((i : ℕ) → 0 < i → i < n → f i ≡ pos 0) → IsSingle (by_index n f)

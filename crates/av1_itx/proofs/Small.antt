@@ -4,6 +4,7 @@ use Rattle.std.specs.Int.{int_shr}
 use Rattle.std.proofs.lemmas.Int.{ints, int_wrap_fits}
 use Rattle.av1_dct.specs.Arithmetic.{at, round12, FitsBits}
 use Rattle.av1_dct.specs.Operations.{half_btf, half_btf_with}
+use Rattle.av1_frame.specs.Arithmetic.{round_shift}
 use Rattle.av1_itx.specs.Identity.{exact, scaled, scaled_with}
 use Rattle.av1_itx.specs.Walsh.{walsh, walsh_with}
 
@@ -72,3 +73,9 @@ pub walsh_is : (x : List ℤ) (s4 a b c d : ℤ) → s4 ≡ int_shr (at x 0 +ℤ
     b ≡ s4 -ℤ at x 3 → c ≡ s4 -ℤ at x 1 → d ≡ at x 2 -ℤ at x 3 +ℤ (s4 -ℤ at x 1) → a ∷ b ∷ c ∷ d ∷ [] ≡ walsh x
 unfolding walsh_with
 walsh_is x s4 a b c d hs ha hb hc hd = cc
+
+-- a number of 20 bits times the square root of one half
+pub half_root : (z : ℤ) → FitsBits 20 z → half_btf (pos 2896) z (pos 0) z ≡ round_shift (pos 2896 *ℤ z) 12
+half_root z f =
+    let fits : FitsSigned w32 (pos 2896 *ℤ z +ℤ pos 2048) = omega (arith, ints, f.low, f.high) in
+    round_is (pos 2896) z ∙ ap (λ (s : ℤ). int_shr s 12) (int_wrap_fits w32 _ fits)

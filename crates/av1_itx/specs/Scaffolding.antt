@@ -1,7 +1,7 @@
 -- What the functions inside the crate promise one another. No public contract cites this file.
 use Rattle.std.specs.Prelude.{◌≡◌, true, ◌&&◌, if◌then◌else◌, ℕ, ◌+◌, ◌*◌, ◌/◌, ◌^◌, ◌≤◌, ◌<◌, List, length, ℤ, pos}
 use Rattle.av1_blocks.specs.declared.transform.TxType.{TxType}
-use Rattle.av1_blocks.specs.Transforms.{tx_width, tx_height, coded, coded_area}
+use Rattle.av1_blocks.specs.Transforms.{tx_width, tx_height, coded_area}
 use Rattle.av1_lists.specs.Sides.{IsTransformSide}
 use Rattle.av1_dct.specs.Arithmetic.{at, clamp_value, FitsBits}
 use Rattle.av1_dct.specs.Columns.{column_of}
@@ -12,7 +12,7 @@ use Rattle.av1_itx.specs.declared.block.Block.{Block}
 use Rattle.av1_itx.specs.declared.inverse.StridedArea.{StridedArea}
 use Rattle.av1_itx.specs.declared.kinds.TxType1D.{TxType1D}
 use Rattle.av1_itx.specs.declared.columns.Columns.{Columns}
-use Rattle.av1_itx.specs.Kinds.{column_kind, row_kind, row_kind_by}
+use Rattle.av1_itx.specs.Kinds.{column_kind, row_kind}
 use Rattle.av1_itx.specs.Networks.{HasNetwork, network}
 use Rattle.av1_itx.specs.LaneGroups.{is_cosine}
 use Rattle.av1_itx.specs.Residue.{column_power, column_range, column_value, is_lossless}
@@ -51,17 +51,6 @@ pub record AreCoefficients {C : Type 0} (val : C → ℤ) (block : Block) (input
   pub rows : HasNetwork (row_kind block.tx_type) (row_power block.tx_size)
   pub columns : HasNetwork (column_kind block.tx_type) (column_power block.tx_size)
   pub fit : (i : ℕ) → i < coded_area block.tx_size → FitsBits (block.bd + 8) (at (map val input) i)
-
--- The first `count` rows of coefficients of a block, as columns of the list that stores them.
-abbrev pub block_rows : Block → (count : ℕ) → Columns
-block_rows block count = record {
-  kind = row_kind_by block.by_av1 block.tx_type;
-  count = count;
-  width = coded (tx_height block.tx_size);
-  height = tx_width block.tx_size;
-  power = row_power block.tx_size;
-  range = row_range block.bd;
-}
 
 -- the number of bits that hold the inputs of the columns of a block
 abbrev pub column_bits : Block → ℕ

@@ -14,9 +14,9 @@ use crate::words::BlockWord;
 use av1_frame::{Pixel, StoredArea, clip};
 use std::simd::prelude::*;
 
-// The depth of samples of a type, which the compiler knows if they have one byte.
+/// The depth of samples of a type, which the compiler knows if they have one byte.
 #[inline(always)]
-fn depth_of<T: Pixel>(bd: usize) -> usize
+pub(crate) fn depth_of<T: Pixel>(bd: usize) -> usize
     requires depths { 8 ≤ bd }
     requires depth { bd ≤ T.BITS }
     ensures { result ≡ bd }
@@ -91,6 +91,7 @@ fn add_row<T: Pixel, W: BlockWord, const SHIFT: usize>(
 }
 
 // Adds the values, row by row, to the samples of the rectangle, as many at a time as a word has lanes.
+#[inline(always)]
 #[tactic(auto, using(av1_frame::proofs::Paint::rectangle_painting))]
 fn add_rows<T: Pixel, W: BlockWord, const SHIFT: usize>(
     samples: &mut [T],

@@ -1,14 +1,16 @@
 //! The second pass: an inverse transform down each column.
 
-ghost use Rattle.std.specs.Prelude.{◌≡◌, ◌≤◌};
+ghost use Rattle.std.specs.Prelude.{◌≡◌, ◌*◌, ◌/◌, ◌<◌, ◌≤◌};
+ghost use Rattle.av1_blocks.specs.Transforms.{tx_height, tx_width};
 ghost use Rattle.av1_lists.specs.Counts.{raised};
 ghost use Rattle.av1_itx.specs.LaneGroups.{lane_groups};
-ghost use Rattle.av1_itx.specs.Residue.{column_range, row_shift};
-ghost use Rattle.av1_itx.specs.Scaffolding.{AreColumns, AreTransformed, block_columns, column_bits};
+ghost use Rattle.av1_itx.specs.Residue.{column_power, column_range, row_shift};
+ghost use Rattle.av1_itx.specs.Scaffolding.{AreColumns, AreTransformed, IsSmallWord, block_columns, column_bits};
 
 use crate::block::Block;
-use crate::columns::{Columns, run_columns};
+use crate::columns::{Columns, run_columns, words_of};
 use crate::kinds::{get_1d_tx_types, is_lossless};
+use crate::words::BlockWord;
 use av1_blocks::TxSize;
 use av1_dct::LaneCount;
 
@@ -86,4 +88,25 @@ pub(crate) fn column_pass(buffer: &mut [i32], count: &mut LaneCount, block: Bloc
     ensures counts { count.new.groups ≡ raised count.old.groups (lane_groups block.tx_size block.tx_type) }
 {
     run_columns(buffer, count, &columns_of(block));
+}
+
+/// As `column_pass`, for columns of N = 2^(K+1) rows, as many at a time as a word has lanes.
+#[inline(always)]
+pub(crate) fn column_pass_of<W: BlockWord, const K: usize, const N: usize>(
+    buffer: &mut [i32],
+    count: &mut LaneCount,
+    block: Block,
+)
+    requires depth { (8 ≤ block.bd) × (block.bd ≤ 12) }
+    requires some { 0 < W.LANES }
+    requires small { IsSmallWord W.row }
+    requires whole { W.LANES * (tx_width block.tx_size / W.LANES) ≡ tx_width block.tx_size }
+    requires counted { tx_width block.tx_size / W.LANES * W.COUNTED ≡ tx_width block.tx_size / 8 }
+    requires height { tx_height block.tx_size ≡ N }
+    requires power { column_power block.tx_size ≡ K }
+    requires columns { AreColumns (block_columns block) buffer.old }
+    ensures value { AreTransformed (block_columns block) buffer.old buffer.new }
+    ensures counts { count.new.groups ≡ raised count.old.groups (lane_groups block.tx_size block.tx_type) }
+{
+    words_of::<W, K, N>(buffer, count, &columns_of(block));
 }

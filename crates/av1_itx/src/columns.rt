@@ -1,8 +1,5 @@
 //! Columns of a block, one in each lane, transformed in place side by side: eight at a time, or four if there are no
 //! more.
-//!
-//! Rows of coefficients are transformed in the same way, since they are the columns of the list that stores
-//! coefficients.
 
 ghost use Rattle.std.specs.Prelude.{◌≡◌, ℕ, ◌+◌, ◌-◌, ◌*◌, ◌/◌, ◌<◌, ◌≤◌, nat_le, nat_lt, ◌&&◌, if◌then◌else◌, pos, length, ◌==◌};
 ghost use Rattle.av1_dct.specs.Arithmetic.{at, clamp_value, FitsBits};
@@ -164,13 +161,14 @@ pub(crate) fn is_cosine(kind: TxType1D) -> bool
 
 // An array of equal items. A proof covers an array of vectors only where a call has made it.
 #[inline(always)]
-fn filled<T: Copy, const N: usize>(item: T) -> [T; N] {
+pub(crate) fn filled<T: Copy, const N: usize>(item: T) -> [T; N] {
     [item; N]
 }
 
 // Columns of N = 2^(K+1) rows, one in each lane, over lines of their own. Both numbers are constants of each instance,
 // so that the compiler knows all positions of a transform as numbers.
-fn words_of<W: BlockWord, const K: usize, const N: usize>(
+#[inline(always)]
+pub(crate) fn words_of<W: BlockWord, const K: usize, const N: usize>(
     buffer: &mut [i32],
     count: &mut LaneCount,
     columns: &Columns,

@@ -1,10 +1,10 @@
 //! The inverse transform of a block, added to its samples.
 
-ghost use Rattle.std.specs.Prelude.{◌≡◌, ℕ, ◌+◌, ◌-◌, ◌*◌, ◌<◌, ◌≤◌, ◌⊎◌, IfOk, IsTrue, OnOk, OnErr, false, ℤ, pos, ◌+ℤ◌, length, map, vec_len};
+ghost use Rattle.std.specs.Prelude.{◌≡◌, ℕ, ◌+◌, ◌-◌, ◌*◌, ◌/◌, ◌<◌, ◌≤◌, ◌⊎◌, IfOk, IsTrue, OnOk, OnErr, false, ℤ, pos, ◌+ℤ◌, length, map, vec_len};
 ghost use Rattle.av1_blocks.specs.declared.transform.TxSize.TheVariants.{TX_4X4};
 ghost use Rattle.av1_blocks.specs.declared.transform.TxType.TheVariants.{WHT_WHT};
 ghost use Rattle.av1_blocks.specs.Depths.{IsDepth};
-ghost use Rattle.av1_blocks.specs.Transforms.{tx_width, tx_height, coded, coded_area, valid_av1_transform};
+ghost use Rattle.av1_blocks.specs.Transforms.{tx_number, tx_width, tx_height, coded, coded_area, valid_av1_transform};
 ghost use Rattle.av1_dct.specs.Arithmetic.{at, FitsBits};
 ghost use Rattle.av1_lists.specs.Counts.{raised};
 ghost use Rattle.av1_frame.specs.Arithmetic.{clip};
@@ -12,32 +12,33 @@ ghost use Rattle.av1_frame.specs.Areas.{AreRows};
 ghost use Rattle.av1_frame.specs.Samples.{paint};
 ghost use Rattle.av1_frame.specs.Regions.{InStorage, painted};
 ghost use Rattle.av1_itx.specs.LaneGroups.{lane_groups};
-ghost use Rattle.av1_itx.specs.Residue.{column_shift, residue, residue_by};
-ghost use Rattle.av1_itx.specs.Scaffolding.{AreCoefficients, IsPlaceFor, IsSingleBlock};
+ghost use Rattle.av1_itx.specs.Residue.{column_power, column_shift, residue, residue_by, row_power};
+ghost use Rattle.av1_itx.specs.Scaffolding.{AreCoefficients, IsPlaceFor, IsSingleBlock, IsSmallWord};
 
-use crate::adding::{add_all, raise_all};
+use crate::adding::{add_all, depth_of, raise_all};
 use crate::block::Block;
-use crate::column_pass::{column_pass, column_range_of};
+use crate::column_pass::{column_pass, column_pass_of, column_range_of};
 use crate::columns::{LANES, run_single, single_value};
 use crate::kinds::is_lossless;
-use crate::row_pass::row_pass;
-use crate::single::{first_of, is_single, top_value};
+use crate::row_pass::{coefficient_at, row_pass, rows_of};
+use crate::single::{is_single, top_value};
+use crate::words::BlockWord;
 use av1_blocks::{OutOfMemory, TxSize, TxType};
 use av1_dct::LaneCount;
 use av1_frame::{Pixel, PlaneRegionMut, StoredArea, repeated, round_shift};
 use std::alloc::Global;
+use std::simd::prelude::*;
 
-/// The values of one block between its passes, its scaled coefficients, and the count of groups of eight columns.
+/// The values of one block between its passes, and the count of groups of eight columns.
 #[derive(Drop)]
 pub struct TxScratch {
     buffer: Vec<i32>,
-    scaled: Vec<i32>,
     count: LaneCount,
     /// Whether blocks follow AV1's rule: identities along rows never wrap, and in lossless blocks (`WHT_WHT`) nothing
     /// is clamped between the passes. A new scratch follows rav1e's rule: identities wrap at 32 bits, and all blocks
     /// are clamped.
     pub by_av1: bool,
-    ghost long: { (vec_len buffer ≡ 4096) × (vec_len scaled ≡ 2048) },
+    ghost long: { vec_len buffer ≡ 4096 },
 }
 
 impl TxScratch {
@@ -47,10 +48,8 @@ impl TxScratch {
         ensures rule { IfOk result (λ scratch. scratch.by_av1 ≡ false) }
     {
         let buffer = repeated(alloc, 0, 4096)?;
-        let scaled = repeated(alloc, 0, 2048)?;
         Ok(TxScratch {
             buffer,
-            scaled,
             count: LaneCount::new(),
             by_av1: false,
         })
@@ -64,22 +63,18 @@ impl TxScratch {
     }
 }
 
-/// Buffers for the values of one block between its passes, and for its scaled coefficients: 24,576 bytes. Their values
-/// before a call have no effect. It is a struct that has only arrays of `i32`, so that C or Rust may own it.
+/// A buffer for the values of one block between its passes: 24,576 bytes, of which a call needs at most 16,384. Its
+/// values before a call have no effect. It is a struct that has only an array of `i32`, so that C or Rust may own it.
 #[repr(C)]
 #[derive(Drop)]
 pub struct TxRoom {
-    buffer: [i32; 4096],
-    scaled: [i32; 2048],
+    values: [i32; 6144],
 }
 
 impl TxRoom {
     /// Buffers for every size up to 64x64.
     pub fn new() -> TxRoom {
-        TxRoom {
-            buffer: [0; 4096],
-            scaled: [0; 2048],
-        }
+        TxRoom { values: [0; 6144] }
     }
 }
 
@@ -116,7 +111,7 @@ fn add_single<T: Pixel>(
         samples.old }
     ensures counts { count.new.groups ≡ raised count.old.groups (lane_groups block.tx_size block.tx_type) }
 {
-    let top = top_value(first_of(input), block);
+    let top = top_value(coefficient_at(input, 0), block);
     let groups = block.tx_size.width() / LANES;
     let range = column_range_of(block.bd);
     run_single(count, top, groups, range);
@@ -125,10 +120,28 @@ fn add_single<T: Pixel>(
     raise_all(samples, place.stride, place.area, residue, block.bd);
 }
 
+// The block, with its size by number. A compiler then knows the size if it knows the number, and the depth if samples
+// have one byte.
+#[inline(always)]
+fn known<T: Pixel>(block: Block, number: u8) -> Block
+    requires depths { 8 ≤ block.bd }
+    requires depth { block.bd ≤ T.BITS }
+    requires number { tx_number block.tx_size ≡ number }
+    ensures { result ≡ block }
+{
+    match TxSize::from_number(number) {
+        Some(tx_size) => Block {
+            tx_size,
+            bd: depth_of::<T>(block.bd),
+            ..block
+        },
+        None => block,
+    }
+}
+
 // The inverse transform over a buffer of exactly the block's size.
 fn add_block<T: Pixel>(
     buffer: &mut [i32],
-    scaled: &mut [i32],
     count: &mut LaneCount,
     input: &[T::Coeff],
     samples: &mut [T],
@@ -139,23 +152,148 @@ fn add_block<T: Pixel>(
     requires block { AreCoefficients T.Coeff.val block input.now }
     requires place { IsPlaceFor block place (length samples.old) }
     requires buffer_len { length buffer.old ≡ tx_height block.tx_size * tx_width block.tx_size }
-    requires scaled_len { length scaled.old ≡ tx_width block.tx_size * coded (tx_height block.tx_size) }
     ensures painted { samples.new ≡ paint place.stride place.area
         (λ r c v. T.pixel (clip block.bd (pos (T.num v) +ℤ residue_by block.by_av1 block.tx_size block.tx_type block.bd (map T.Coeff.val input.now) r c)))
         samples.old }
     ensures counts { count.new.groups ≡ raised count.old.groups (lane_groups block.tx_size block.tx_type) }
 {
-    row_pass(input, scaled, buffer, block);
+    row_pass(input, buffer, block);
     column_pass(buffer, count, block);
     let shift = column_shift_of(block.tx_type);
     add_all(samples, place.stride, place.area, buffer, shift, block.bd);
+}
+
+// The same for rows of M = 2^(I+1) values and columns of N = 2^(K+1), of which words R and W take as many as they have
+// lanes.
+#[inline(always)]
+fn add_shaped<
+    T: Pixel,
+    R: BlockWord,
+    W: BlockWord,
+    const I: usize,
+    const M: usize,
+    const K: usize,
+    const N: usize,
+>(
+    buffer: &mut [i32],
+    count: &mut LaneCount,
+    input: &[T::Coeff],
+    samples: &mut [T],
+    place: StridedArea,
+    block: Block,
+)
+    requires lanes { (R.LANES ≡ 4) ⊎ (R.LANES ≡ 8) }
+    requires small_rows { IsSmallWord R.row }
+    requires whole_rows { R.LANES * (coded (tx_height block.tx_size) / R.LANES) ≡ coded (tx_height block.tx_size) }
+    requires width { tx_width block.tx_size ≡ M }
+    requires row_power { I ≡ row_power block.tx_size }
+    requires some { 0 < W.LANES }
+    requires small { IsSmallWord W.row }
+    requires whole { W.LANES * (tx_width block.tx_size / W.LANES) ≡ tx_width block.tx_size }
+    requires counted { tx_width block.tx_size / W.LANES * W.COUNTED ≡ tx_width block.tx_size / 8 }
+    requires height { tx_height block.tx_size ≡ N }
+    requires power { column_power block.tx_size ≡ K }
+    requires depth { block.bd ≤ T.BITS }
+    requires block { AreCoefficients T.Coeff.val block input.now }
+    requires place { IsPlaceFor block place (length samples.old) }
+    requires buffer_len { length buffer.old ≡ tx_height block.tx_size * tx_width block.tx_size }
+    ensures painted { samples.new ≡ paint place.stride place.area
+        (λ r c v. T.pixel (clip block.bd (pos (T.num v) +ℤ residue_by block.by_av1 block.tx_size block.tx_type block.bd (map T.Coeff.val input.now) r c)))
+        samples.old }
+    ensures counts { count.new.groups ≡ raised count.old.groups (lane_groups block.tx_size block.tx_type) }
+{
+    rows_of::<T::Coeff, R, I, M>(input, buffer, block);
+    column_pass_of::<W, K, N>(buffer, count, block);
+    let shift = column_shift_of(block.tx_type);
+    add_all(samples, place.stride, place.area, buffer, shift, block.bd);
+}
+
+// The same for a block whose size has this number: a function of its own, in which all lengths are numbers.
+#[inline(never)]
+fn add_sized<
+    T: Pixel,
+    R: BlockWord,
+    W: BlockWord,
+    const SIZE: u8,
+    const I: usize,
+    const M: usize,
+    const K: usize,
+    const N: usize,
+>(
+    buffer: &mut [i32],
+    count: &mut LaneCount,
+    input: &[T::Coeff],
+    samples: &mut [T],
+    place: StridedArea,
+    block: Block,
+)
+    requires size { tx_number block.tx_size ≡ SIZE }
+    requires lanes { (R.LANES ≡ 4) ⊎ (R.LANES ≡ 8) }
+    requires small_rows { IsSmallWord R.row }
+    requires whole_rows { R.LANES * (coded (tx_height block.tx_size) / R.LANES) ≡ coded (tx_height block.tx_size) }
+    requires width { tx_width block.tx_size ≡ M }
+    requires row_power { I ≡ row_power block.tx_size }
+    requires some { 0 < W.LANES }
+    requires small { IsSmallWord W.row }
+    requires whole { W.LANES * (tx_width block.tx_size / W.LANES) ≡ tx_width block.tx_size }
+    requires counted { tx_width block.tx_size / W.LANES * W.COUNTED ≡ tx_width block.tx_size / 8 }
+    requires height { tx_height block.tx_size ≡ N }
+    requires power { column_power block.tx_size ≡ K }
+    requires depth { block.bd ≤ T.BITS }
+    requires block { AreCoefficients T.Coeff.val block input.now }
+    requires place { IsPlaceFor block place (length samples.old) }
+    requires buffer_len { length buffer.old ≡ tx_height block.tx_size * tx_width block.tx_size }
+    ensures painted { samples.new ≡ paint place.stride place.area
+        (λ r c v. T.pixel (clip block.bd (pos (T.num v) +ℤ residue_by block.by_av1 block.tx_size block.tx_type block.bd (map T.Coeff.val input.now) r c)))
+        samples.old }
+    ensures counts { count.new.groups ≡ raised count.old.groups (lane_groups block.tx_size block.tx_type) }
+{
+    let block = known::<T>(block, SIZE);
+    add_shaped::<T, R, W, I, M, K, N>(buffer, count, input, samples, place, block);
+}
+
+// The same for any size. The sizes of most blocks have functions of their own.
+fn add_any<T: Pixel>(
+    buffer: &mut [i32],
+    count: &mut LaneCount,
+    input: &[T::Coeff],
+    samples: &mut [T],
+    place: StridedArea,
+    block: Block,
+)
+    requires depth { block.bd ≤ T.BITS }
+    requires block { AreCoefficients T.Coeff.val block input.now }
+    requires place { IsPlaceFor block place (length samples.old) }
+    requires buffer_len { length buffer.old ≡ tx_height block.tx_size * tx_width block.tx_size }
+    ensures painted { samples.new ≡ paint place.stride place.area
+        (λ r c v. T.pixel (clip block.bd (pos (T.num v) +ℤ residue_by block.by_av1 block.tx_size block.tx_type block.bd (map T.Coeff.val input.now) r c)))
+        samples.old }
+    ensures counts { count.new.groups ≡ raised count.old.groups (lane_groups block.tx_size block.tx_type) }
+{
+    match block.tx_size {
+        TxSize::TX_4X4 => add_sized::<T, i32x4, i32x4, 0, 1, 4, 1, 4>(
+            buffer, count, input, samples, place, block,
+        ),
+        TxSize::TX_8X8 => add_sized::<T, i32x8, i32x8, 1, 2, 8, 2, 8>(
+            buffer, count, input, samples, place, block,
+        ),
+        TxSize::TX_16X16 => add_sized::<T, i32x8, i32x8, 2, 3, 16, 3, 16>(
+            buffer, count, input, samples, place, block,
+        ),
+        TxSize::TX_4X8 => add_sized::<T, i32x8, i32x4, 5, 1, 4, 2, 8>(
+            buffer, count, input, samples, place, block,
+        ),
+        TxSize::TX_8X4 => add_sized::<T, i32x4, i32x8, 6, 2, 8, 1, 4>(
+            buffer, count, input, samples, place, block,
+        ),
+        _ => add_block(buffer, count, input, samples, place, block),
+    }
 }
 
 // The inverse transform of a block over a whole buffer. A block with only its first coefficient doesn't need the
 // buffer.
 fn add_over<T: Pixel>(
     buffer: &mut [i32],
-    scaled: &mut [i32],
     count: &mut LaneCount,
     input: &[T::Coeff],
     samples: &mut [T],
@@ -166,7 +304,6 @@ fn add_over<T: Pixel>(
     requires block { AreCoefficients T.Coeff.val block input.now }
     requires place { IsPlaceFor block place (length samples.old) }
     requires buffer_len { 4096 ≤ length buffer.old }
-    requires scaled_len { 2048 ≤ length scaled.old }
     ensures painted { samples.new ≡ paint place.stride place.area
         (λ r c v. T.pixel (clip block.bd (pos (T.num v) +ℤ residue_by block.by_av1 block.tx_size block.tx_type block.bd (map T.Coeff.val input.now) r c)))
         samples.old }
@@ -177,16 +314,7 @@ fn add_over<T: Pixel>(
         return;
     }
     let places = block.tx_size.height() * block.tx_size.width();
-    let inputs = block.tx_size.width() * block.tx_size.height().min(32);
-    add_block(
-        &mut buffer[..places],
-        &mut scaled[..inputs],
-        count,
-        input,
-        samples,
-        place,
-        block,
-    );
+    add_any(&mut buffer[..places], count, input, samples, place, block);
 }
 
 /// Adds the residual of coefficients to the samples of a rectangle, which has the width and height of the transform,
@@ -222,7 +350,6 @@ pub fn inverse_transform_add_to<T: Pixel>(
 {
     add_over(
         scratch.buffer.as_mut_slice(),
-        scratch.scaled.as_mut_slice(),
         &mut scratch.count,
         input,
         samples,
@@ -259,8 +386,7 @@ pub fn inverse_transform_add_in<T: Pixel>(
         samples.old }
 {
     add_over(
-        &mut room.buffer,
-        &mut room.scaled,
+        &mut room.values,
         &mut LaneCount::new(),
         input,
         samples,

@@ -1,28 +1,36 @@
 //! The first pass: an inverse transform along each row of coefficients.
 //!
-//! Coefficients are stored column by column, so their rows are the columns of this list. They are scaled into such a
-//! list, transformed there in place, and written to the block row by row.
+//! Coefficients are stored column by column, so that neighbours belong to different rows. A word of them has a
+//! coefficient in each lane for as many rows. These rows are transformed side by side, and written to the block row by
+//! row.
 
-ghost use Rattle.std.specs.Prelude.{◌≡◌, true, ℕ, ◌+◌, ◌*◌, ◌/◌, ◌<◌, ◌≤◌, ◌==◌, if◌then◌else◌, min, pos, ◌*ℤ◌, length, map, ◌⊎◌};
+ghost use Rattle.std.specs.Prelude.{◌≡◌, true, ℕ, ◌+◌, ◌*◌, ◌/◌, ◌<◌, ◌≤◌, ◌==◌, if◌then◌else◌, pos, ◌*ℤ◌, length, map, ◌⊎◌};
 ghost use Rattle.std.specs.Int.{int_shr};
 ghost use Rattle.av1_blocks.specs.Transforms.{tx_width, tx_height, coded};
-ghost use Rattle.av1_dct.specs.Arithmetic.{at, clamp_value, FitsBits};
+ghost use Rattle.av1_dct.specs.Arithmetic.{at, clamp_value, AllFit, FitsBits};
+ghost use Rattle.av1_dct.specs.Word.{column};
 ghost use Rattle.av1_frame.specs.Arithmetic.{round_shift};
-ghost use Rattle.av1_itx.specs.Residue.{is_lossless, is_two_to_one, row_input, row_range, row_value};
-ghost use Rattle.av1_itx.specs.Scaffolding.{AreCoefficients, AreRowsDone, block_rows};
+ghost use Rattle.av1_lists.specs.Lists.{by_index};
+ghost use Rattle.av1_itx.specs.Residue.{column_value, is_lossless, is_two_to_one, row_input, row_power, row_range, transformed_row};
+ghost use Rattle.av1_itx.specs.Scaffolding.{AreCoefficients, AreRowsDone, IsSmallWord};
 
 use crate::block::Block;
 use crate::column_pass::{column_bits_of, row_shift_of};
-use crate::columns::{Columns, LANES, run_columns};
+use crate::columns::{LANES, filled};
 use crate::kinds::{is_lossless, row_kind_of};
+use crate::networks::inverse_1d;
 use crate::words::BlockWord;
-use av1_blocks::{INV_SQRT2, SQRT2_BITS, TxSize, TxType};
-use av1_dct::{LaneCount, clamp_value};
-use av1_frame::{Coefficient, round_shift};
+use av1_blocks::{INV_SQRT2, TxSize, TxType};
+use av1_dct::LaneCount;
+use av1_frame::Coefficient;
 use std::simd::prelude::*;
 
 /// The number of values that are cleared at once.
 const PIECE: usize = 256;
+
+/// If a block has a side of at least this length, its rows are read only up to the last column with a coefficient. In
+/// smaller blocks a loop of constant length costs less.
+const LONG_SIDE: usize = 16;
 
 /// How the coefficients of a block are scaled before its rows are transformed.
 #[derive(Copy, Clone)]
@@ -44,40 +52,161 @@ pub(crate) fn scaling_of(tx_size: TxSize, tx_type: TxType) -> Scaling
     }
 }
 
-// A coefficient, scaled.
-fn scaled(v: i32, scaling: Scaling) -> i32
-    requires { FitsBits 20 v }
-    ensures { result ≡ (if scaling.two_to_one then round_shift (pos 2896 *ℤ v) 12 else if scaling.lossless then int_shr v 2 else v) }
+/// Coefficients, scaled and clamped, as the rows take them.
+#[inline(always)]
+pub(crate) fn scaled<W: BlockWord>(z: W, scaling: Scaling, bd: usize) -> W
+    requires depth_in { (8 ≤ bd) × (bd ≤ 12) }
+    requires fits { (i : ℕ) → i < W.LANES → FitsBits (bd + 8) (W.lane_of z i) }
+    ensures { (i : ℕ) → i < W.LANES → W.lane_of result i ≡
+        clamp_value (if scaling.two_to_one then round_shift (pos 2896 *ℤ W.lane_of z i) 12
+        else if scaling.lossless then int_shr (W.lane_of z i) 2 else W.lane_of z i) (row_range bd) }
 {
     if scaling.two_to_one {
-        return round_shift(v * INV_SQRT2, SQRT2_BITS);
+        return W::turn(INV_SQRT2, z, 0, z).clamp_to(bd + 8);
     }
     if scaling.lossless {
-        return v >> 2;
+        return z.halve().halve().clamp_to(bd + 8);
     }
-    v
+    z.clamp_to(bd + 8)
 }
 
-// The input of the rows for a coefficient.
-pub(crate) fn row_value_of(v: i32, scaling: Scaling, bd: usize) -> i32
-    requires depth_in { (8 ≤ bd) × (bd ≤ 12) }
-    requires fits { FitsBits (bd + 8) v }
-    ensures { result ≡ clamp_value (if scaling.two_to_one then round_shift (pos 2896 *ℤ v) 12 else if scaling.lossless then int_shr v 2 else v) (row_range bd) }
+/// The coefficient at a place. Past the last it is 0.
+#[inline(always)]
+pub(crate) fn coefficient_at<C: Coefficient>(input: &[C], place: usize) -> i32
+    ensures { result ≡ at (map C.val input.now) place }
 {
-    clamp_value(scaled(v, scaling), bd + 8)
+    if input.len() <= place {
+        return 0;
+    }
+    input[place].to_i32()
 }
 
-// Writes the input of the rows for each coefficient. One pass over neighbours is cheaper than one along each row.
-fn scale_all<C: Coefficient>(input: &[C], scaled: &mut [i32], block: Block)
-    requires depth_in { (8 ≤ block.bd) × (block.bd ≤ 12) }
-    requires input_len { length scaled.old ≤ length input.now }
-    requires input_fits { (i : ℕ) → i < length scaled.old → FitsBits (block.bd + 8) (at (map C.val input.now) i) }
-    ensures { (i : ℕ) → i < length scaled.old → at scaled.new i ≡ row_value block.tx_size block.tx_type block.bd (at (map C.val input.now) i) }
+// The coefficients from place `start` on, one in each lane, if the list ends before the last lane.
+#[inline(never)]
+fn last_word<C: Coefficient, W: BlockWord>(input: &[C], start: usize) -> W
+    requires lanes { W.LANES ≤ 8 }
+    requires few { start ≤ 2048 }
+    ensures { (i : ℕ) → i < W.LANES → W.lane_of result i ≡ at (map C.val input.now) (start + i) }
 {
-    let scaling = scaling_of(block.tx_size, block.tx_type);
-    for i in 0..scaled.len() {
-        scaled[i] = row_value_of(input[i].to_i32(), scaling, block.bd);
+    let mut lanes = [0; 8];
+    for i in 0..W::LANES {
+        lanes[i] = coefficient_at(input, start + i);
     }
+    W::read(&lanes, 0)
+}
+
+// The coefficients from place `start` on, one in each lane, if the list has them all.
+#[inline(always)]
+fn whole_word<C: Coefficient, W: BlockWord>(input: &[C], start: usize) -> W
+    requires lanes { W.LANES ≤ 8 }
+    requires all { start + W.LANES ≤ length input.now }
+    ensures { (i : ℕ) → i < W.LANES → W.lane_of result i ≡ at (map C.val input.now) (start + i) }
+{
+    let mut lanes = [0; 8];
+    for i in 0..W::LANES {
+        let place = start + i;
+        lanes[i] = input[place].to_i32();
+    }
+    W::read(&lanes, 0)
+}
+
+// The coefficients from place `start` on, one in each lane.
+#[inline(always)]
+fn word_at<C: Coefficient, W: BlockWord>(input: &[C], start: usize) -> W
+    requires lanes { W.LANES ≤ 8 }
+    requires few { start ≤ 2048 }
+    ensures { (i : ℕ) → i < W.LANES → W.lane_of result i ≡ at (map C.val input.now) (start + i) }
+{
+    if start + W::LANES <= input.len() {
+        return whole_word(input, start);
+    }
+    if input.len() <= start {
+        return W::splat(0);
+    }
+    last_word(input, start)
+}
+
+// The inputs of the rows from r on at column c, one in each lane.
+#[inline(always)]
+fn row_word<C: Coefficient, W: BlockWord>(input: &[C], c: usize, r: usize, block: Block) -> W
+    requires lanes { W.LANES ≤ 8 }
+    requires block { AreCoefficients C.val block input.now }
+    requires rows_in { r + W.LANES ≤ coded (tx_height block.tx_size) }
+    requires column_in { c < tx_width block.tx_size }
+    requires few { c < 32 }
+    ensures { (i : ℕ) → i < W.LANES → W.lane_of result i ≡ row_input block.tx_size block.tx_type block.bd (map C.val input.now) (r + i) c }
+{
+    let rows = block.tx_size.height().min(32);
+    let word = word_at::<C, W>(input, c * rows + r);
+    scaled(word, scaling_of(block.tx_size, block.tx_type), block.bd)
+}
+
+// The number of columns to read: all of a small block, and otherwise those up to the last that may have a coefficient.
+// Columns from 32 on have none.
+#[inline(always)]
+fn given_columns<C: Coefficient>(input: &[C], width: usize, block: Block) -> usize
+    requires width_is { width ≡ tx_width block.tx_size }
+    ensures within { result ≤ tx_width block.tx_size }
+    ensures few { result ≤ 32 }
+    ensures rest { (r c : ℕ) → result ≤ c → row_input block.tx_size block.tx_type block.bd (map C.val input.now) r c ≡ pos 0 }
+{
+    let rows = block.tx_size.height().min(32);
+    let longer = width.max(rows);
+    if longer < LONG_SIDE {
+        return width;
+    }
+    (input.len() / rows + 1).min(width.min(32))
+}
+
+// Sets the words from position `start` on to 0.
+#[inline(always)]
+fn clear_from<W: BlockWord>(line: &mut [W], start: usize)
+    ensures kept { (i c : ℕ) → i < W.LANES → c < start → at (column W.lane_of i line.new) c ≡ at (column W.lane_of i line.old) c }
+    ensures rest { (i c : ℕ) → i < W.LANES → start ≤ c → at (column W.lane_of i line.new) c ≡ pos 0 }
+{
+    for c in start..line.len() {
+        line[c] = W::splat(0);
+    }
+}
+
+// The inputs of the rows from r on, one row in each lane. Columns from `given` on have no coefficients.
+#[inline(always)]
+fn fill_line<C: Coefficient, W: BlockWord>(
+    input: &[C],
+    line: &mut [W],
+    r: usize,
+    given: usize,
+    block: Block,
+)
+    requires lanes { W.LANES ≤ 8 }
+    requires block { AreCoefficients C.val block input.now }
+    requires rows_in { r + W.LANES ≤ coded (tx_height block.tx_size) }
+    requires line_len { length line.old ≡ tx_width block.tx_size }
+    requires given_in { given ≤ tx_width block.tx_size }
+    requires few { given ≤ 32 }
+    requires rest { (q c : ℕ) → given ≤ c → row_input block.tx_size block.tx_type block.bd (map C.val input.now) q c ≡ pos 0 }
+    ensures { (i : ℕ) → i < W.LANES → column W.lane_of i line.new ≡
+        by_index (tx_width block.tx_size) (row_input block.tx_size block.tx_type block.bd (map C.val input.now) (r + i)) }
+{
+    for c in 0..given {
+        line[c] = row_word(input, c, r, block);
+    }
+    clear_from(line, given);
+}
+
+// Whether all lanes of the first `given` words are 0.
+#[inline(always)]
+fn are_zero<W: BlockWord>(line: &[W], given: usize) -> bool
+    requires given_in { given ≤ length line.now }
+    ensures { result ≡ true → (i c : ℕ) → i < W.LANES → c < given → at (column W.lane_of i line.now) c ≡ pos 0 }
+{
+    for c in 0..given {
+        let word = line[c];
+        if !word.is_zero() {
+            return false;
+        }
+    }
+    true
 }
 
 // Sets each value of a piece to 0.
@@ -91,6 +220,7 @@ fn clear_piece(line: &mut [i32])
 }
 
 // Sets each value to 0, a piece at a time: clearing more than 2,048 bytes at once takes longer to begin.
+#[inline(always)]
 fn clear(line: &mut [i32])
     ensures { (i : ℕ) → at line.new i ≡ pos 0 }
 {
@@ -99,61 +229,6 @@ fn clear(line: &mut [i32])
         clear_piece(&mut line[g * PIECE..g * PIECE + PIECE]);
     }
     clear_piece(&mut line[pieces * PIECE..]);
-}
-
-// The inputs of all rows that have coefficients, row r in column r: the scaled coefficients that are given, and then
-// zeros.
-fn fill_rows<C: Coefficient>(input: &[C], scaled: &mut [i32], block: Block)
-    requires block { AreCoefficients C.val block input.now }
-    requires scaled_len { length scaled.old ≡ tx_width block.tx_size * coded (tx_height block.tx_size) }
-    ensures { (c r : ℕ) → c < tx_width block.tx_size → r < coded (tx_height block.tx_size) →
-        at scaled.new (c * coded (tx_height block.tx_size) + r) ≡ row_input block.tx_size block.tx_type block.bd (map C.val input.now) r c }
-{
-    let given = input.len().min(block.tx_size.coded_area());
-    scale_all(input, &mut scaled[..given], block);
-    clear(&mut scaled[given..]);
-}
-
-// Whether the rows from r on, as many as a word has lanes, are zeros in their first `columns` columns.
-#[inline(always)]
-fn are_zero<W: BlockWord>(scaled: &[i32], r: usize, rows: usize, w: usize, columns: usize) -> bool
-    requires columns { columns ≤ w }
-    requires rows_in { r + W.LANES ≤ rows }
-    requires few_rows { rows ≤ 32 }
-    requires few { w ≤ 64 }
-    requires scaled_len { length scaled.now ≡ w * rows }
-    ensures { result ≡ true → (c i : ℕ) → c < columns → i < W.LANES → at scaled.now (c * rows + (r + i)) ≡ pos 0 }
-{
-    for c in 0..columns {
-        let word = W::read(scaled, c * rows + r);
-        if !word.is_zero() {
-            return false;
-        }
-    }
-    true
-}
-
-// The number of groups of rows up to the last one with a coefficient. A group has as many rows as a word has lanes.
-#[inline(always)]
-#[tactic(auto, using(crate::proofs::Eights::group_in))]
-fn live_groups<W: BlockWord>(scaled: &[i32], rows: usize, w: usize, columns: usize) -> usize
-    requires some { 0 < W.LANES }
-    requires columns { columns ≤ w }
-    requires whole { W.LANES * (rows / W.LANES) ≡ rows }
-    requires few_rows { rows ≤ 32 }
-    requires few { w ≤ 64 }
-    requires scaled_len { length scaled.now ≡ w * rows }
-    ensures within { W.LANES * result ≤ rows }
-    ensures zeros { (c r : ℕ) → c < columns → W.LANES * result ≤ r → r < rows → at scaled.now (c * rows + r) ≡ pos 0 }
-{
-    let m = W::LANES;
-    let mut groups = 0;
-    for g in 0..rows / m {
-        if !are_zero::<W>(scaled, m * g, rows, w, columns) {
-            groups = g + 1;
-        }
-    }
-    groups
 }
 
 // The result of a row as the columns take it: rounded by `shift` bits, and clamped.
@@ -185,131 +260,137 @@ fn spread_word<W: BlockWord>(part: &mut [i32], word: W, c: usize, w: usize)
     }
 }
 
-// Writes the rows from r on, rounded and clamped. Each row is in a column of `scaled`.
+// Writes rows, one in each lane of a line, rounded and clamped.
 #[inline(always)]
-fn write_group<W: BlockWord>(
-    scaled: &[i32],
+fn write_rows<W: BlockWord>(line: &[W], part: &mut [i32], shift: usize, range: usize)
+    requires few { length line.now ≤ 64 }
+    requires lanes { W.LANES ≤ 8 }
+    requires shift_in { shift ≤ 2 }
+    requires range_in { (8 ≤ range) × (range ≤ 20) }
+    requires part_len { length part.old ≡ W.LANES * length line.now }
+    requires fit { (i : ℕ) → i < W.LANES → AllFit 24 (column W.lane_of i line.now) }
+    ensures { (i c : ℕ) → i < W.LANES → c < length line.now →
+        at part.new (i * length line.now + c) ≡ clamp_value (round_shift (at (column W.lane_of i line.now) c) shift) range }
+{
+    let w = line.len();
+    for c in 0..w {
+        let word = line[c];
+        spread_word(part, rounded(word, shift, range), c, w);
+    }
+}
+
+// The rows from r on, one in each lane, written to their part of the block. Rows of zeros are not transformed.
+#[inline(always)]
+fn run_group<C: Coefficient, W: BlockWord, const K: usize>(
+    input: &[C],
+    line: &mut [W],
+    transformed: &mut [W],
     part: &mut [i32],
     r: usize,
-    rows: usize,
-    w: usize,
-    shift: usize,
-    range: usize,
+    given: usize,
+    block: Block,
 )
-    requires few { w ≤ 64 }
-    requires few_rows { rows ≤ 32 }
     requires lanes { W.LANES ≤ 8 }
-    requires rows_in { r + W.LANES ≤ rows }
-    requires shift_in { shift ≤ 2 }
-    requires range_in { (8 ≤ range) × (range ≤ 20) }
-    requires scaled_len { length scaled.now ≡ w * rows }
-    requires part_len { length part.old ≡ W.LANES * w }
-    requires fit { (c i : ℕ) → c < w → i < W.LANES → FitsBits 24 (at scaled.now (c * rows + r + i)) }
-    ensures { (i c : ℕ) → i < W.LANES → c < w → at part.new (i * w + c) ≡ clamp_value (round_shift (at scaled.now (c * rows + r + i)) shift) range }
+    requires block { AreCoefficients C.val block input.now }
+    requires power { K ≡ row_power block.tx_size }
+    requires rows_in { r + W.LANES ≤ coded (tx_height block.tx_size) }
+    requires given_in { given ≤ tx_width block.tx_size }
+    requires few { given ≤ 32 }
+    requires rest { (q c : ℕ) → given ≤ c → row_input block.tx_size block.tx_type block.bd (map C.val input.now) q c ≡ pos 0 }
+    requires line_len { length line.old ≡ tx_width block.tx_size }
+    requires transformed_len { length transformed.old ≡ tx_width block.tx_size }
+    requires part_len { length part.old ≡ W.LANES * tx_width block.tx_size }
+    ensures { (i c : ℕ) → i < W.LANES → c < tx_width block.tx_size → at part.new (i * tx_width block.tx_size + c) ≡
+        column_value block.by_av1 block.tx_size block.tx_type block.bd
+        (at (transformed_row block.by_av1 block.tx_size block.tx_type block.bd (map C.val input.now) (r + i)) c) }
 {
-    for c in 0..w {
-        let word = rounded(W::read(scaled, c * rows + r), shift, range);
-        spread_word(part, word, c, w);
+    fill_line(input, line, r, given, block);
+    if are_zero(line, given) {
+        clear(part);
+        return;
     }
+    let kind = row_kind_of(block.tx_type, block.by_av1);
+    inverse_1d(
+        kind,
+        K,
+        &mut LaneCount::new(),
+        line,
+        transformed,
+        block.bd + 8,
+    );
+    write_rows(
+        transformed,
+        part,
+        row_shift_of(block.tx_size),
+        column_bits_of(block),
+    );
 }
 
-// Writes `groups` groups of rows.
-fn write_groups<W: BlockWord>(
-    scaled: &[i32],
-    buffer: &mut [i32],
-    groups: usize,
-    rows: usize,
-    w: usize,
-    shift: usize,
-    range: usize,
-)
-    requires few { w ≤ 64 }
-    requires few_rows { rows ≤ 32 }
-    requires lanes { W.LANES ≤ 8 }
-    requires groups_in { W.LANES * groups ≤ rows }
-    requires shift_in { shift ≤ 2 }
-    requires range_in { (8 ≤ range) × (range ≤ 20) }
-    requires scaled_len { length scaled.now ≡ w * rows }
-    requires buffer_len { length buffer.old ≡ W.LANES * groups * w }
-    requires fit { (c r : ℕ) → c < w → r < W.LANES * groups → FitsBits 24 (at scaled.now (c * rows + r)) }
-    ensures { (r c : ℕ) → r < W.LANES * groups → c < w → at buffer.new (r * w + c) ≡ clamp_value (round_shift (at scaled.now (c * rows + r)) shift) range }
-{
-    let m = W::LANES;
-    let n = m * w;
-    for g in 0..groups {
-        let part = &mut buffer[g * n..g * n + n];
-        write_group::<W>(scaled, part, m * g, rows, w, shift, range);
-    }
-}
-
-// The first `count` rows of a block, as the columns of the list of coefficients.
+/// As `row_pass`, for rows of N = 2^(K+1) values, as many at a time as a word has lanes.
 #[inline(always)]
-fn rows_in(block: Block, count: usize) -> Columns
-    requires { (8 ≤ block.bd) × (block.bd ≤ 12) }
-    ensures { result ≡ block_rows block count }
-{
-    Columns {
-        kind: row_kind_of(block.tx_type, block.by_av1),
-        count,
-        width: block.tx_size.height().min(32),
-        height: block.tx_size.width(),
-        power: block.tx_size.width_log2() - 1,
-        range: block.bd + 8,
-    }
-}
-
-// All rows, as many at a time as a word has lanes. Rows past the last coefficient are zeros, and are not run.
-fn rows_of<C: Coefficient, W: BlockWord>(
+pub(crate) fn rows_of<C: Coefficient, W: BlockWord, const K: usize, const N: usize>(
     input: &[C],
-    scaled: &mut [i32],
     buffer: &mut [i32],
     block: Block,
 )
     requires lanes { (W.LANES ≡ 4) ⊎ (W.LANES ≡ 8) }
-    requires eights { 8 ≤ tx_height block.tx_size → W.LANES ≡ 8 }
+    requires small { IsSmallWord W.row }
     requires whole { W.LANES * (coded (tx_height block.tx_size) / W.LANES) ≡ coded (tx_height block.tx_size) }
     requires block { AreCoefficients C.val block input.now }
-    requires scaled_len { length scaled.old ≡ tx_width block.tx_size * coded (tx_height block.tx_size) }
+    requires width { tx_width block.tx_size ≡ N }
+    requires power { K ≡ row_power block.tx_size }
     requires buffer_len { length buffer.old ≡ tx_height block.tx_size * tx_width block.tx_size }
     ensures { AreRowsDone block (map C.val input.now) buffer.new }
 {
-    let (m, w) = (W::LANES, block.tx_size.width());
+    let zero = W::splat(0);
+    let (mut line, mut transformed) = (filled::<W, N>(zero), filled::<W, N>(zero));
+    let m = W::LANES;
     let rows = block.tx_size.height().min(32);
-    let (shift, range) = (row_shift_of(block.tx_size), column_bits_of(block));
-    fill_rows(input, scaled, block);
-    let columns = (input.len() / rows + 1).min(w);
-    let groups = live_groups::<W>(scaled, rows, w, columns);
-    let live = m * groups;
-    run_columns(scaled, &mut LaneCount::new(), &rows_in(block, live));
-    write_groups::<W>(
-        scaled,
-        &mut buffer[..live * w],
-        groups,
-        rows,
-        w,
-        shift,
-        range,
-    );
-    clear(&mut buffer[live * w..]);
+    let n = m * N;
+    let given = given_columns(input, N, block);
+    for g in 0..rows / m {
+        let part = &mut buffer[g * n..g * n + n];
+        run_group::<C, W, K>(
+            input,
+            &mut line,
+            &mut transformed,
+            part,
+            m * g,
+            given,
+            block,
+        );
+    }
+    clear(&mut buffer[rows * N..]);
+}
+
+// All rows, each length by code of its own.
+fn rows_by_width<C: Coefficient, W: BlockWord>(input: &[C], buffer: &mut [i32], block: Block)
+    requires lanes { (W.LANES ≡ 4) ⊎ (W.LANES ≡ 8) }
+    requires small { IsSmallWord W.row }
+    requires whole { W.LANES * (coded (tx_height block.tx_size) / W.LANES) ≡ coded (tx_height block.tx_size) }
+    requires block { AreCoefficients C.val block input.now }
+    requires buffer_len { length buffer.old ≡ tx_height block.tx_size * tx_width block.tx_size }
+    ensures { AreRowsDone block (map C.val input.now) buffer.new }
+{
+    match block.tx_size.width() {
+        4 => rows_of::<C, W, 1, 4>(input, buffer, block),
+        8 => rows_of::<C, W, 2, 8>(input, buffer, block),
+        16 => rows_of::<C, W, 3, 16>(input, buffer, block),
+        32 => rows_of::<C, W, 4, 32>(input, buffer, block),
+        _ => rows_of::<C, W, 5, 64>(input, buffer, block),
+    }
 }
 
 /// Transforms each row of a block and writes the inputs of the columns: the results rounded and clamped. By AV1's rule
-/// they are not clamped in lossless blocks. `buffer` gets the block row by row; the rows from 32 on are zeros. `scaled`
-/// is a buffer for the inputs of all rows that have coefficients.
-pub(crate) fn row_pass<C: Coefficient>(
-    input: &[C],
-    scaled: &mut [i32],
-    buffer: &mut [i32],
-    block: Block,
-)
+/// they are not clamped in lossless blocks. `buffer` gets the block row by row; the rows from 32 on are zeros.
+pub(crate) fn row_pass<C: Coefficient>(input: &[C], buffer: &mut [i32], block: Block)
     requires block { AreCoefficients C.val block input.now }
-    requires scaled_len { length scaled.old ≡ tx_width block.tx_size * coded (tx_height block.tx_size) }
     requires buffer_len { length buffer.old ≡ tx_height block.tx_size * tx_width block.tx_size }
     ensures { AreRowsDone block (map C.val input.now) buffer.new }
 {
     if block.tx_size.height() < LANES {
-        rows_of::<C, i32x4>(input, scaled, buffer, block);
+        rows_by_width::<C, i32x4>(input, buffer, block);
     } else {
-        rows_of::<C, i32x8>(input, scaled, buffer, block);
+        rows_by_width::<C, i32x8>(input, buffer, block);
     }
 }

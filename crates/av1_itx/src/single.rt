@@ -9,7 +9,7 @@ use crate::block::Block;
 use crate::column_pass::{column_range_of, row_shift_of};
 use crate::columns::{is_cosine, single_value};
 use crate::kinds::get_1d_tx_types;
-use crate::row_pass::{row_value_of, scaling_of};
+use crate::row_pass::{scaled, scaling_of};
 use av1_blocks::TxType;
 use av1_dct::clamp_value;
 use av1_frame::{Coefficient, round_shift};
@@ -35,16 +35,6 @@ pub(crate) fn is_single<C: Coefficient>(input: &[C], tx_type: TxType) -> bool
     is_cosine(column) && is_cosine(row) && ends_at_first(input)
 }
 
-/// The first coefficient, or 0 if there is none.
-pub(crate) fn first_of<C: Coefficient>(input: &[C]) -> i32
-    ensures { result ≡ at (map C.val input.now) 0 }
-{
-    if input.is_empty() {
-        return 0;
-    }
-    input[0].to_i32()
-}
-
 // The input of the columns for a row's value.
 fn taken_by_columns(z: i32, shift: usize, range: usize) -> i32
     requires shift_in { shift ≤ 2 }
@@ -62,7 +52,7 @@ pub(crate) fn top_value(first: i32, block: Block) -> i32
     ensures { result ≡ top_of block first }
 {
     let scaling = scaling_of(block.tx_size, block.tx_type);
-    let z = row_value_of(first, scaling, block.bd);
+    let z = scaled(first, scaling, block.bd);
     let row = single_value(z, block.bd + 8);
     taken_by_columns(row, row_shift_of(block.tx_size), column_range_of(block.bd))
 }

@@ -1,7 +1,7 @@
 use Rattle.std.proofs.Common.{ℕ, ◌≡◌, ◌*◌, ◌≤◌, ◌∙◌, arith, ap}
 use Rattle.std.proofs.lemmas.List.{length-take-le}
 use Rattle.av1_blocks.specs.declared.transform.TxSize.{TxSize}
-use Rattle.av1_blocks.specs.Transforms.{tx_width, tx_height, coded}
+use Rattle.av1_blocks.specs.Transforms.{tx_width, tx_height}
 use Rattle.av1_itx.proofs.Handed.{areas}
 use Rattle.av1_itx.proofs.inverse.add_over.Goals as goal
 
@@ -9,30 +9,14 @@ use Rattle.av1_itx.proofs.inverse.add_over.Goals as goal
 places : (size : TxSize) (h w : ℕ) → h ≡ tx_height size → w ≡ tx_width size → (h * w ≡ tx_height size * tx_width size) × (h * w ≤ 4096)
 places size h w eh ew = let is = ap (λ n. n * w) eh ∙ ap (λ n. tx_height size * n) ew in (is, omega (arith, is, (areas size).0))
 
-inputs : (size : TxSize) (w h : ℕ) → w ≡ tx_width size → h ≡ coded (tx_height size)
-    → (w * h ≡ tx_width size * coded (tx_height size)) × (w * h ≤ 2048)
-inputs size w h ew eh = let is = ap (λ n. n * h) ew ∙ ap (λ n. tx_width size * n) eh in (is, omega (arith, is, (areas size).1))
-
 pub overflow_mul-places : goal.overflow_mul-places
 overflow_mul-places g c = let few = places c.args.block.tx_size _ _ c.height.ensures.value c.width.ensures.value in omega (arith, few.1)
 
-pub overflow_mul-inputs : goal.overflow_mul-inputs
-overflow_mul-inputs g c = let few = inputs c.args.block.tx_size _ c.min.result c.width-2.ensures.value (omega arith) in omega (arith, few.1)
-
-pub slice_bounds-add_block-end : goal.slice_bounds-add_block-end
-slice_bounds-add_block-end g c =
+pub slice_bounds-add_any-end : goal.slice_bounds-add_any-end
+slice_bounds-add_any-end g c =
     let few = places c.args.block.tx_size _ _ c.height.ensures.value c.width.ensures.value in omega (arith, few.1, c.requires.buffer_len)
 
-pub slice_bounds-add_block-end-3 : goal.slice_bounds-add_block-end-3
-slice_bounds-add_block-end-3 g c =
-    let few = inputs c.args.block.tx_size _ c.min.result c.width-2.ensures.value (omega arith) in omega (arith, few.1, c.requires.scaled_len)
-
-pub add_block-requires-clause-buffer_len : goal.add_block-requires-clause-buffer_len
-add_block-requires-clause-buffer_len g c =
+pub add_any-requires-clause-buffer_len : goal.add_any-requires-clause-buffer_len
+add_any-requires-clause-buffer_len g c =
     let few = places c.args.block.tx_size _ _ c.height.ensures.value c.width.ensures.value in
     length-take-le _ c.args.buffer.now (omega (arith, few.1, c.requires.buffer_len)) ∙ few.0
-
-pub add_block-requires-clause-scaled_len : goal.add_block-requires-clause-scaled_len
-add_block-requires-clause-scaled_len g c =
-    let few = inputs c.args.block.tx_size _ c.min.result c.width-2.ensures.value (omega arith) in
-    length-take-le _ c.args.scaled.now (omega (arith, few.1, c.requires.scaled_len)) ∙ few.0

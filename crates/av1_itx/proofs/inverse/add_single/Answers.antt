@@ -1,5 +1,5 @@
 use Rattle.std.proofs.lemmas.Int.{ints}
-use Rattle.std.proofs.Common.{arith, w32, to_z, of_z, ℤ, ◌≡◌, ◌*◌, ◌/◌, ◌<◌, ◌≤◌, ◌∙◌, cond, ap, sym, subst, pos, map, ◌+ℤ◌}
+use Rattle.std.proofs.Common.{arith, w32, to_z, of_z, ℤ, ◌≡◌, ◌/◌, ◌<◌, ◌∙◌, cond, ap, sym, subst, pos, map, ◌+ℤ◌}
 use Rattle.av1_blocks.specs.Transforms.{tx_width, tx_height}
 use Rattle.av1_dct.specs.Arithmetic.{at, clamp_value, FitsBits}
 use Rattle.av1_dct.specs.Operations.{half_btf}
@@ -10,7 +10,7 @@ use Rattle.av1_frame.proofs.Paint.{paint_same}
 use Rattle.av1_itx.specs.Residue.{column_range}
 use Rattle.av1_itx.specs.Scaffolding.{top_of}
 use Rattle.av1_itx.proofs.Raised.{rounded_fits, sum_small}
-use Rattle.av1_itx.proofs.Handed.{groups}
+use Rattle.av1_itx.proofs.Handed.{width_in_eights, width_in_fours}
 use Rattle.av1_itx.proofs.Singles.{single_residue}
 use Rattle.av1_itx.proofs.inverse.add_single.Goals as goal
 
@@ -28,10 +28,10 @@ round_shift-residue-requires-clause-fits g c =
     (fits_wider c.column_range_of-range.result 24 _ (omega arith) (clamp_value-fits _ c.column_range_of-range.result (omega arith))))
 
 pub raise_all-requires-clause-fours : goal.raise_all-requires-clause-fours
-raise_all-requires-clause-fours g c = subst (λ n. 4 * (n / 4) ≡ n) (sym c.requires.place.width) (groups c.args.block.tx_size).0
+raise_all-requires-clause-fours g c = width_in_fours c.requires.place
 
 pub raise_all-requires-clause-eights : goal.raise_all-requires-clause-eights
-raise_all-requires-clause-eights g c = subst (λ n. 8 ≤ n → 8 * (n / 8) ≡ n) (sym c.requires.place.width) (groups c.args.block.tx_size).1
+raise_all-requires-clause-eights g c = width_in_eights c.requires.place
 
 pub raise_all-requires-clause-depths : goal.raise_all-requires-clause-depths
 raise_all-requires-clause-depths g c = c.requires.block.depth.0
@@ -52,13 +52,13 @@ returns-clause-painted g c =
     let cs = map g.T.Coeff.Coefficient.val c.args.input.now in
     let z = c.single_value-value.result in
     let whole : to_z w32 (of_z w32 z) ≡ z = omega (arith, ints) in
-    let first : to_z w32 (of_z w32 c.first_of.result) ≡ c.first_of.result = omega (arith, ints) in
+    let first : to_z w32 (of_z w32 c.coefficient_at.result) ≡ c.coefficient_at.result = omega (arith, ints) in
     let put_on = λ (z : ℤ) (v : _). g.T.Pixel.pixel (clip block.bd (pos (g.T.Pixel.num v) +ℤ z)) in
     let level = λ (v : ℤ) (n : _). clamp_value (half_btf (pos 2896) v (pos 0) v) n in
     let top : to_z w32 (of_z w32 c.top_value-top.result) ≡ c.top_value-top.result = omega (arith, ints) in
     let kept : to_z w32 (of_z w32 c.round_shift-residue.result) ≡ c.round_shift-residue.result = omega (arith, ints) in
     let is = c.single_value-value.ensures ∙ ap (λ v. level v c.column_range_of-range.result) (top ∙ c.top_value-top.ensures)
-    ∙ ap (λ v. level (top_of block v) c.column_range_of-range.result) (first ∙ c.first_of.ensures)
+    ∙ ap (λ v. level (top_of block v) c.column_range_of-range.result) (first ∙ c.coefficient_at.ensures)
     ∙ ap (level (top_of block (at cs 0))) c.column_range_of-range.ensures.value in
     c.raise_all.ensures
     ∙ paint_same c.args.place.stride a _ _ c.args.samples.now (λ r q v hr hq.

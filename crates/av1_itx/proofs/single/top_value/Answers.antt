@@ -18,9 +18,9 @@ returns c =
     let size = c.args.block.tx_size in
     let bd = c.args.block.bd in
     let scaling = c.scaling_of-scaling in
-    let z = c.row_value_of-z.result in
+    let z = c.scaled-z.result in
     let fits : FitsSigned w32 c.args.first = search rules in
-    let given = simp to_z-of_z at c.row_value_of-z.ensures in
+    let given = simp to_z-of_z at (c.scaled-z.ensures 0 (omega arith)) in
     let is = row_value-is size c.args.block.tx_type bd scaling.result.two_to_one scaling.result.lossless c.args.first z scaling.ensures.two_to_one
     scaling.ensures.lossless given in
     let level = λ (v : ℤ). clamp_value (half_btf (pos 2896) v (pos 0) v) (bd + 8) in
