@@ -23,7 +23,7 @@ NAMES = {
     "Refusal": "tilg_refusal",
     "PartRefusal": "tilg_part_refusal",
     "TraceDifference": "tilg_difference",
-    "TxRoom": "tilg_transform_scratch",
+    "Context": "tilg_context",
     "MotionBlock": "tilg_motion_block",
     "MotionPlane": "tilg_motion_plane",
     "MovedBlock": "tilg_moved_block",
@@ -113,8 +113,9 @@ class Declared:
         every = [match for text in texts for match in CONSTANT.findall(text)]
         self.numbers = {name: int(number) for _, name, _, number in every}
         self.constants = {name: (of, int(number)) for public, name, of, number in every if public}
-        self.structs = {name: FIELD.findall(body) for text in texts for name, body in STRUCT.findall(text) if name in NAMES}
         self.sizes = {name: int(size.replace("_", "")) for text in texts for name, size in SIZE.findall(text)}
+        structs = [match for text in texts for match in STRUCT.findall(text)]
+        self.structs = {name: FIELD.findall(body) for name, body in structs if name in NAMES and name not in self.sizes}
         calls = [match for text in texts for match in CALL.findall(text)]
         self.calls = {name: (self.parameters(listed), answer) for name, listed, answer in calls}
 

@@ -62,7 +62,7 @@ HOLDS(TILG_FIELD_SECOND == 8);
 HOLDS(TILG_FIELD_COEFFICIENTS == 9);
 HOLDS(TILG_VERSION == 1024);
 
-HOLDS(sizeof(tilg_transform_scratch) == 24576);
+HOLDS(sizeof(tilg_context) == 79252);
 
 HOLDS(sizeof(tilg_luma_block) == 24);
 FIELD(tilg_luma_block, block_size, uint8_t *, 0);
@@ -339,7 +339,8 @@ tilg_status tilg_builder_mark(tilg_builder *, uint8_t *, size_t, uint8_t);
 tilg_status tilg_builder_leaf(tilg_builder *, uint8_t *, size_t, uint32_t *, const tilg_leaf *, const tilg_coefficient
     *, size_t, const tilg_coefficient *, size_t, const tilg_coefficient *, size_t);
 tilg_status tilg_builder_next(tilg_next_field *, const tilg_builder *);
-tilg_status tilg_trace_differences(tilg_difference *, size_t, size_t *, tilg_part_refusal *, const uint8_t *, size_t);
+tilg_status tilg_trace_differences(tilg_difference *, size_t, size_t *, tilg_refusal *, const uint8_t *, size_t, const
+    uint8_t *, size_t, size_t, const uint8_t *, size_t, size_t, const uint8_t *, size_t, size_t);
 tilg_status tilg_predict_intra_8(uint8_t *, size_t, size_t, size_t, size_t, const tilg_intra_block *, const uint8_t *,
     size_t, uint8_t, const uint8_t *, size_t);
 tilg_status tilg_predict_intra_16(uint16_t *, size_t, size_t, size_t, size_t, const tilg_intra_block *, const uint16_t
@@ -357,8 +358,8 @@ tilg_status tilg_predict_in_plane_8(uint8_t *, size_t, const tilg_edge_plane *, 
 tilg_status tilg_predict_in_plane_16(uint16_t *, size_t, const tilg_edge_plane *, const tilg_edge_block *, uint8_t,
     const int16_t *, size_t, int16_t);
 tilg_status tilg_cfl_ac_8(int16_t *, size_t, const uint8_t *, size_t, size_t, size_t, size_t, const tilg_cfl_block *);
-tilg_status tilg_cfl_ac_16(int16_t *, size_t, const uint16_t *, size_t, size_t, size_t, size_t, const tilg_cfl_block *,
-    uint8_t);
+tilg_status tilg_cfl_ac_tested_16(int16_t *, size_t, const uint16_t *, size_t, size_t, size_t, size_t, const
+    tilg_cfl_block *);
 tilg_status tilg_cfl_block_of(tilg_cfl_block *, const tilg_luma_block *);
 tilg_status tilg_put_8tap_8(uint8_t *, size_t, size_t, size_t, size_t, const uint8_t *, size_t, size_t, size_t, size_t,
     const tilg_motion_block *);
@@ -368,14 +369,14 @@ tilg_status tilg_mc_avg_8(uint8_t *, size_t, size_t, size_t, size_t, size_t, siz
     int16_t *, size_t);
 tilg_status tilg_mc_avg_16(uint16_t *, size_t, size_t, size_t, size_t, size_t, size_t, const int16_t *, size_t, const
     int16_t *, size_t, uint8_t);
-tilg_status tilg_put_moved_8(uint8_t *, size_t, size_t, size_t, size_t, uint8_t *, size_t, const uint8_t *, size_t,
-    const tilg_motion_plane *, const tilg_moved_block *);
-tilg_status tilg_put_moved_16(uint16_t *, size_t, size_t, size_t, size_t, uint16_t *, size_t, const uint16_t *, size_t,
+tilg_status tilg_put_moved_8(uint8_t *, size_t, size_t, size_t, size_t, tilg_context *, const uint8_t *, size_t, const
+    tilg_motion_plane *, const tilg_moved_block *);
+tilg_status tilg_put_moved_16(uint16_t *, size_t, size_t, size_t, size_t, tilg_context *, const uint16_t *, size_t,
     const tilg_motion_plane *, const tilg_moved_block *, uint8_t);
-tilg_status tilg_prep_moved_8(int16_t *, size_t, uint8_t *, size_t, const uint8_t *, size_t, const tilg_motion_plane *,
+tilg_status tilg_prep_moved_8(int16_t *, size_t, tilg_context *, const uint8_t *, size_t, const tilg_motion_plane *,
     const tilg_moved_block *);
-tilg_status tilg_prep_moved_16(int16_t *, size_t, uint16_t *, size_t, const uint16_t *, size_t, const tilg_motion_plane
-    *, const tilg_moved_block *, uint8_t);
+tilg_status tilg_prep_moved_16(int16_t *, size_t, tilg_context *, const uint16_t *, size_t, const tilg_motion_plane *,
+    const tilg_moved_block *, uint8_t);
 tilg_status tilg_test_samples_16(const uint16_t *, size_t, size_t, size_t, size_t, size_t, size_t, uint8_t);
 tilg_status tilg_put_tested_16(uint16_t *, size_t, size_t, size_t, size_t, const uint16_t *, size_t, size_t, size_t,
     size_t, const tilg_motion_block *, uint8_t);
@@ -385,12 +386,12 @@ tilg_status tilg_planes_len(size_t *, tilg_refusal *, const uint8_t *, size_t);
 tilg_status tilg_reconstruct_plan(uint8_t *, size_t, size_t *, tilg_refusal *, const uint8_t *, size_t);
 tilg_status tilg_reconstruct_sequence(uint8_t *, size_t, size_t *, tilg_part_refusal *, const uint8_t *, size_t);
 tilg_status tilg_reconstruct_tiles(uint8_t *, size_t, size_t *, tilg_part_refusal *, const uint8_t *, size_t);
-tilg_status tilg_inverse_transform_add_8(uint8_t *, size_t, size_t, size_t, size_t, tilg_transform_scratch *, const
-    int16_t *, size_t, uint8_t, uint8_t);
-tilg_status tilg_inverse_transform_add_16(uint16_t *, size_t, size_t, size_t, size_t, tilg_transform_scratch *, const
+tilg_status tilg_inverse_transform_add_8(uint8_t *, size_t, size_t, size_t, size_t, tilg_context *, const int16_t *,
+    size_t, uint8_t, uint8_t);
+tilg_status tilg_inverse_transform_add_16(uint16_t *, size_t, size_t, size_t, size_t, tilg_context *, const int32_t *,
+    size_t, uint8_t, uint8_t, uint8_t);
+tilg_status tilg_inverse_transform_add_rav1e_16(uint16_t *, size_t, size_t, size_t, size_t, tilg_context *, const
     int32_t *, size_t, uint8_t, uint8_t, uint8_t);
-tilg_status tilg_inverse_transform_add_rav1e_16(uint16_t *, size_t, size_t, size_t, size_t, tilg_transform_scratch *,
-    const int32_t *, size_t, uint8_t, uint8_t, uint8_t);
 uint32_t tilg_version_0_4(void);
 
 #ifdef __cplusplus

@@ -61,7 +61,8 @@ static size_t place(int vector, int at, int length, int visible, int padding) {
 /* A block that a vector moves past the sides of a plane without pads, beside one that is read from pads. */
 static void blocks_without_pads(void) {
     enum { WIDE = 6, HIGH = 5, PAD = 11, ROW = WIDE + 2 * PAD };
-    uint8_t bare[WIDE * HIGH], padded[ROW * (HIGH + 2 * PAD)], one[8], other[8], window[11 * 9];
+    static tilg_context context;
+    uint8_t bare[WIDE * HIGH], padded[ROW * (HIGH + 2 * PAD)], one[8], other[8];
     int16_t values[8], others[8];
     for (size_t i = 0; i < WIDE * HIGH; i++) bare[i] = (uint8_t)(i * 53);
     for (size_t y = 0; y < HIGH + 2 * PAD; y++)
@@ -75,14 +76,13 @@ static void blocks_without_pads(void) {
         size_t x = place(block.mv_x, 1, 4, WIDE, PAD), y = place(block.mv_y, 2, 2, HIGH, PAD);
         tilg_motion_block moved = {4, 2, (uint8_t)(2 * block.mv_x & 15), (uint8_t)(2 * block.mv_y & 15), TILG_FILTER_SHARP, TILG_FILTER_SMOOTH};
         CHECK(tilg_put_8tap_8(one, 8, 4, 0, 0, padded, sizeof padded, ROW, x, y, &moved) == TILG_DONE);
-        CHECK(tilg_put_moved_8(other, 8, 4, 0, 0, window, sizeof window, bare, sizeof bare, &plane, &block) == TILG_DONE);
+        CHECK(tilg_put_moved_8(other, 8, 4, 0, 0, &context, bare, sizeof bare, &plane, &block) == TILG_DONE);
         CHECK(memcmp(one, other, 8) == 0);
         CHECK(tilg_prep_8tap_8(values, 8, padded, sizeof padded, ROW, x, y, &moved) == TILG_DONE);
-        CHECK(tilg_prep_moved_8(others, 8, window, sizeof window, bare, sizeof bare, &plane, &block) == TILG_DONE);
+        CHECK(tilg_prep_moved_8(others, 8, &context, bare, sizeof bare, &plane, &block) == TILG_DONE);
         CHECK(memcmp(values, others, sizeof values) == 0);
-        CHECK(tilg_prep_moved_8(others, 7, window, sizeof window, bare, sizeof bare, &plane, &block) == TILG_TOO_SHORT);
-        CHECK(tilg_put_moved_8(other, 8, 4, 0, 0, window, sizeof window, bare, sizeof bare - 1, &plane, &block) == TILG_BAD_AREA);
-        CHECK(tilg_put_moved_8(other, 8, 4, 0, 0, window, sizeof window - 1, bare, sizeof bare, &plane, &block) == TILG_TOO_SHORT);
+        CHECK(tilg_prep_moved_8(others, 7, &context, bare, sizeof bare, &plane, &block) == TILG_TOO_SHORT);
+        CHECK(tilg_put_moved_8(other, 8, 4, 0, 0, &context, bare, sizeof bare - 1, &plane, &block) == TILG_BAD_AREA);
     }
 }
 
@@ -160,6 +160,8 @@ static void blocks_of_16_bits(void) {
     reference[ALL - 1] = 1024;
     CHECK(tilg_test_samples_16(reference, ALL, STRIDE, 0, 0, STRIDE, ROWS, 10) == TILG_BAD_SAMPLE);
     CHECK(tilg_test_samples_16(reference, ALL, STRIDE, 0, 0, STRIDE, ROWS - 1, 10) == TILG_DONE);
+    CHECK(tilg_test_samples_16(reference, STRIDE * (ROWS - 1) - 3, STRIDE, 0, 0, STRIDE - 3, ROWS - 1, 10) == TILG_DONE);
+    CHECK(tilg_test_samples_16(reference, STRIDE * (ROWS - 1) - 4, STRIDE, 0, 0, STRIDE - 3, ROWS - 1, 10) == TILG_BAD_AREA);
     CHECK(tilg_test_samples_16(reference, ALL, STRIDE, 0, 0, STRIDE, ROWS, 9) == TILG_BAD_DEPTH);
     CHECK(tilg_test_samples_16(reference, ALL, STRIDE, 1, 0, STRIDE, ROWS, 10) == TILG_BAD_AREA);
     CHECK(tilg_put_tested_16(samples, 8, 4, 0, 0, reference, ALL, STRIDE, 4, 5, &block, 9) == TILG_BAD_DEPTH);

@@ -1,4 +1,4 @@
-/* Grids of tiles, sequences of frames and traces, made of a plan whose file and whose planes' file are named: whole, cut and spoilt. */
+/* Grids of tiles and sequences of frames, made of a plan whose file and whose planes' file are named: whole, cut and spoilt. And the plan's planes, compared. */
 #include "tilgwaren.h"
 
 #include <stdio.h>
@@ -64,15 +64,6 @@ static text sequence_of(const text *plan) {
         put_part(&sequence, plan->at + HEADER, plan->len - HEADER);
     }
     return sequence;
-}
-
-/* The plan with planes. */
-static text trace_of(const text *plan, const text *planes) {
-    text trace = {{0}, 0};
-    put(&trace, "RTR1", 4);
-    put_part(&trace, plan->at, plan->len);
-    put(&trace, planes->at, planes->len);
-    return trace;
 }
 
 static int same_refusal(tilg_part_refusal a, tilg_part_refusal b) {
@@ -149,37 +140,62 @@ static void spoilt(reconstruct with, text bytes, size_t start, uint32_t part) {
     CHECK(malformed.status == TILG_MALFORMED_PART && same_refusal(malformed.refusal, mark));
 }
 
-/* A trace whose planes are those of the plan, and one whose first sample and whose last are not; cut, and with a byte behind it. */
-static void traces(const text *plan, const text *planes) {
-    text same = trace_of(plan, planes), other = same;
+/* Planes of 8 bits in 4:4:4, one after the other: `len` bytes of each are given. */
+static tilg_status compare(tilg_difference *room, size_t room_len, size_t *found, tilg_refusal *refusal, const text *plan, const uint8_t *planes, size_t len,
+                           size_t stride) {
+    size_t apart = stride * plan->at[6];
+    return tilg_trace_differences(room, room_len, found, refusal, plan->at, plan->len, planes, len, stride, planes + apart, len, stride, planes + 2 * apart,
+                                  len, stride);
+}
+
+/* Planes of the plan, and planes whose first sample and whose last are not; a plan that is cut, with a byte behind it and with a bad leaf. */
+static void differences(const text *plan, const text *planes) {
+    text other = *planes, altered = *plan;
+    static const tilg_refusal nothing = {7, 8, 9};
     tilg_difference room[3];
-    tilg_part_refusal refusal = untold;
-    size_t found = 77, start = same.len - planes->len;
+    tilg_refusal refusal = nothing;
+    size_t found = 77, width = plan->at[4], len = width * plan->at[6];
+    CHECK(planes->len == 3 * len);
     memset(room, FILLED, sizeof room);
-    CHECK(tilg_trace_differences(room, 3, &found, &refusal, same.at, same.len) == TILG_DONE && found == 0);
+    CHECK(compare(room, 3, &found, &refusal, plan, planes->at, len, width) == TILG_DONE && found == 0);
     CHECK(all_filled((const uint8_t *)room, sizeof room));
-    CHECK(tilg_trace_differences(NULL, 0, &found, &refusal, same.at, same.len) == TILG_DONE && found == 0);
-    other.at[start] ^= 255, other.at[other.len - 1] ^= 255;
-    for (size_t len = 0; len <= 3; len++) {
+    CHECK(compare(NULL, 0, &found, &refusal, plan, planes->at, len, width) == TILG_DONE && found == 0);
+    other.at[0] ^= 255, other.at[other.len - 1] ^= 255;
+    for (size_t fit = 0; fit <= 3; fit++) {
         memset(room, FILLED, sizeof room);
-        CHECK(tilg_trace_differences(room, len, &found, &refusal, other.at, other.len) == TILG_DONE && found == 2);
-        if (len > 0) CHECK(room[0].leaf == 0 && room[0].plane == 0 && room[0].y == 0 && room[0].x == 0);
-        if (len > 0) CHECK(room[0].given == other.at[start] && room[0].defined == same.at[start]);
-        if (len > 1) CHECK(room[1].plane == 2 && room[1].defined == same.at[same.len - 1]);
-        size_t listed = len < 2 ? len : 2;
+        CHECK(compare(room, fit, &found, &refusal, plan, other.at, len, width) == TILG_DONE && found == 2);
+        if (fit > 0) CHECK(room[0].leaf == 0 && room[0].plane == 0 && room[0].y == 0 && room[0].x == 0);
+        if (fit > 0) CHECK(room[0].given == other.at[0] && room[0].defined == planes->at[0]);
+        if (fit > 1) CHECK(room[1].plane == 2 && room[1].defined == planes->at[other.len - 1]);
+        size_t listed = fit < 2 ? fit : 2;
         CHECK(all_filled((const uint8_t *)(room + listed), sizeof room - listed * sizeof *room));
     }
-    CHECK(same_refusal(refusal, untold));
     memset(room, FILLED, sizeof room), found = 77;
-    for (size_t front = 0; front < other.len; front++) {
-        CHECK(tilg_trace_differences(room, 3, &found, &refusal, other.at, front) == TILG_MALFORMED);
-        CHECK(refusal.at <= front && refusal.part == 0 && refusal.leaf == 0 && refusal.kind == 0);
+    CHECK(compare(room, 3, &found, &refusal, plan, planes->at, len - 1, width) == TILG_BAD_AREA);
+    CHECK(compare(room, 3, &found, &refusal, plan, planes->at, len, width - 1) == TILG_BAD_AREA);
+    CHECK(refusal.at == 7 && refusal.leaf == 8 && refusal.kind == 9);
+    for (altered.len = 0; altered.len < plan->len; altered.len++) {
+        CHECK(compare(room, 3, &found, &refusal, &altered, planes->at, len, width) == TILG_MALFORMED);
+        CHECK(refusal.at <= altered.len && refusal.leaf == 0 && refusal.kind == 0);
     }
-    CHECK(tilg_trace_differences(room, 3, &found, &refusal, other.at, other.len + 1) == TILG_MALFORMED && refusal.at == other.len);
-    other.at[8 + 34] = 16;
-    CHECK(tilg_trace_differences(room, 3, &found, &refusal, other.at, other.len) == TILG_INVALID_PART);
-    CHECK(refusal.part == 0 && refusal.leaf == 0 && refusal.kind == TILG_INVALID_COEFFICIENT);
+    altered.len = plan->len + 1;
+    CHECK(compare(room, 3, &found, &refusal, &altered, planes->at, len, width) == TILG_MALFORMED && refusal.at == plan->len);
+    altered.len = plan->len, altered.at[34] = 16;
+    CHECK(compare(room, 3, &found, &refusal, &altered, planes->at, len, width) == TILG_INVALID);
+    CHECK(refusal.at == 0 && refusal.leaf == 0 && refusal.kind == TILG_INVALID_COEFFICIENT);
     CHECK(found == 77 && all_filled((const uint8_t *)room, sizeof room));
+}
+
+/* The same planes among others' samples: rows that are further apart, the last of which ends with its samples. */
+static void planes_in_place(const text *plan, const text *planes) {
+    enum { MORE = 5 };
+    static uint8_t apart[3 * MOST];
+    tilg_refusal refusal;
+    size_t found = 77, width = plan->at[4], rows = plan->at[6], stride = width + MORE;
+    CHECK(3 * stride * rows <= sizeof apart);
+    memset(apart, FILLED, sizeof apart);
+    for (size_t row = 0; row < 3 * rows; row++) memcpy(apart + row * stride, planes->at + row * width, width);
+    CHECK(compare(NULL, 0, &found, &refusal, plan, apart, stride * rows - MORE, stride) == TILG_DONE && found == 0);
 }
 
 /* The plan as a frame that isn't shown, which slot 0 holds then, and a slot that is shown again. The frames are of the third version. */
@@ -215,7 +231,8 @@ int main(int count, char **words) {
     whole_and_cut(tilg_reconstruct_tiles, &third, &planes, 1);
     whole_and_cut(tilg_reconstruct_sequence, &sequence, &planes, 2);
     shown_again(&plan, &planes);
-    traces(&plan, &planes);
+    differences(&plan, &planes);
+    planes_in_place(&plan, &planes);
     long_bytes(tilg_reconstruct_tiles);
     long_bytes(tilg_reconstruct_sequence);
     spoilt(tilg_reconstruct_tiles, grid, grid.len - part, 0);

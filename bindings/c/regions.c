@@ -50,18 +50,18 @@ static tilg_status put_in(const tilg_region_8 *to, size_t x, size_t y, size_t sr
 }
 
 /* A residue added to a block of 8x8 in a region: it is loaded first. */
-static tilg_status add_in(const tilg_region_8 *to, size_t x, size_t y, tilg_transform_scratch *scratch, uint8_t size) {
+static tilg_status add_in(const tilg_region_8 *to, size_t x, size_t y, tilg_context *context, uint8_t size) {
     uint8_t room[64];
     tilg_read_region_8 from = {to->first, to->stride, to->width, to->height};
     tilg_status status = tilg_load_region_8(room, 64, &from, x, y, 8, 8);
-    if (!status) status = tilg_inverse_transform_add_8(room, 64, 8, 0, 0, scratch, few, 3, size, TILG_DCT_DCT);
+    if (!status) status = tilg_inverse_transform_add_8(room, 64, 8, 0, 0, context, few, 3, size, TILG_DCT_DCT);
     return status ? status : tilg_store_region_8(to, x, y, 8, 8, room, 64);
 }
 
 /* Every block of a tile is moved, then every other one predicted, and a residue is added. */
 static void work(const tilg_region_8 *tile, size_t number, size_t seed) {
     uint8_t room[129 * 129];
-    tilg_transform_scratch scratch;
+    tilg_context context;
     tilg_edge_plane plane = tile_of(number);
     for (size_t y = 0; y < ROWS; y += 8)
         for (size_t x = 0; x < TILE; x += 8) {
@@ -69,13 +69,13 @@ static void work(const tilg_region_8 *tile, size_t number, size_t seed) {
             tilg_edge_block edge = edge_of(x, y, seed);
             CHECK(put_in(tile, x, y, 3 + x, 3 + y / 2, &block) == TILG_DONE);
             if ((x + y) / 8 % 2) CHECK(tilg_predict_in_tile_8(tile, room, sizeof room, &plane, &edge, 1, NULL, 0, 0) == TILG_DONE);
-            CHECK(add_in(tile, x, y, &scratch, SIZE_8X8) == TILG_DONE);
+            CHECK(add_in(tile, x, y, &context, SIZE_8X8) == TILG_DONE);
         }
 }
 
 /* The same by calls on all samples of the plane. */
 static void work_on_samples(uint8_t *samples, size_t number, size_t seed) {
-    tilg_transform_scratch scratch;
+    tilg_context context;
     tilg_edge_plane plane = tile_of(number);
     for (size_t y = 0; y < ROWS; y += 8)
         for (size_t x = 0; x < TILE; x += 8) {
@@ -84,7 +84,7 @@ static void work_on_samples(uint8_t *samples, size_t number, size_t seed) {
             tilg_edge_block edge = edge_of(x, y, seed);
             CHECK(tilg_put_8tap_8(samples, FULL, STRIDE, column, y, reference_8, sizeof reference_8, SIDE, 3 + x, 3 + y / 2, &block) == TILG_DONE);
             if ((x + y) / 8 % 2) CHECK(tilg_predict_in_plane_8(samples, FULL, &plane, &edge, 1, NULL, 0, 0) == TILG_DONE);
-            CHECK(tilg_inverse_transform_add_8(samples, FULL, STRIDE, column, y, &scratch, few, 3, SIZE_8X8, 0) == TILG_DONE);
+            CHECK(tilg_inverse_transform_add_8(samples, FULL, STRIDE, column, y, &context, few, 3, SIZE_8X8, 0) == TILG_DONE);
         }
 }
 
@@ -191,7 +191,7 @@ static void transforms_in_tiles(void) {
 /* What is refused leaves the region as it was, and what lies beside a rectangle always stays. */
 static void refused_calls(void) {
     uint8_t *samples = before_a_page(LEN), room[64];
-    tilg_transform_scratch scratch;
+    tilg_context context;
     tilg_region_8 region = {samples, STRIDE, COLUMNS, ROWS};
     tilg_read_region_8 read = {samples, STRIDE, COLUMNS, ROWS};
     tilg_motion_block block = motion_of(0, 0, 0), bad = block;
@@ -200,8 +200,8 @@ static void refused_calls(void) {
     CHECK(put_in(&region, 249, 0, 3, 3, &block) == TILG_BAD_AREA);
     CHECK(put_in(&region, 0, SIZE_MAX, 3, 3, &block) == TILG_BAD_AREA);
     CHECK(put_in(&region, 0, 0, 3, 3, &bad) == TILG_BAD_MODE);
-    CHECK(add_in(&region, 0, 57, &scratch, SIZE_8X8) == TILG_BAD_AREA);
-    CHECK(add_in(&region, 0, 0, &scratch, 19) == TILG_BAD_SIZE);
+    CHECK(add_in(&region, 0, 57, &context, SIZE_8X8) == TILG_BAD_AREA);
+    CHECK(add_in(&region, 0, 0, &context, 19) == TILG_BAD_SIZE);
     CHECK(tilg_store_region_8(&region, 0, 0, 8, 9, room, 64) == TILG_TOO_SHORT);
     CHECK(tilg_store_region_8(&region, 0, 0, 1, SIZE_MAX, room, 64) == TILG_BAD_AREA);
     CHECK(tilg_load_region_8(room, 64, &read, 0, 0, 8, 9) == TILG_TOO_SHORT);

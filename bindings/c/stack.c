@@ -38,11 +38,10 @@ __attribute__((noinline)) static size_t taken(void) {
     } while (0)
 
 static uint8_t plane_8[SIDE * SIDE], other_8[SIDE * SIDE];
-static uint16_t plane_16[SIDE * SIDE], other_16[SIDE * SIDE], window_16[135 * 135];
-static uint8_t window_8[135 * 135];
+static uint16_t plane_16[SIDE * SIDE], other_16[SIDE * SIDE];
 static int16_t first[128 * 128], second[128 * 128], few[1024];
 static int32_t many[1024];
-static tilg_transform_scratch scratch;
+static tilg_context context;
 
 static void tell(const char *name, size_t deepest) { printf("%s %zu\n", name, deepest); }
 
@@ -53,7 +52,7 @@ static void fill(void) {
 
 /* Whether transforms of this size have this type: the call says so of a block that lies nowhere. */
 static int is_transform(uint8_t size, uint8_t type) {
-    return tilg_inverse_transform_add_8(plane_8, 0, SIDE, 0, 0, &scratch, few, 1024, size, type) == TILG_BAD_AREA;
+    return tilg_inverse_transform_add_8(plane_8, 0, SIDE, 0, 0, &context, few, 1024, size, type) == TILG_BAD_AREA;
 }
 
 enum transform { ADD_8, ADD_16, ADD_RAV1E };
@@ -65,11 +64,11 @@ static void transforms(enum transform call) {
         for (uint8_t type = 0; type < 17; type++) {
             if (!is_transform(size, type)) continue;
             if (call == ADD_16)
-                DEEP(tilg_inverse_transform_add_16(plane_16, SIDE * SIDE, SIDE, 4, 4, &scratch, many, 1024, size, type, 10));
+                DEEP(tilg_inverse_transform_add_16(plane_16, SIDE * SIDE, SIDE, 4, 4, &context, many, 1024, size, type, 10));
             else if (call == ADD_RAV1E)
-                DEEP(tilg_inverse_transform_add_rav1e_16(plane_16, SIDE * SIDE, SIDE, 4, 4, &scratch, many, 1024, size, type, 10));
+                DEEP(tilg_inverse_transform_add_rav1e_16(plane_16, SIDE * SIDE, SIDE, 4, 4, &context, many, 1024, size, type, 10));
             else
-                DEEP(tilg_inverse_transform_add_8(plane_8, SIDE * SIDE, SIDE, 4, 4, &scratch, few, 1024, size, type));
+                DEEP(tilg_inverse_transform_add_8(plane_8, SIDE * SIDE, SIDE, 4, 4, &context, few, 1024, size, type));
         }
     tell(names[call], deepest);
 }
@@ -106,13 +105,13 @@ static void moved(int is_deep, int is_prepared, const char *name) {
             tilg_moved_block block = {MIDDLE, MIDDLE, (size_t)1 << size % 8, (size_t)1 << size / 8, (int16_t)(off + way % 2 * 5),
                                      (int16_t)(off + way / 2 % 2 * 5), way / 4 % 4, 3 - way / 4 % 4};
             if (is_deep && is_prepared)
-                DEEP(tilg_prep_moved_16(first, 128 * 128, window_16, 135 * 135, other_16, all, &plane, &block, 10));
+                DEEP(tilg_prep_moved_16(first, 128 * 128, &context, other_16, all, &plane, &block, 10));
             else if (is_prepared)
-                DEEP(tilg_prep_moved_8(first, 128 * 128, window_8, 135 * 135, other_8, all, &plane, &block));
+                DEEP(tilg_prep_moved_8(first, 128 * 128, &context, other_8, all, &plane, &block));
             else if (is_deep)
-                DEEP(tilg_put_moved_16(plane_16, all, SIDE, 0, 0, window_16, 135 * 135, other_16, all, &plane, &block, 10));
+                DEEP(tilg_put_moved_16(plane_16, all, SIDE, 0, 0, &context, other_16, all, &plane, &block, 10));
             else
-                DEEP(tilg_put_moved_8(plane_8, all, SIDE, 0, 0, window_8, 135 * 135, other_8, all, &plane, &block));
+                DEEP(tilg_put_moved_8(plane_8, all, SIDE, 0, 0, &context, other_8, all, &plane, &block));
         }
     tell(name, deepest);
 }
@@ -177,11 +176,11 @@ static void luma(int is_deep) {
         for (uint8_t sampling = 0; sampling < 3; sampling++) {
             tilg_cfl_block block = {sizes[i], sampling > 0, sampling > 1, 0, 0};
             if (is_deep)
-                DEEP(tilg_cfl_ac_16(first, 32 * 32, plane_16, all, SIDE, 0, 0, &block, 10));
+                DEEP(tilg_cfl_ac_tested_16(first, 32 * 32, plane_16, all, SIDE, 0, 0, &block));
             else
                 DEEP(tilg_cfl_ac_8(first, 32 * 32, plane_8, all, SIDE, 0, 0, &block));
         }
-    tell(is_deep ? "tilg_cfl_ac_16" : "tilg_cfl_ac_8", deepest);
+    tell(is_deep ? "tilg_cfl_ac_tested_16" : "tilg_cfl_ac_8", deepest);
 }
 
 static void numbers(void) {
@@ -206,11 +205,11 @@ static void whole(const uint8_t *plan, size_t len) {
     tell("tilg_version_0_4", taken());
 }
 
-/* A plan without references as a grid of one tile, as a sequence of one frame, and as a trace, whose planes are all 0. */
+/* A plan without references as a grid of one tile and as a sequence of one frame, and compared with planes that are all 0. */
 static void parts(const uint8_t *plan, size_t len) {
     static uint8_t room[MOST], text[2 * MOST];
     enum { HEADER = 20 };
-    uint8_t leaves[4] = {(uint8_t)(len - HEADER), (uint8_t)((len - HEADER) >> 8), 0, 0}, whole[4] = {(uint8_t)len, (uint8_t)(len >> 8), 0, 0};
+    uint8_t leaves[4] = {(uint8_t)(len - HEADER), (uint8_t)((len - HEADER) >> 8), 0, 0};
     size_t wanted, written, found, deepest = 0;
     tilg_difference list[4];
     tilg_part_refusal told;
@@ -228,9 +227,10 @@ static void parts(const uint8_t *plan, size_t len) {
     DEEP(tilg_reconstruct_sequence(room, sizeof room, &written, &told, text, len + 6));
     tell("tilg_reconstruct_sequence", deepest);
     deepest = 0;
-    CHECK(tilg_planes_len(&wanted, &refusal, plan, len) == TILG_DONE && 8 + len + wanted <= sizeof text);
-    memcpy(text, "RTR1", 4), memcpy(text + 4, whole, 4), memcpy(text + 8, plan, len), memset(text + 8 + len, 0, wanted);
-    DEEP(tilg_trace_differences(list, 4, &found, &told, text, 8 + len + wanted));
+    CHECK(tilg_planes_len(&wanted, &refusal, plan, len) == TILG_DONE && wanted <= sizeof text);
+    memset(text, 0, wanted);
+    size_t width = plan[4] | plan[5] << 8;
+    DEEP(tilg_trace_differences(list, 4, &found, &refusal, plan, len, text, wanted, width, text, wanted, width, text, wanted, width));
     tell("tilg_trace_differences", deepest);
 }
 

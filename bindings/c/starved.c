@@ -57,11 +57,12 @@ static void heap(void) {
 
 enum { PLAN, TILES, THIRD_TILES, SEQUENCE, TRACE, KINDS, HEADER = 20, MOST = 4096 };
 
-/* What a call is given: the plan, or a grid of one tile in either version, a sequence of one frame or a trace of it. */
+/* What a call is given: the plan, or a grid of one tile in either version, a sequence of one frame, or the plan and its planes. */
 typedef struct {
     int kind;
     uint8_t bytes[2 * MOST];
-    size_t len;
+    size_t len, wanted;
+    const uint8_t *planes;
 } given;
 
 static void put(given *to, const void *bytes, size_t len) {
@@ -78,12 +79,19 @@ static void put_part(given *to, const uint8_t *bytes, size_t len) {
 
 static void give(given *to, int kind, const uint8_t *plan, size_t len, const uint8_t *planes, size_t wanted) {
     to->kind = kind, to->len = 0;
-    if (kind == PLAN) put(to, plan, len);
+    if (kind == PLAN || kind == TRACE) put(to, plan, len);
     bool is_grid = kind == TILES || kind == THIRD_TILES;
     if (is_grid) put(to, kind == TILES ? "RTL1" : "RTL2", 4), put(to, plan + 4, HEADER - 4), put(to, "\1\1", 2);
     if (kind == SEQUENCE) put(to, "RSQ1", 4), put(to, plan + 4, 6), put(to, "\1\0\0\0\0\0\0\0\0\0\0", 12);
     if (is_grid || kind == SEQUENCE) put_part(to, plan + HEADER, len - HEADER);
-    if (kind == TRACE) put(to, "RTR1", 4), put_part(to, plan, len), put(to, planes, wanted);
+    to->planes = planes, to->wanted = wanted;
+}
+
+/* The plan has three planes of the same width and height, in bytes. */
+static uint32_t differences(tilg_difference *list, size_t *found, tilg_refusal *refusal, const given *it) {
+    size_t width = it->bytes[4], len = it->wanted / 3;
+    const uint8_t *y = it->planes, *u = y + len, *v = u + len;
+    return tilg_trace_differences(list, 1, found, refusal, it->bytes, it->len, y, len, width, u, len, width, v, len, width);
 }
 
 static uint32_t call(const given *it, uint8_t *room, size_t *written) {
@@ -93,7 +101,7 @@ static uint32_t call(const given *it, uint8_t *room, size_t *written) {
     uint32_t status = it->kind == PLAN ? tilg_reconstruct_plan(room, MOST, written, &refusal, it->bytes, it->len)
         : it->kind == TILES || it->kind == THIRD_TILES ? tilg_reconstruct_tiles(room, MOST, written, &told, it->bytes, it->len)
         : it->kind == SEQUENCE ? tilg_reconstruct_sequence(room, MOST, written, &told, it->bytes, it->len)
-        : tilg_trace_differences(list, 1, written, &told, it->bytes, it->len);
+        : differences(list, written, &refusal, it);
     CHECK(refusal.at == 7 && refusal.leaf == 8 && refusal.kind == 9);
     CHECK(told.part == 7 && told.at == 8 && told.leaf == 9 && told.kind == 10);
     return status;

@@ -70,7 +70,7 @@ __attribute__((unused, used)) static uint32_t (*const tilg_needs_version_0_4)(vo
     X(TILG_DONE, 0, "done") \
     X(TILG_OUT_OF_MEMORY, 1, "an allocation failed") \
     X(TILG_ROOM_TOO_SMALL, 2, "the buffer to write is too short") \
-    X(TILG_TOO_LONG, 3, "the input is longer than any plan (2^26 bytes) or any trace (2^27)") \
+    X(TILG_TOO_LONG, 3, "the input is longer than any plan (2^26 bytes)") \
     X(TILG_MALFORMED, 4, "the input is not well-formed") \
     X(TILG_INVALID, 5, "a leaf of the plan is rejected") \
     X(TILG_BAD_SIZE, 6, "a size number that does not exist, or a width or height that no block has") \
@@ -202,8 +202,8 @@ TILG_MUST_USE tilg_status tilg_planes_len(size_t *len, tilg_refusal *refusal, co
  * Returns TILG_DONE, TILG_OUT_OF_MEMORY, TILG_ROOM_TOO_SMALL, TILG_TOO_LONG, TILG_MALFORMED or TILG_INVALID. */
 TILG_MUST_USE tilg_status tilg_reconstruct_plan(uint8_t *room, size_t room_len, size_t *written, tilg_refusal *refusal, const uint8_t *bytes, size_t bytes_len);
 
-/* Why input that has plans as parts is rejected: tiles, entries of a sequence, the plan of a trace. A call writes
- * it if it returns TILG_MALFORMED or a status of a part, and never otherwise. Fields that don't apply are 0. */
+/* Why input that has plans as parts is rejected: tiles, or entries of a sequence. A call writes it if it returns
+ * TILG_MALFORMED or a status of a part, and never otherwise. Fields that don't apply are 0. */
 typedef struct {
     uint32_t part; /* a status of a part: the first part that is rejected, counted from 0 */
     uint32_t at;   /* TILG_MALFORMED: the offset in bytes of the first bad field; TILG_MALFORMED_PART: that offset within the part */
@@ -240,26 +240,28 @@ typedef struct {
     uint8_t plane;    /* 0 for Y, 1 for U and 2 for V */
 } tilg_difference;
 
-/* Compares the planes of a trace (docs/PLAN_FORMAT.md), as another encoder left them, with the planes
- * that its plan defines. Each leaf has at most one difference in each of Y, U and V: the first visible
- * sample of its rectangle, in raster order, that differs. Differences come in coding order.
- *   room, room_len     the first differences, as many as fit; the rest is unchanged
- *   found              how many differences there are: 0 if the planes are the plan's
- *   refusal            TILG_MALFORMED: the first bad field; TILG_MALFORMED_PART, TILG_INVALID_PART: the
- *                      first bad field or leaf of the plan
- *   bytes, bytes_len   the trace, with nothing after it: up to 2^27 bytes
- * Returns TILG_DONE, TILG_OUT_OF_MEMORY, TILG_TOO_LONG, TILG_MALFORMED, TILG_MALFORMED_PART or
- * TILG_INVALID_PART. */
-TILG_MUST_USE tilg_status tilg_trace_differences(tilg_difference *room, size_t room_len, size_t *found, tilg_part_refusal *refusal, const uint8_t *bytes, size_t
-    bytes_len);
+/* Compares the planes of a plan with planes that another encoder left. Each leaf has at most one difference in
+ * each of Y, U and V: the first visible sample of its rectangle, in raster order, that differs. They come in
+ * coding order.
+ *   room, room_len      the first differences, as many as fit; the rest is unchanged
+ *   found               how many differences there are: 0 if the planes are the plan's
+ *   refusal             TILG_MALFORMED, TILG_INVALID: the first bad field or the first bad leaf of the plan
+ *   bytes, bytes_len    the plan
+ *   y, y_len, y_stride  the bytes of plane Y from its first visible sample on, and how many bytes apart rows
+ *                       begin. A sample takes one byte at depth 8, else two. The call reads only visible ones,
+ *                       and the last row may end with its own
+ *   u .. v_stride       likewise
+ * Returns TILG_DONE, TILG_OUT_OF_MEMORY, TILG_TOO_LONG, TILG_MALFORMED, TILG_INVALID or TILG_BAD_AREA (a plane). */
+TILG_MUST_USE tilg_status tilg_trace_differences(tilg_difference *room, size_t room_len, size_t *found, tilg_refusal *refusal, const uint8_t *bytes, size_t
+    bytes_len, const uint8_t *y, size_t y_len, size_t y_stride, const uint8_t *u, size_t u_len, size_t u_stride, const uint8_t *v, size_t v_len, size_t v_stride);
 
 /* ---- calls on blocks: none allocates. If several arguments are bad, the status is the first that the call's comment lists.
  * A call in _16 is the call in _8 for samples of 16 bits, at a depth of 8, 10 or 12. ---- */
 
-/* Scratch memory for a transform: its contents don't matter. An address that is a multiple of 64 is best. */
+/* Scratch memory: make one for each thread. Its contents don't matter. An address that is a multiple of 64 is best. */
 typedef struct {
-    int32_t words[6144];
-} tilg_transform_scratch;
+    int32_t words[19813];
+} tilg_context;
 
 /* Adds the residual of a block to samples at a depth of 8, and clips the sums: the AV1 specification's
  * "2D inverse transform process" and the addition of "Reconstruction".
@@ -271,23 +273,23 @@ typedef struct {
  *                                      nothing. Elements after the transform's are not read
  *   tx_size, tx_type                   a tilg_tx_size and a tilg_tx_type
  * Returns TILG_DONE, TILG_BAD_SIZE, TILG_BAD_TYPE or TILG_BAD_AREA. */
-TILG_MUST_USE tilg_status tilg_inverse_transform_add_8(uint8_t *samples, size_t samples_len, size_t stride, size_t x, size_t y, tilg_transform_scratch *scratch,
+TILG_MUST_USE tilg_status tilg_inverse_transform_add_8(uint8_t *samples, size_t samples_len, size_t stride, size_t x, size_t y, tilg_context *context,
     const int16_t *coefficients, size_t coefficients_len, uint8_t tx_size, uint8_t tx_type);
 
 /* The same at a depth of 8, 10 or 12. A coefficient has at most bit_depth + 8 bits, sign included: clamp those
  * that you dequantize, as the AV1 specification's "Reconstruction" does. A sample past the depth is clipped
  * after the addition.
  * Returns also TILG_BAD_DEPTH or TILG_BAD_COEFFICIENT. */
-TILG_MUST_USE tilg_status tilg_inverse_transform_add_16(uint16_t *samples, size_t samples_len, size_t stride, size_t x, size_t y, tilg_transform_scratch
-    *scratch, const int32_t *coefficients, size_t coefficients_len, uint8_t tx_size, uint8_t tx_type, uint8_t bit_depth);
+TILG_MUST_USE tilg_status tilg_inverse_transform_add_16(uint16_t *samples, size_t samples_len, size_t stride, size_t x, size_t y, tilg_context *context,
+    const int32_t *coefficients, size_t coefficients_len, uint8_t tx_size, uint8_t tx_type, uint8_t bit_depth);
 
 /* tilg_inverse_transform_add_16 by rav1e's rules, which differ from AV1's above a depth of 8. At depth 12 the
  * identities of 4 and 16 values along rows wrap at 32 bits. Example: a 4x4 block of TILG_IDTX has the single
  * coefficient 400,000. By this call the first sample becomes 0, by the one above 4095. Lossless blocks
  * (TILG_WHT_WHT) are clamped between the passes, like all other blocks.
  * Returns the same statuses. */
-TILG_MUST_USE tilg_status tilg_inverse_transform_add_rav1e_16(uint16_t *samples, size_t samples_len, size_t stride, size_t x, size_t y, tilg_transform_scratch
-    *scratch, const int32_t *coefficients, size_t coefficients_len, uint8_t tx_size, uint8_t tx_type, uint8_t bit_depth);
+TILG_MUST_USE tilg_status tilg_inverse_transform_add_rav1e_16(uint16_t *samples, size_t samples_len, size_t stride, size_t x, size_t y, tilg_context *context,
+    const int32_t *coefficients, size_t coefficients_len, uint8_t tx_size, uint8_t tx_type, uint8_t bit_depth);
 
 /* ---- prediction from references */
 
@@ -327,7 +329,8 @@ TILG_MUST_USE tilg_status tilg_prep_8tap_8(int16_t *values, size_t values_len, c
 
 /* Checks that every sample of a rectangle is below 1 << bit_depth, as the calls below require.
  *   samples, samples_len, stride    the samples
- *   x, y, width, height             the rectangle: its first sample, width and height
+ *   x, y, width, height             the rectangle: its first sample, width and height. The last row may end
+ *                                   with its own samples
  * Returns TILG_DONE (all are), TILG_BAD_AREA, TILG_BAD_DEPTH or TILG_BAD_SAMPLE (one is not). */
 TILG_MUST_USE tilg_status tilg_test_samples_16(const uint16_t *samples, size_t samples_len, size_t stride, size_t x, size_t y, size_t width, size_t height,
     uint8_t bit_depth);
@@ -380,27 +383,26 @@ typedef struct {
  * "motion vector scaling process" at a scale of one and its "Block inter prediction process". The call follows
  * the vector and reads only visible samples. Outside the plane, every sample equals the nearest edge sample.
  *   dst .. dst_y         as in tilg_put_8tap_8
- *   window, window_len   scratch memory: (width + 7) * (height + 7) samples, 18,225 for any block
  *   src, src_len         the samples of the reference
  *   plane                which of them are visible, and how the plane is halved
  *   block                its place in the plane, width and height, vector and filters
- * Returns TILG_DONE, TILG_BAD_SIZE (the block's width or height), TILG_BAD_MODE (a filter), TILG_BAD_AREA
- * or TILG_TOO_SHORT (the window). TILG_BAD_AREA: the plane has no samples or does not lie in `src`, or
- * the rectangle does not lie in `dst`, or the plane or the block's place is past 65,536. */
-TILG_MUST_USE tilg_status tilg_put_moved_8(uint8_t *dst, size_t dst_len, size_t dst_stride, size_t dst_x, size_t dst_y, uint8_t *window, size_t window_len,
+ * Returns TILG_DONE, TILG_BAD_SIZE (the block's width or height), TILG_BAD_MODE (a filter) or TILG_BAD_AREA.
+ * TILG_BAD_AREA: the plane has no samples or does not lie in `src`, or the rectangle does not lie in `dst`,
+ * or the plane or the block's place is past 65,536. */
+TILG_MUST_USE tilg_status tilg_put_moved_8(uint8_t *dst, size_t dst_len, size_t dst_stride, size_t dst_x, size_t dst_y, tilg_context *context,
     const uint8_t *src, size_t src_len, const tilg_motion_plane *plane, const tilg_moved_block *block);
 
 /* The same for samples of 16 bits, which it doesn't check, like tilg_put_tested_16.
  * Returns also TILG_BAD_DEPTH. */
-TILG_MUST_USE tilg_status tilg_put_moved_16(uint16_t *dst, size_t dst_len, size_t dst_stride, size_t dst_x, size_t dst_y, uint16_t *window, size_t window_len,
+TILG_MUST_USE tilg_status tilg_put_moved_16(uint16_t *dst, size_t dst_len, size_t dst_stride, size_t dst_x, size_t dst_y, tilg_context *context,
     const uint16_t *src, size_t src_len, const tilg_motion_plane *plane, const tilg_moved_block *block, uint8_t bit_depth);
 
 /* Prepares such a block for the average with another block: the process of tilg_put_moved_8, with the
  * values of tilg_prep_8tap_8 and tilg_prep_tested_16.
- * Returns the statuses of the calls above; TILG_TOO_SHORT also if `values` is too short. */
-TILG_MUST_USE tilg_status tilg_prep_moved_8(int16_t *values, size_t values_len, uint8_t *window, size_t window_len, const uint8_t *src, size_t src_len, const
+ * Returns the statuses of the calls above, or TILG_TOO_SHORT (the values). */
+TILG_MUST_USE tilg_status tilg_prep_moved_8(int16_t *values, size_t values_len, tilg_context *context, const uint8_t *src, size_t src_len, const
     tilg_motion_plane *plane, const tilg_moved_block *block);
-TILG_MUST_USE tilg_status tilg_prep_moved_16(int16_t *values, size_t values_len, uint16_t *window, size_t window_len, const uint16_t *src, size_t src_len, const
+TILG_MUST_USE tilg_status tilg_prep_moved_16(int16_t *values, size_t values_len, tilg_context *context, const uint16_t *src, size_t src_len, const
     tilg_motion_plane *plane, const tilg_moved_block *block, uint8_t bit_depth);
 
 /* ---- prediction from the block's own frame */
@@ -523,8 +525,8 @@ typedef struct {
     size_t h_pad;           /* how many units of 4 rows of chroma, at the bottom end, have none */
 } tilg_cfl_block;
 
-/* Computes how far the luma over each sample of a chroma block is from the mean, in eighths, at a
- * depth of 8: the averages of the AV1 specification's "predict chroma from luma process".
+/* Computes how far the luma over each sample of a chroma block is from the mean, in eighths: the AV1
+ * specification's "predict chroma from luma process".
  *   ac, ac_len              the differences, row by row: as many as the block has samples, or more. The
  *                           rest is unchanged
  *   luma, luma_len, stride  samples of luma
@@ -532,12 +534,12 @@ typedef struct {
  * The call reads the luma columns over the chroma columns that have luma of their own. It reads at
  * least 8 luma columns, but none past the block. The other chroma columns repeat the last luma that is
  * read. The same holds for rows.
- * Returns TILG_DONE, TILG_BAD_SIZE, TILG_BAD_SAMPLING, TILG_BAD_PAD, TILG_BAD_AREA or TILG_TOO_SHORT; the call
- * in _16 also TILG_BAD_DEPTH, or TILG_BAD_SAMPLE if a sample that the call reads is past the depth. */
+ * The call in _16 is for any depth: the caller must guarantee that every sample it reads is below 4096.
+ * Returns TILG_DONE, TILG_BAD_SIZE, TILG_BAD_SAMPLING, TILG_BAD_PAD, TILG_BAD_AREA or TILG_TOO_SHORT. */
 TILG_MUST_USE tilg_status tilg_cfl_ac_8(int16_t *ac, size_t ac_len, const uint8_t *luma, size_t luma_len, size_t stride, size_t x, size_t y, const
     tilg_cfl_block *block);
-TILG_MUST_USE tilg_status tilg_cfl_ac_16(int16_t *ac, size_t ac_len, const uint16_t *luma, size_t luma_len, size_t stride, size_t x, size_t y, const
-    tilg_cfl_block *block, uint8_t bit_depth);
+TILG_MUST_USE tilg_status tilg_cfl_ac_tested_16(int16_t *ac, size_t ac_len, const uint16_t *luma, size_t luma_len, size_t stride, size_t x, size_t y, const
+    tilg_cfl_block *block);
 
 /* A block whose chroma is predicted from its luma. */
 typedef struct {

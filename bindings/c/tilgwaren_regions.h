@@ -8,7 +8,7 @@
  *
  *     uint8_t block[64 * 64];
  *     tilg_status status = tilg_load_region_8(block, sizeof block, &from, x, y, 64, 64);
- *     if (!status) status = tilg_inverse_transform_add_8(block, sizeof block, 64, 0, 0, &scratch, ..);
+ *     if (!status) status = tilg_inverse_transform_add_8(block, sizeof block, 64, 0, 0, &context, ..);
  *     if (!status) status = tilg_store_region_8(&region, x, y, 64, 64, block, sizeof block);
  */
 #ifndef TILGWAREN_REGIONS_H

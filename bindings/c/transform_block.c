@@ -10,7 +10,7 @@
 enum { STRIDE = 80, ROWS = 70, ALL = STRIDE * ROWS };
 
 /* Left as it comes: a call reads nothing that it hasn't written there. */
-static tilg_transform_scratch *scratch;
+static tilg_context *context;
 
 /* Whether the samples of a square are `inside`, and all others `outside`. */
 static int is_square(const uint8_t *samples, size_t x, size_t y, size_t side, uint8_t inside, uint8_t outside) {
@@ -26,11 +26,11 @@ static void blocks_of_8_bits(void) {
     static uint8_t samples[ALL];
     int16_t dc[1024] = {100};
     memset(samples, 128, ALL);
-    CHECK(tilg_inverse_transform_add_8(samples, ALL, STRIDE, 76, 66, scratch, dc, 16, TILG_TX_4X4, TILG_DCT_DCT) == TILG_DONE);
+    CHECK(tilg_inverse_transform_add_8(samples, ALL, STRIDE, 76, 66, context, dc, 16, TILG_TX_4X4, TILG_DCT_DCT) == TILG_DONE);
     CHECK(is_square(samples, 76, 66, 4, 131, 128));
     memset(samples, 250, ALL);
     dc[0] = 32767;
-    CHECK(tilg_inverse_transform_add_8(samples, ALL, STRIDE, 3, 2, scratch, dc, 1024, TILG_TX_64X64, TILG_DCT_DCT) == TILG_DONE);
+    CHECK(tilg_inverse_transform_add_8(samples, ALL, STRIDE, 3, 2, context, dc, 1024, TILG_TX_64X64, TILG_DCT_DCT) == TILG_DONE);
     CHECK(is_square(samples, 3, 2, 64, 255, 250));
 }
 
@@ -48,7 +48,7 @@ static void refused_blocks(void) {
     int16_t dc[1024] = {100};
     memset(samples, 128, ALL);
     for (size_t i = 0; i < sizeof refused / sizeof refused[0]; i++)
-        CHECK(tilg_inverse_transform_add_8(samples, refused[i].samples, refused[i].stride, refused[i].x, refused[i].y, scratch, dc,
+        CHECK(tilg_inverse_transform_add_8(samples, refused[i].samples, refused[i].stride, refused[i].x, refused[i].y, context, dc,
                                           refused[i].coefficients, refused[i].size, refused[i].type) == refused[i].status);
     CHECK(is_square(samples, 0, 0, 0, 0, 128));
 }
@@ -57,12 +57,12 @@ static void blocks_of_10_bits(void) {
     uint16_t samples[16], before[16];
     int32_t dc[16] = {100};
     for (int i = 0; i < 16; i++) samples[i] = before[i] = (uint16_t)(64 * i);
-    CHECK(tilg_inverse_transform_add_16(samples, 16, 4, 0, 0, scratch, dc, 16, TILG_TX_4X4, TILG_DCT_DCT, 9) == TILG_BAD_DEPTH);
+    CHECK(tilg_inverse_transform_add_16(samples, 16, 4, 0, 0, context, dc, 16, TILG_TX_4X4, TILG_DCT_DCT, 9) == TILG_BAD_DEPTH);
     dc[15] = 1 << 17;
-    CHECK(tilg_inverse_transform_add_16(samples, 16, 4, 0, 0, scratch, dc, 16, TILG_TX_4X4, TILG_DCT_DCT, 10) == TILG_BAD_COEFFICIENT);
+    CHECK(tilg_inverse_transform_add_16(samples, 16, 4, 0, 0, context, dc, 16, TILG_TX_4X4, TILG_DCT_DCT, 10) == TILG_BAD_COEFFICIENT);
     CHECK(!memcmp(samples, before, sizeof samples));
     dc[15] = 0;
-    CHECK(tilg_inverse_transform_add_16(samples, 16, 4, 0, 0, scratch, dc, 16, TILG_TX_4X4, TILG_DCT_DCT, 10) == TILG_DONE);
+    CHECK(tilg_inverse_transform_add_16(samples, 16, 4, 0, 0, context, dc, 16, TILG_TX_4X4, TILG_DCT_DCT, 10) == TILG_DONE);
     for (int i = 0; i < 16; i++) CHECK(samples[i] == before[i] + 3);
 }
 
@@ -73,14 +73,14 @@ static void blocks_by_both_rules(void) {
     int32_t large[1] = {400000};
     memset(by_av1, 0, sizeof by_av1);
     memset(by_rav1e, 0, sizeof by_rav1e);
-    CHECK(tilg_inverse_transform_add_16(by_av1, 16, 4, 0, 0, scratch, large, 1, TILG_TX_4X4, TILG_IDTX, 12) == TILG_DONE);
-    CHECK(tilg_inverse_transform_add_rav1e_16(by_rav1e, 16, 4, 0, 0, scratch, large, 1, TILG_TX_4X4, TILG_IDTX, 12) == TILG_DONE);
+    CHECK(tilg_inverse_transform_add_16(by_av1, 16, 4, 0, 0, context, large, 1, TILG_TX_4X4, TILG_IDTX, 12) == TILG_DONE);
+    CHECK(tilg_inverse_transform_add_rav1e_16(by_rav1e, 16, 4, 0, 0, context, large, 1, TILG_TX_4X4, TILG_IDTX, 12) == TILG_DONE);
     CHECK(by_av1[0] == 4095 && by_rav1e[0] == 0);
     /* a lossless block whose first rows come to more than 16 bits, at a depth of 10 */
     int32_t lossless[16];
     for (int i = 0; i < 16; i++) lossless[i] = i % 4 == 0 ? 131068 : i % 4 == 1 ? 131060 : 0, by_av1[i] = by_rav1e[i] = 512;
-    CHECK(tilg_inverse_transform_add_16(by_av1, 16, 4, 0, 0, scratch, lossless, 16, TILG_TX_4X4, TILG_WHT_WHT, 10) == TILG_DONE);
-    CHECK(tilg_inverse_transform_add_rav1e_16(by_rav1e, 16, 4, 0, 0, scratch, lossless, 16, TILG_TX_4X4, TILG_WHT_WHT, 10) == TILG_DONE);
+    CHECK(tilg_inverse_transform_add_16(by_av1, 16, 4, 0, 0, context, lossless, 16, TILG_TX_4X4, TILG_WHT_WHT, 10) == TILG_DONE);
+    CHECK(tilg_inverse_transform_add_rav1e_16(by_rav1e, 16, 4, 0, 0, context, lossless, 16, TILG_TX_4X4, TILG_WHT_WHT, 10) == TILG_DONE);
     CHECK(by_av1[8] == 514 && by_rav1e[8] == 512);
 }
 
@@ -98,20 +98,20 @@ static void short_lists(void) {
                 given[i] = (int16_t)(i * 7919 % 4001 - 2000);
                 filled[i] = i < count ? given[i] : 0;
             }
-            CHECK(tilg_inverse_transform_add_8(samples, ALL, STRIDE, 5, 3, scratch, count ? given : NULL, count, size, TILG_DCT_DCT) == TILG_DONE);
-            CHECK(tilg_inverse_transform_add_8(other, ALL, STRIDE, 5, 3, scratch, filled, 1024, size, TILG_DCT_DCT) == TILG_DONE);
+            CHECK(tilg_inverse_transform_add_8(samples, ALL, STRIDE, 5, 3, context, count ? given : NULL, count, size, TILG_DCT_DCT) == TILG_DONE);
+            CHECK(tilg_inverse_transform_add_8(other, ALL, STRIDE, 5, 3, context, filled, 1024, size, TILG_DCT_DCT) == TILG_DONE);
             CHECK(!memcmp(samples, other, sizeof samples));
         }
 }
 
 int main(void) {
-    scratch = malloc(sizeof *scratch);
-    CHECK(scratch);
+    context = malloc(sizeof *context);
+    CHECK(context);
     blocks_of_8_bits();
     refused_blocks();
     short_lists();
     blocks_of_10_bits();
     blocks_by_both_rules();
-    free(scratch);
+    free(context);
     return 0;
 }

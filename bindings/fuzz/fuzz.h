@@ -17,7 +17,7 @@
 #define OR(status) | 1ull << TILG_##status
 #define UNUSED __attribute__((unused))
 
-enum { PAGE = 4096, SLOT = 128 * PAGE, ZONE = PAGE, SLOTS = 8, KEPT = 0xC3 };
+enum { PAGE = 4096, SLOT = 128 * PAGE, ZONE = PAGE, SLOTS = 10, KEPT = 0xC3 };
 
 /* ---- the fuzzer's bytes ---- */
 
@@ -220,6 +220,12 @@ static bool UNUSED is_inside(numbers made, area a) {
 static bool UNUSED is_ending_inside(numbers made, area a) {
     return (__uint128_t)a.x + a.width <= a.stride && a.y <= made.count
         && ((__uint128_t)a.y + a.height - 1) * a.stride + a.x + a.width <= made.count;
+}
+
+/* The same for a rectangle that may also have no rows. */
+static bool UNUSED is_held(numbers made, area a) {
+    if (a.height == 0) return a.stride > 0 && (__uint128_t)a.x + a.width <= a.stride;
+    return a.stride > 0 && a.height - 1 <= made.count && is_ending_inside(made, a);
 }
 
 /* Outside of the rectangle all is as it was, and in it nothing is past `most`. */

@@ -146,23 +146,23 @@ static void once_more(call *c, const tilg_motion_plane *plane, const tilg_moved_
     same_written(c, other, again.to, m->width, m->height);
 }
 
-static uint32_t expected_moved(const call *c, const tilg_motion_plane *plane, const tilg_moved_block *m, size_t window) {
+static uint32_t expected_moved(const call *c, const tilg_motion_plane *plane, const tilg_moved_block *m) {
     if (!is_side(m->width) || !is_side(m->height)) return TILG_BAD_SIZE;
     if (!is_filter(m->filter_x) || !is_filter(m->filter_y)) return TILG_BAD_MODE;
     bool some = 1 <= plane->width && plane->width <= 65536 && 1 <= plane->height && plane->height <= 65536 && m->x <= 65536 && m->y <= 65536;
     if (!some || !is_inside(c->read, (area){plane->stride, plane->x, plane->y, plane->width, plane->height})) return TILG_BAD_AREA;
     if (!is_written_inside(c, m->width, m->height)) return TILG_BAD_AREA;
-    if ((c->prepared && c->written.count < m->width * m->height) || window < (m->width + 7) * (m->height + 7)) return TILG_TOO_SHORT;
+    if (c->prepared && c->written.count < m->width * m->height) return TILG_TOO_SHORT;
     return !c->wide || is_depth(c->bits) ? TILG_DONE : TILG_BAD_DEPTH;
 }
 
-static uint32_t moved(const call *c, const tilg_motion_plane *plane, const tilg_moved_block *m, numbers window) {
+static uint32_t moved(const call *c, const tilg_motion_plane *plane, const tilg_moved_block *m, tilg_context *context) {
     numbers to = c->written, from = c->read;
-    if (!c->wide && c->prepared) return tilg_prep_moved_8(to.at, to.count, window.at, window.count, from.at, from.count, plane, m);
+    if (!c->wide && c->prepared) return tilg_prep_moved_8(to.at, to.count, context, from.at, from.count, plane, m);
     if (!c->wide)
-        return tilg_put_moved_8(to.at, to.count, c->to.stride, c->to.x, c->to.y, window.at, window.count, from.at, from.count, plane, m);
-    if (c->prepared) return tilg_prep_moved_16(to.at, to.count, window.at, window.count, from.at, from.count, plane, m, c->bits);
-    return tilg_put_moved_16(to.at, to.count, c->to.stride, c->to.x, c->to.y, window.at, window.count, from.at, from.count, plane, m, c->bits);
+        return tilg_put_moved_8(to.at, to.count, c->to.stride, c->to.x, c->to.y, context, from.at, from.count, plane, m);
+    if (c->prepared) return tilg_prep_moved_16(to.at, to.count, context, from.at, from.count, plane, m, c->bits);
+    return tilg_put_moved_16(to.at, to.count, c->to.stride, c->to.x, c->to.y, context, from.at, from.count, plane, m, c->bits);
 }
 
 /* A block that a vector moves, from a plane without pads. */
@@ -179,13 +179,12 @@ static void by_vector(call *c) {
     if (one_in(24)) plane.height = near(300), told_plane = plane;
     m.x = near(whole.width + 9), m.y = near(whole.height + 9);
     tilg_moved_block told = m;
-    size_t needed = (width + 7) * (height + 7);
-    numbers window = lay(one_in(24) ? needed - below(needed + 1) : needed + (one_in(8) ? below(64) : 0), c->wide ? 2 : 1);
-    if (window.count) memset(window.at, byte(), window.count * window.width);
-    uint32_t status = moved(c, &plane, &m, window);
+    numbers context = lay(sizeof(tilg_context) / 4, 4);
+    memset(context.at, byte(), sizeof(tilg_context));
+    uint32_t status = moved(c, &plane, &m, context.at);
     came_up(8 + c->wide * 2 + c->prepared, m.filter_x * 8 + m.filter_y, plane.halved_columns * 2 + plane.halved_rows, status);
-    answered(status, 0 OR(DONE) OR(BAD_SIZE) OR(BAD_MODE) OR(BAD_AREA) OR(TOO_SHORT) | (c->wide ? 0 OR(BAD_DEPTH) : 0));
-    CHECK(status == expected_moved(c, &plane, &m, window.count));
+    answered(status, 0 OR(DONE) OR(BAD_SIZE) OR(BAD_MODE) OR(BAD_AREA) | (c->prepared ? 0 OR(TOO_SHORT) : 0) | (c->wide ? 0 OR(BAD_DEPTH) : 0));
+    CHECK(status == expected_moved(c, &plane, &m));
     all_kept(c->read);
     CHECK(!memcmp(&m, &told, sizeof m) && !memcmp(&plane, &told_plane, sizeof plane));
     if (status != TILG_DONE) {
@@ -200,15 +199,16 @@ static void by_vector(call *c) {
 static void test_samples(void) {
     area a;
     uint8_t bits = one_in(40) ? wild() : depth();
-    numbers samples = lay_area(&a, below(70), below(70), 2);
+    numbers samples = lay_ending(&a, below(70), below(70), 2);
     fill(samples, one_in(8) ? 65535 : (1u << (is_depth(bits) ? bits : 8)) - 1);
     if (samples.count && one_in(4)) set(samples, below(samples.count), bytes(2)), keep(samples);
     uint32_t status = tilg_test_samples_16(samples.at, samples.count, a.stride, a.x, a.y, a.width, a.height, bits);
     came_up(13, bits, 0, status);
     answered(status, 0 OR(DONE) OR(BAD_AREA) OR(BAD_DEPTH) OR(BAD_SAMPLE));
     all_kept(samples);
+    CHECK(is_held(samples, a) == (status != TILG_BAD_AREA));
     if (status != TILG_DONE && status != TILG_BAD_SAMPLE) return;
-    CHECK(is_inside(samples, a) && is_depth(bits));
+    CHECK(is_depth(bits));
     bool past = false;
     for (size_t y = 0; y < a.height; y++)
         for (size_t x = 0; x < a.width; x++) past |= get(samples, (a.y + y) * a.stride + a.x + x) >> bits != 0;

@@ -1,5 +1,6 @@
 /* Whole plans: tilg_planes_len and tilg_reconstruct_plan, on the fuzzer's bytes, and on plans that a builder made and some of whose bytes were changed.
- * The same plans as grids of one tile, as sequences of one frame and as traces: tilg_reconstruct_tiles, tilg_reconstruct_sequence, tilg_trace_differences. */
+ * The same plans as grids of one tile and as sequences of one frame, and compared with planes: tilg_reconstruct_tiles, tilg_reconstruct_sequence,
+ * tilg_trace_differences. */
 #include "heap.h"
 #include "plans.h"
 
@@ -75,19 +76,34 @@ static void comes_to(bool sequence, numbers planes, size_t wanted, uint32_t plan
     if (plan_status == TILG_DONE) CHECK(!memcmp(room.at, planes.at, written));
 }
 
-/* The plan and the planes that it came to, of which a sample may be changed, as a trace. */
-static void as_trace(numbers plan, numbers planes, size_t wanted) {
-    tilg_part_refusal refusal = {7, 8, 9, 10};
+/* The plan beside the planes that it came to, of which a sample may be changed, in rows that are further apart. */
+static void beside_planes(numbers plan, numbers planes, size_t wanted) {
+    tilg_refusal refusal = {7, 8, 9};
     tilg_difference list[4];
-    size_t found = 77, changed = one_in(2) ? below(wanted) : wanted;
-    text_len = 0;
-    put("RTR1", 4), put_part(plan.at, plan.count), put(planes.at, wanted);
-    if (changed < wanted) text[text_len - wanted + changed] ^= 1;
+    const uint8_t *bytes = plan.at, *from = planes.at;
+    size_t found = 77, changed = one_in(2) ? below(wanted) : wanted, size = bytes[8] == 8 ? 1 : 2, at = 0, strides[3];
+    size_t sides[2] = {bytes[4] | bytes[5] << 8, bytes[6] | bytes[7] << 8};
+    numbers given[3];
+    for (int p = 0; p < 3; p++) {
+        size_t width = p && bytes[9] < 2 ? (sides[0] + 1) / 2 : sides[0], height = p && bytes[9] == 0 ? (sides[1] + 1) / 2 : sides[1];
+        strides[p] = size * width + (one_in(2) ? below(20) : 0);
+        given[p] = lay_filled(strides[p] * (height - 1) + size * width, 1, 255);
+        if (given[p].count < strides[p] * (height - 1) + size * width) return;
+        for (size_t row = 0; row < height; row++, at += size * width) {
+            uint8_t *to = (uint8_t *)given[p].at + row * strides[p];
+            memcpy(to, from + at, size * width);
+            if (at <= changed && changed < at + size * width) to[changed - at] ^= 1;
+        }
+        keep(given[p]);
+    }
+    bool cut = one_in(8) && given[0].count > 0;
     kept = 0;
-    uint32_t status = tilg_trace_differences(list, 4, &found, &refusal, text, text_len);
-    CHECK(status == TILG_DONE || status == TILG_OUT_OF_MEMORY);
-    CHECK(kept == 0 && refusal.at == 8);
+    uint32_t status = tilg_trace_differences(list, 4, &found, &refusal, bytes, plan.count, given[0].at, given[0].count - cut, strides[0], given[1].at,
+                                             given[1].count, strides[1], given[2].at, given[2].count, strides[2]);
+    CHECK(status == (cut ? TILG_BAD_AREA : TILG_DONE) || status == TILG_OUT_OF_MEMORY);
+    CHECK(kept == 0 && refusal.at == 7);
     CHECK(found == (status != TILG_DONE ? 77 : changed < wanted ? 1 : 0));
+    for (int p = 0; p < 3; p++) all_kept(given[p]);
 }
 
 /* The text is the plan's frame as a grid of one tile. */
@@ -116,7 +132,7 @@ static void as_parts(numbers plan, numbers planes, size_t wanted, uint32_t statu
         put_sequence(bytes, plan.count);
         comes_to(true, planes, wanted, status, refusal, front);
     }
-    if (status == TILG_DONE) as_trace(plan, planes, wanted);
+    if (status == TILG_DONE) beside_planes(plan, planes, wanted);
 }
 
 int LLVMFuzzerTestOneInput(const uint8_t *data, size_t length) {

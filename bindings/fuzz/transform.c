@@ -6,12 +6,12 @@ static uint8_t size, type;
 static uint8_t bits;
 static bool as_rav1e;
 
-static uint32_t add(numbers scratch, const void *coefficients, size_t count, numbers samples) {
+static uint32_t add(numbers context, const void *coefficients, size_t count, numbers samples) {
     return samples.width == 1
-        ? tilg_inverse_transform_add_8(samples.at, samples.count, to.stride, to.x, to.y, scratch.at, coefficients, count, size, type)
+        ? tilg_inverse_transform_add_8(samples.at, samples.count, to.stride, to.x, to.y, context.at, coefficients, count, size, type)
         : as_rav1e
-        ? tilg_inverse_transform_add_rav1e_16(samples.at, samples.count, to.stride, to.x, to.y, scratch.at, coefficients, count, size, type, bits)
-        : tilg_inverse_transform_add_16(samples.at, samples.count, to.stride, to.x, to.y, scratch.at, coefficients, count, size, type, bits);
+        ? tilg_inverse_transform_add_rav1e_16(samples.at, samples.count, to.stride, to.x, to.y, context.at, coefficients, count, size, type, bits)
+        : tilg_inverse_transform_add_16(samples.at, samples.count, to.stride, to.x, to.y, context.at, coefficients, count, size, type, bits);
 }
 
 /* Coefficients of at most so many bits, most of them 0 or none; now and then one is past that. */
@@ -61,10 +61,10 @@ int LLVMFuzzerTestOneInput(const uint8_t *data, size_t length) {
     fill(samples, wide ? one_in(8) ? 65535 : (1u << (is_depth(bits) ? bits : 8)) - 1 : 255);
     numbers coefficients = lay(one_in(8) ? needed + below(64) : one_in(2) ? needed - below(needed + 1) : needed, wide ? 4 : 2);
     fill_coefficients(coefficients, is_depth(bits) ? bits + 8 : 16);
-    numbers scratch = lay(6144, 4);
-    memset(scratch.at, byte(), 6144 * 4);
+    numbers context = lay(sizeof(tilg_context) / 4, 4);
+    memset(context.at, byte(), sizeof(tilg_context));
     as_rav1e = one_in(2);
-    uint32_t status = add(scratch, coefficients.at, coefficients.count, samples);
+    uint32_t status = add(context, coefficients.at, coefficients.count, samples);
     came_up(wide, size, type * 4 + bits, status);
     answered(status, 0 OR(DONE) OR(BAD_SIZE) OR(BAD_TYPE) OR(BAD_AREA) | (wide ? 0 OR(BAD_DEPTH) OR(BAD_COEFFICIENT) : 0));
     CHECK(status == expected(coefficients, samples, needed));
@@ -74,15 +74,15 @@ int LLVMFuzzerTestOneInput(const uint8_t *data, size_t length) {
         return 0;
     }
     only_inside(samples, to, (1u << bits) - 1);
-    /* What the scratch held plays no part, and those that the list is too short for are 0. */
+    /* What the context held plays no part, and those that the list is too short for are 0. */
     static int32_t filled[1024];
     size_t given = coefficients.count < needed ? coefficients.count : needed;
     memset(filled, 0, sizeof filled);
     if (given) memcpy(filled, coefficients.at, given * coefficients.width);
     numbers again = lay(samples.count, samples.width);
     memcpy(again.at, samples.copy, samples.count * samples.width);
-    memset(scratch.at, byte() + 77, 6144 * 4);
-    CHECK(add(scratch, filled, needed, again) == TILG_DONE);
+    memset(context.at, byte() + 77, sizeof(tilg_context));
+    CHECK(add(context, filled, needed, again) == TILG_DONE);
     CHECK(!memcmp(again.at, samples.at, samples.count * samples.width));
     return 0;
 }

@@ -54,7 +54,7 @@ static struct {
 
 /* The library's calls: the name here, and the name in tilgwaren.h. */
 #define LIBRARY_CALLS(X) X(put, MOTION_CALL(put)) X(prep, MOTION_CALL(prep)) X(avg, CALL(mc_avg)) X(intra, CALL(predict_intra)) \
-    X(cfl_ac, CALL(cfl_ac)) X(cfl_pred, CALL(predict_cfl)) X(itx, CALL(inverse_transform_add))
+    X(cfl_ac, LUMA_CALL) X(cfl_pred, CALL(predict_cfl)) X(itx, CALL(inverse_transform_add))
 #define POINTER(name, function) __typeof__(&function) name;
 static struct { LIBRARY_CALLS(POINTER) } libraries[MOST_LIBRARIES];
 #define TEXT(x) #x
@@ -238,7 +238,7 @@ static uint64_t make_cfl_ac(const call *const c, const int by, const int times) 
     const tilg_cfl_block b = { tilg_block_size_of((size_t) w, (size_t) h), halved & 1, halved >> 1 & 1, (size_t) w_pad, (size_t) h_pad };
     if (by >= OWN) {
         READY(library, libraries[by - OWN].cfl_ac);
-        MEASURED(status |= library(written.values, (size_t) (w * h), samples, ROWS * STRIDE, STRIDE, 0, 0, &b ANY_DEPTH_ARG));
+        MEASURED(status |= library(written.values, (size_t) (w * h), samples, ROWS * STRIDE, STRIDE, 0, 0, &b));
     }
     READY(own, tables[by].intra.cfl_ac[layouts[halved] - 1]);
     MEASURED(own(written.values, samples, STRIDE * sizeof(pixel), w_pad, h_pad, w, h));
@@ -263,7 +263,7 @@ static uint64_t make_itx(const call *const c, const int by, const int times) {
     for (int i = 0; i < times; i++) memcpy(written.coefficients[i], drawn_coefficients, sizeof(drawn_coefficients));
     if (by >= OWN) {
         READY(library, libraries[by - OWN].itx);
-        MEASURED(status |= library(LIBRARY_ROWS, &scratch, written.coefficients[i], n, (uint8_t) tx, (uint8_t) type DEPTH_ARG);
+        MEASURED(status |= library(LIBRARY_ROWS, &context, written.coefficients[i], n, (uint8_t) tx, (uint8_t) type DEPTH_ARG);
                  memset(written.coefficients[i], 0, n * sizeof(coef)));
     }
     READY(own, tables[by].itx.itxfm_add[tx][type]);

@@ -79,9 +79,9 @@ struct CflBlock {
     h_pad: usize,
 }
 
-/// `tilg_transform_scratch`.
+/// `tilg_context`.
 #[repr(C, align(64))]
-struct Scratch([i32; 6144]);
+struct Context([i32; 19813]);
 
 // What holds for all calls: column and row of the block, and how far rows stand apart.
 const AT: usize = 16;
@@ -95,8 +95,8 @@ const ALPHA: i16 = 5;
 
 #[link(name = "tilgwaren", kind = "static")]
 unsafe extern "C" {
-    fn tilg_inverse_transform_add_8(s: *mut u8, m: usize, stride: usize, x: usize, y: usize, room: &mut Scratch, i: *const i16, n: usize, size: u8, kind: u8) -> u32;
-    fn tilg_inverse_transform_add_16(s: *mut u16, m: usize, stride: usize, x: usize, y: usize, room: &mut Scratch, i: *const i32, n: usize, size: u8, kind: u8, depth: u8) -> u32;
+    fn tilg_inverse_transform_add_8(s: *mut u8, m: usize, stride: usize, x: usize, y: usize, room: &mut Context, i: *const i16, n: usize, size: u8, kind: u8) -> u32;
+    fn tilg_inverse_transform_add_16(s: *mut u16, m: usize, stride: usize, x: usize, y: usize, room: &mut Context, i: *const i32, n: usize, size: u8, kind: u8, depth: u8) -> u32;
     fn tilg_put_8tap_8(s: *mut u8, m: usize, stride: usize, x: usize, y: usize, from: *const u8, n: usize, from_stride: usize, from_x: usize, from_y: usize, block: &MotionBlock) -> u32;
     fn tilg_put_tested_16(s: *mut u16, m: usize, stride: usize, x: usize, y: usize, from: *const u16, n: usize, from_stride: usize, from_x: usize, from_y: usize, block: &MotionBlock, depth: u8) -> u32;
     fn tilg_prep_8tap_8(t: *mut i16, m: usize, from: *const u8, n: usize, from_stride: usize, from_x: usize, from_y: usize, block: &MotionBlock) -> u32;
@@ -108,15 +108,15 @@ unsafe extern "C" {
     fn tilg_predict_cfl_8(s: *mut u8, m: usize, stride: usize, x: usize, y: usize, block: &IntraBlock, l: *const u8, n: usize, a: *const u8, k: usize, ac: *const i16, c: usize, alpha: i16) -> u32;
     fn tilg_predict_cfl_16(s: *mut u16, m: usize, stride: usize, x: usize, y: usize, block: &IntraBlock, l: *const u16, n: usize, a: *const u16, k: usize, ac: *const i16, c: usize, alpha: i16) -> u32;
     fn tilg_cfl_ac_8(ac: *mut i16, m: usize, luma: *const u8, n: usize, stride: usize, x: usize, y: usize, block: &CflBlock) -> u32;
-    fn tilg_cfl_ac_16(ac: *mut i16, m: usize, luma: *const u16, n: usize, stride: usize, x: usize, y: usize, block: &CflBlock, depth: u8) -> u32;
+    fn tilg_cfl_ac_tested_16(ac: *mut i16, m: usize, luma: *const u16, n: usize, stride: usize, x: usize, y: usize, block: &CflBlock) -> u32;
     fn tilg_intra_edge_8(edge: *mut u8, m: usize, s: *const u8, n: usize, plane: &EdgePlane, block: &EdgeBlock) -> u32;
     fn tilg_intra_edge_16(edge: *mut u16, m: usize, s: *const u16, n: usize, plane: &EdgePlane, block: &EdgeBlock) -> u32;
 }
 
 #[link(name = "bare_calls", kind = "static")]
 unsafe extern "C" {
-    fn bare_transform_8(room: &mut Scratch, i: *const i16, n: usize, s: *mut u8, m: usize, stride: usize, at: usize, size: u8, kind: u8, depth: usize, rounds: usize);
-    fn bare_transform_16(room: &mut Scratch, i: *const i32, n: usize, s: *mut u16, m: usize, stride: usize, at: usize, size: u8, kind: u8, depth: usize, rounds: usize);
+    fn bare_transform_8(room: &mut Context, i: *const i16, n: usize, s: *mut u8, m: usize, stride: usize, at: usize, size: u8, kind: u8, depth: usize, rounds: usize);
+    fn bare_transform_16(room: &mut Context, i: *const i32, n: usize, s: *mut u16, m: usize, stride: usize, at: usize, size: u8, kind: u8, depth: usize, rounds: usize);
     fn bare_put_8(s: *mut u8, m: usize, from: *const u8, n: usize, stride: usize, at: usize, side: usize, across: u8, down: u8, filter: u8, depth: usize, rounds: usize);
     fn bare_put_16(s: *mut u16, m: usize, from: *const u16, n: usize, stride: usize, at: usize, side: usize, across: u8, down: u8, filter: u8, depth: usize, rounds: usize);
     fn bare_prepare_8(t: *mut i16, m: usize, from: *const u8, n: usize, stride: usize, at: usize, side: usize, across: u8, down: u8, filter: u8, depth: usize, rounds: usize);
@@ -245,7 +245,7 @@ macro_rules! calls {
                 let (size, side) = (call.size().0, call.side.min(32));
                 let coefficients: Vec<$Coefficient> = values(7, side * side, 100 << (call.depth - 8));
                 let mut written: Vec<$T> = samples(STRIDE * ROWS, call.depth);
-                let mut room = Box::new(Scratch([0; 6144]));
+                let mut room = Box::new(Context([0; 19813]));
                 let (i, n, s, m) = (coefficients.as_ptr(), coefficients.len(), written.as_mut_ptr(), written.len());
                 if call.archive {
                     call.repeat(|| unsafe { $transform(s, m, STRIDE, AT, AT, &mut room, i, n, size, call.option $(, call.$depth as u8)?) });
@@ -333,7 +333,7 @@ macro_rules! calls {
                 let block_size = call.size().1;
                 if call.archive {
                     let block = CflBlock { block_size, halved_columns: 1, halved_rows: 1, w_pad: 0, h_pad: 0 };
-                    call.repeat(|| unsafe { $luma(s, m, i, n, STRIDE, AT, AT, &block $(, call.$depth as u8)?) });
+                    call.repeat(|| unsafe { $luma(s, m, i, n, STRIDE, AT, AT, &block) });
                 } else {
                     unsafe { $bare_luma(s, m, i, n, STRIDE, ROWS, AT, block_size, call.rounds) };
                 }
@@ -359,7 +359,7 @@ macro_rules! calls {
 
 calls!(narrow, u8, i16, (), tilg_inverse_transform_add_8 tilg_put_8tap_8 tilg_prep_8tap_8 tilg_mc_avg_8 tilg_predict_intra_8 tilg_predict_cfl_8 tilg_cfl_ac_8 tilg_intra_edge_8,
     bare_transform_8 bare_put_8 bare_prepare_8 bare_average_8 bare_predict_8 bare_luma_8 bare_edge_8);
-calls!(wide, u16, i32, (depth), tilg_inverse_transform_add_16 tilg_put_tested_16 tilg_prep_tested_16 tilg_mc_avg_16 tilg_predict_intra_16 tilg_predict_cfl_16 tilg_cfl_ac_16 tilg_intra_edge_16,
+calls!(wide, u16, i32, (depth), tilg_inverse_transform_add_16 tilg_put_tested_16 tilg_prep_tested_16 tilg_mc_avg_16 tilg_predict_intra_16 tilg_predict_cfl_16 tilg_cfl_ac_tested_16 tilg_intra_edge_16,
     bare_transform_16 bare_put_16 bare_prepare_16 bare_average_16 bare_predict_16 bare_luma_16 bare_edge_16);
 
 fn main() {

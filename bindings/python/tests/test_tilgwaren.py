@@ -102,9 +102,9 @@ class Library(unittest.TestCase):
 
     def test_a_difference_is_found_where_it_is(self):
         planes = tilgwaren.reconstruct(WORKED)
-        self.assertEqual(tilgwaren.differences(tilgwaren.trace(WORKED, planes)), [])
+        self.assertEqual(tilgwaren.differences(WORKED, planes), [])
         planes.y[5][6] = 7
-        self.assertEqual(tilgwaren.differences(tilgwaren.trace(WORKED, planes)), [(3, 0, 5, 6, 7, planes.y[0][0])])
+        self.assertEqual(tilgwaren.differences(WORKED, planes), [(3, 0, 5, 6, 7, planes.y[0][0])])
 
     def test_a_rejected_leaf_is_named(self):
         plan = tilgwaren.Plan.read(WORKED)

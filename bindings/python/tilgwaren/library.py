@@ -1,4 +1,4 @@
-"""The calls of the proved library, libtilgwaren.so, on plans and traces."""
+"""The calls of the proved library, libtilgwaren.so, on plans."""
 import ctypes
 import ctypes.util
 import os
@@ -7,7 +7,7 @@ from typing import NamedTuple
 from .planes import Planes
 
 ROOM_TOO_SMALL = 2
-STATUSES = {1: "out of memory", 2: "the buffer is too short", 3: "too long", 4: "malformed", 5: "invalid",
+STATUSES = {1: "out of memory", 2: "the buffer is too short", 3: "too long", 4: "malformed", 5: "invalid", 9: "planes too short",
             30: "the plan of a part would be too long", 31: "a part is malformed", 32: "a leaf of a part is invalid",
             33: "a part shows the frame of an empty slot"}
 KINDS = {1: "block size", 2: "transform", 3: "mode", 4: "vector", 5: "missing reference", 6: "coefficient"}
@@ -60,10 +60,10 @@ def library():
     return library.loaded
 
 
-def call(name, data, refusal, *written):
+def call(name, data, refusal, *written, planes=()):
     """A call with what it writes, its refusal, and what it reads."""
     data = bytes(data)
-    status = getattr(library(), name)(*written, ctypes.byref(refusal), data, ctypes.c_size_t(len(data)))
+    status = getattr(library(), name)(*written, ctypes.byref(refusal), data, ctypes.c_size_t(len(data)), *planes)
     if status:
         raise RefusedError(status, refusal)
 
@@ -88,11 +88,16 @@ def planes_length(plan):
     return length.value
 
 
-def reconstruct(plan):
-    """The planes that a plan defines. Raises RefusedError for one that is malformed or invalid."""
+def header_of(plan):
+    """A plan, or only the header of its bytes."""
     from .plan import Plan, read_header
     from .fields import Reader
-    header = plan if isinstance(plan, Plan) else read_header(Reader(bytes(plan)))
+    return plan if isinstance(plan, Plan) else read_header(Reader(bytes(plan)))
+
+
+def reconstruct(plan):
+    """The planes that a plan defines. Raises RefusedError for one that is malformed or invalid."""
+    header = header_of(plan)
     name, refusal = ("tilg_reconstruct_tiles", PartRefusal()) if header.is_grid else ("tilg_reconstruct_plan", Refusal())
     return Planes.read(planes_of(name, plan, refusal, header.planes_length()), header.dimensions(), header.depth)
 
@@ -102,8 +107,14 @@ def reconstruct_sequence(data):
     return planes_of("tilg_reconstruct_sequence", data, PartRefusal(), 0)
 
 
-def differences(trace, most=65536):
-    """The leaves whose samples differ in a trace (`tilgwaren.trace`), in coding order, at most so many."""
+def differences(plan, planes, most=65536):
+    """The leaves whose samples in these planes differ from those that the plan defines, in coding order, at most so many."""
+    header, data, given, at = header_of(plan), bytes(planes), [], 0
+    for width, height in header.dimensions():
+        stride = width * (1 if header.depth == 8 else 2)
+        plane = data[at:at + stride * height]
+        given += [plane, ctypes.c_size_t(len(plane)), ctypes.c_size_t(stride)]
+        at += stride * height
     room, found = (Found * most)(), ctypes.c_size_t()
-    call("tilg_trace_differences", trace, PartRefusal(), room, ctypes.c_size_t(most), ctypes.byref(found))
+    call("tilg_trace_differences", plan, Refusal(), room, ctypes.c_size_t(most), ctypes.byref(found), planes=given)
     return [Difference(it.leaf, it.plane, it.y, it.x, it.given, it.defined) for it in room[:min(most, found.value)]]

@@ -3,8 +3,8 @@
 
 use std::env;
 use tilgwaren::{
-    BlockSize, EdgeBlock, EdgePlane, MotionPlane, MotionWindow, MovedBlock, Place, PredictionMode,
-    TransformBlock, TransformScratch, TxSize,
+    BlockSize, Context, EdgeBlock, EdgePlane, MotionPlane, MovedBlock, Place, PredictionMode,
+    TransformBlock, TxSize,
 };
 
 const SIDE: usize = 64;
@@ -14,7 +14,11 @@ const X: usize = 24;
 const Y: usize = 16;
 
 // Predicts the block from a reference, 3 samples to the left and a quarter of a sample down.
-fn predict_from(reference: &[u8], plane: &mut [u8]) -> Result<(), tilgwaren::Error> {
+fn predict_from(
+    context: &mut Context,
+    reference: &[u8],
+    plane: &mut [u8],
+) -> Result<(), tilgwaren::Error> {
     let visible = MotionPlane {
         stride: SIDE,
         width: SIDE,
@@ -35,14 +39,7 @@ fn predict_from(reference: &[u8], plane: &mut [u8]) -> Result<(), tilgwaren::Err
         x: X,
         y: Y,
     };
-    tilgwaren::put_moved_8(
-        plane,
-        to,
-        reference,
-        &visible,
-        &block,
-        &mut MotionWindow::new(),
-    )
+    tilgwaren::put_moved_8(plane, to, reference, &visible, &block, context)
 }
 
 // Predicts the block by a smooth mode from the samples around it.
@@ -62,12 +59,13 @@ fn predict_within(plane: &mut [u8]) -> Result<(), tilgwaren::Error> {
 }
 
 fn main() -> Result<(), tilgwaren::Error> {
+    let mut context = Context::new(); // one for each thread
     let mut plane: Vec<u8> = (0..SIDE * SIDE).map(|i| (2 * (i % SIDE)) as u8).collect();
     if env::args().nth(1).as_deref() == Some("intra") {
         predict_within(&mut plane)?;
     } else {
         let reference = plane.clone();
-        predict_from(&reference, &mut plane)?;
+        predict_from(&mut context, &reference, &mut plane)?;
     }
     println!("predicted:     {:?}", &plane[SIDE * Y + X..][..8]);
     let transform = TransformBlock {
@@ -76,8 +74,7 @@ fn main() -> Result<(), tilgwaren::Error> {
         y: Y,
         ..TransformBlock::default()
     };
-    let mut scratch = TransformScratch::new(); // one for each thread
-    tilgwaren::inverse_transform_add_8(&mut scratch, &[160], &mut plane, SIDE, transform)?;
+    tilgwaren::inverse_transform_add_8(&mut context, &[160], &mut plane, SIDE, transform)?;
     println!("reconstructed: {:?}", &plane[SIDE * Y + X..][..8]);
     Ok(())
 }

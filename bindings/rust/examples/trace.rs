@@ -3,7 +3,26 @@
 
 use std::error::Error;
 use std::{env, fs};
-use tilgwaren::{Difference, trace_differences};
+use tilgwaren::{Difference, PlaneBytes, trace_differences};
+
+// The planes of a file, row by row without padding. The plan's header says how large they are.
+fn in_file<'a>(plan: &[u8], planes: &'a [u8]) -> [PlaneBytes<'a>; 3] {
+    let field = |at| plan.get(at).copied().map_or(0, usize::from);
+    let (width, height) = (field(4) + 256 * field(5), field(6) + 256 * field(7));
+    let (sample, sampling) = (if field(8) == 8 { 1 } else { 2 }, field(9));
+    let mut rest = planes;
+    [0, usize::from(sampling < 2), usize::from(sampling < 2)].map(|halved| {
+        let stride = sample * width.div_ceil(1 + halved);
+        let rows = if halved == 1 && sampling == 0 {
+            height.div_ceil(2)
+        } else {
+            height
+        };
+        let (bytes, others) = rest.split_at((stride * rows).min(rest.len()));
+        rest = others;
+        PlaneBytes { bytes, stride }
+    })
+}
 
 fn main() -> Result<(), Box<dyn Error>> {
     let mut names = env::args_os().skip(1);
@@ -11,11 +30,8 @@ fn main() -> Result<(), Box<dyn Error>> {
         fs::read(names.next().ok_or("usage: trace PLAN PLANES")?).map_err(Box::<dyn Error>::from)
     };
     let (plan, planes) = (read()?, read()?);
-    // A trace is the plan's length, the plan and the planes.
-    let len = u32::try_from(plan.len())?.to_le_bytes();
-    let trace = [b"RTR1", &len[..], &plan, &planes].concat();
     let mut first = [Difference::default(); 10];
-    let found = trace_differences(&trace, &mut first)?;
+    let found = trace_differences(&plan, in_file(&plan, &planes), &mut first)?;
     for it in first.iter().take(found) {
         println!(
             "leaf {}: plane {}, row {}, column {}: {} in place of {}",

@@ -44,6 +44,7 @@
 #![deny(missing_docs, missing_debug_implementations, unsafe_op_in_unsafe_fn)]
 
 mod builder;
+mod context;
 mod error;
 mod intra;
 mod intra_edge;
@@ -59,6 +60,7 @@ mod transform;
 pub use builder::{
     BuildError, Chroma, Coefficient, Field, Header, Leaf, LeafField, Motion, PlanBuilder,
 };
+pub use context::Context;
 pub use error::{Error, InvalidKind};
 pub use intra::{
     IntraBlock, predict_cfl_8, predict_cfl_16, predict_in_plane_8, predict_in_plane_16,
@@ -67,23 +69,23 @@ pub use intra::{
 pub use intra_edge::{EDGE_SAMPLES, EdgeBlock, EdgePlane, IntraEdge, intra_edge_8, intra_edge_16};
 pub use luma::{CflBlock, LumaBlock, cfl_ac_8, cfl_ac_16, cfl_block_of};
 pub use motion::{
-    MotionBlock, MotionPlane, MotionWindow, MovedBlock, mc_avg_8, mc_avg_16, prep_8tap_8,
-    prep_moved_8, prep_moved_16, put_8tap_8, put_moved_8, put_moved_16,
+    MotionBlock, MotionPlane, MovedBlock, mc_avg_8, mc_avg_16, prep_8tap_8, prep_moved_8,
+    prep_moved_16, put_8tap_8, put_moved_8, put_moved_16,
 };
 pub use numbers::{
     BitDepth, BlockSize, Filter, Partition, PredictionMode, Reference, Sampling, TxSize, TxType,
     UnknownNumber,
 };
 pub use plans::{
-    Difference, planes_len, reconstruct_plan, reconstruct_sequence, reconstruct_tiles,
+    Difference, PlaneBytes, planes_len, reconstruct_plan, reconstruct_sequence, reconstruct_tiles,
     trace_differences,
 };
 pub use region::{BlockRoom, Place, Region, RegionMut};
 pub use tested::{Tested, prep_tested_16, put_tested_16};
 pub use tile::{predict_in_tile_8, predict_in_tile_16};
 pub use transform::{
-    TransformBlock, TransformScratch, coefficients_len, inverse_transform_add_8,
-    inverse_transform_add_16, inverse_transform_add_rav1e_16,
+    TransformBlock, coefficients_len, inverse_transform_add_8, inverse_transform_add_16,
+    inverse_transform_add_rav1e_16,
 };
 
 /// The version of this crate: major times 65,536, minor times 256, patch.

@@ -19,6 +19,23 @@ pub struct CflBlock {
     pub h_pad: usize,
 }
 
+impl CflBlock {
+    /// How many columns and rows of luma are read, or `None` if the block is rejected.
+    fn luma_read(&self) -> Option<(usize, usize)> {
+        let read = |side: usize, pad: usize, halved: bool| {
+            let own = side.checked_sub(pad.checked_mul(4)?)?;
+            let shift = usize::from(halved);
+            (side <= 32 && own > 0).then_some((side << shift).min((own << shift).max(8)))
+        };
+        let size = self.block_size;
+        let columns = read(size.width(), self.w_pad, self.sampling.halves_columns())?;
+        Some((
+            columns,
+            read(size.height(), self.h_pad, self.sampling.halves_rows())?,
+        ))
+    }
+}
+
 impl From<&CflBlock> for sys::CflBlock {
     fn from(of: &CflBlock) -> sys::CflBlock {
         sys::CflBlock {
@@ -76,58 +93,71 @@ pub fn cfl_block_of(luma: &LumaBlock) -> Result<CflBlock, Error> {
     })
 }
 
-macro_rules! luma_calls {
-    ($call:ident, $sample:ident, $($depth:ident,)? $(#[$doc:meta])+) => {
-        $(#[$doc])+
-        pub fn $call(
-            ac: &mut [i16],
-            luma: &[$sample],
-            place: Place,
-            block: &CflBlock,
-            $($depth: BitDepth,)?
-        ) -> Result<(), Error> {
-            // SAFETY: pointers and lengths come from borrowed slices, `ac` borrowed mutably.
-            told(unsafe {
-                sys::$call(
-                    ac.as_mut_ptr(),
-                    ac.len(),
-                    luma.as_ptr(),
-                    luma.len(),
-                    place.stride,
-                    place.x,
-                    place.y,
-                    &block.into(),
-                    $($depth.into(),)?
-                )
-            })
-        }
-    };
+/// Computes how far the luma over each sample of a chroma block is from the mean, in eighths. It
+/// writes the differences to `ac`, row by row; the rest of `ac` is unchanged.
+///
+/// The block's luma begins at `place`. The call reads the luma columns over the chroma columns that
+/// have luma of their own. It reads at least 8 luma columns, but none past the block. The other
+/// chroma columns repeat the last luma that is read. The same holds for rows.
+///
+/// # Errors
+///
+/// `BadSize`, then `BadPad`, then `BadArea`, then `TooShort`. The differences are then unchanged.
+pub fn cfl_ac_8(ac: &mut [i16], luma: &[u8], place: Place, block: &CflBlock) -> Result<(), Error> {
+    // SAFETY: pointers and lengths come from borrowed slices, `ac` borrowed mutably.
+    told(unsafe {
+        sys::cfl_ac_8(
+            ac.as_mut_ptr(),
+            ac.len(),
+            luma.as_ptr(),
+            luma.len(),
+            place.stride,
+            place.x,
+            place.y,
+            &block.into(),
+        )
+    })
 }
 
-luma_calls!(
-    cfl_ac_8,
-    u8,
-    /// Computes how far the luma over each sample of a chroma block is from the mean, in eighths,
-    /// at a depth of 8. It writes the differences to `ac`, row by row; the rest of `ac` is
-    /// unchanged.
-    ///
-    /// The block's luma begins at `place`. The call reads the luma columns over the chroma columns
-    /// that have luma of their own. It reads at least 8 luma columns, but none past the block. The
-    /// other chroma columns repeat the last luma that is read. The same holds for rows.
-    ///
-    /// # Errors
-    ///
-    /// `BadSize`, then `BadPad`, then `BadArea`, then `TooShort`. The differences are then
-    /// unchanged.
-);
-luma_calls!(
-    cfl_ac_16,
-    u16,
-    bit_depth,
-    /// [`cfl_ac_8`] for samples of 16 bits.
-    ///
-    /// # Errors
-    ///
-    /// `BadSize`, then `BadPad`, then `BadArea`, then `TooShort`, then `BadSample`: a sample that
-    /// the call reads is past the depth. The differences are then unchanged.
-);
+/// [`cfl_ac_8`] for samples of 16 bits, at any depth.
+///
+/// # Errors
+///
+/// `BadSize`, then `BadPad`, then `BadArea`, then `BadSample`: a sample that is read has more than
+/// 12 bits. Then `TooShort`. The differences are then unchanged.
+pub fn cfl_ac_16(
+    ac: &mut [i16],
+    luma: &[u16],
+    place: Place,
+    block: &CflBlock,
+) -> Result<(), Error> {
+    if let Some((width, height)) = block.luma_read() {
+        // SAFETY: pointer and length come from one borrowed slice.
+        told(unsafe {
+            sys::test_samples_16(
+                luma.as_ptr(),
+                luma.len(),
+                place.stride,
+                place.x,
+                place.y,
+                width,
+                height,
+                BitDepth::Twelve.into(),
+            )
+        })?;
+    }
+    // SAFETY: pointers and lengths come from borrowed slices, `ac` borrowed mutably. The samples
+    // that are read were checked, unless the block is rejected before any is read.
+    told(unsafe {
+        sys::cfl_ac_tested_16(
+            ac.as_mut_ptr(),
+            ac.len(),
+            luma.as_ptr(),
+            luma.len(),
+            place.stride,
+            place.x,
+            place.y,
+            &block.into(),
+        )
+    })
+}

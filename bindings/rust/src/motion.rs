@@ -1,8 +1,7 @@
 //! Blocks of references: predicted from one, or prepared and averaged from two.
 
 use crate::error::told;
-use crate::{BitDepth, Error, Filter, Place, Tested};
-use std::fmt;
+use crate::{BitDepth, Context, Error, Filter, Place, Tested};
 use tilgwaren_sys as sys;
 
 /// A block, and how far it is moved between the samples of its reference.
@@ -219,31 +218,6 @@ impl From<&MovedBlock> for sys::MovedBlock {
     }
 }
 
-/// Scratch memory for what is read for a block. Its contents before a call don't matter. Threads
-/// need one each.
-#[derive(Clone)]
-pub struct MotionWindow<T>(Box<[T]>);
-
-impl<T: Copy + Default> MotionWindow<T> {
-    /// Scratch memory for blocks of up to 128 by 128 samples.
-    #[must_use]
-    pub fn new() -> MotionWindow<T> {
-        MotionWindow(vec![T::default(); 135 * 135].into_boxed_slice())
-    }
-}
-
-impl<T: Copy + Default> Default for MotionWindow<T> {
-    fn default() -> MotionWindow<T> {
-        MotionWindow::new()
-    }
-}
-
-impl<T> fmt::Debug for MotionWindow<T> {
-    fn fmt(&self, f: &mut fmt::Formatter<'_>) -> fmt::Result {
-        f.write_str("MotionWindow")
-    }
-}
-
 /// Predicts a block from a reference of 8 bits without padding. `to` is the place of its first
 /// sample in `dst`. The call follows the vector and reads only visible samples of the plane.
 /// Outside the plane, every sample equals the nearest edge sample.
@@ -257,9 +231,9 @@ pub fn put_moved_8(
     src: &[u8],
     plane: &MotionPlane,
     block: &MovedBlock,
-    window: &mut MotionWindow<u8>,
+    context: &mut Context,
 ) -> Result<(), Error> {
-    // SAFETY: pointers and lengths come from borrowed slices, `dst` and `window` borrowed mutably.
+    // SAFETY: pointers and lengths come from borrowed memory, `dst` and `context` borrowed mutably.
     told(unsafe {
         sys::put_moved_8(
             dst.as_mut_ptr(),
@@ -267,8 +241,7 @@ pub fn put_moved_8(
             to.stride,
             to.x,
             to.y,
-            window.0.as_mut_ptr(),
-            window.0.len(),
+            context.as_mut(),
             src.as_ptr(),
             src.len(),
             &plane.into(),
@@ -288,7 +261,7 @@ pub fn put_moved_16<S>(
     src: &Tested<S>,
     plane: &MotionPlane,
     block: &MovedBlock,
-    window: &mut MotionWindow<u16>,
+    context: &mut Context,
 ) -> Result<(), Error> {
     // SAFETY: as above. No sample of the reference is past the depth: all were checked when it was
     // made.
@@ -299,8 +272,7 @@ pub fn put_moved_16<S>(
             to.stride,
             to.x,
             to.y,
-            window.0.as_mut_ptr(),
-            window.0.len(),
+            context.as_mut(),
             src.samples().as_ptr(),
             src.samples().len(),
             &plane.into(),
@@ -322,16 +294,15 @@ pub fn prep_moved_8(
     src: &[u8],
     plane: &MotionPlane,
     block: &MovedBlock,
-    window: &mut MotionWindow<u8>,
+    context: &mut Context,
 ) -> Result<(), Error> {
-    // SAFETY: pointers and lengths come from borrowed slices, `values` and `window` borrowed
+    // SAFETY: pointers and lengths come from borrowed memory, `values` and `context` borrowed
     // mutably.
     told(unsafe {
         sys::prep_moved_8(
             values.as_mut_ptr(),
             values.len(),
-            window.0.as_mut_ptr(),
-            window.0.len(),
+            context.as_mut(),
             src.as_ptr(),
             src.len(),
             &plane.into(),
@@ -351,7 +322,7 @@ pub fn prep_moved_16<S>(
     src: &Tested<S>,
     plane: &MotionPlane,
     block: &MovedBlock,
-    window: &mut MotionWindow<u16>,
+    context: &mut Context,
 ) -> Result<(), Error> {
     // SAFETY: as above. No sample of the reference is past the depth: all were checked when it was
     // made.
@@ -359,8 +330,7 @@ pub fn prep_moved_16<S>(
         sys::prep_moved_16(
             values.as_mut_ptr(),
             values.len(),
-            window.0.as_mut_ptr(),
-            window.0.len(),
+            context.as_mut(),
             src.samples().as_ptr(),
             src.samples().len(),
             &plane.into(),

@@ -102,6 +102,26 @@ numbers! {
     B32x8 = 19 "BLOCK_32X8", B16x64 = 20 "BLOCK_16X64", B64x16 = 21 "BLOCK_64X16",
 }
 
+impl BlockSize {
+    /// How many columns of samples it has.
+    #[must_use]
+    pub fn width(self) -> usize {
+        const WIDTHS: [u8; 22] = [
+            4, 4, 8, 8, 8, 16, 16, 16, 32, 32, 32, 64, 64, 64, 128, 128, 4, 16, 8, 32, 16, 64,
+        ];
+        usize::from(WIDTHS[self as usize])
+    }
+
+    /// How many rows of samples it has.
+    #[must_use]
+    pub fn height(self) -> usize {
+        const HEIGHTS: [u8; 22] = [
+            4, 8, 4, 8, 16, 8, 16, 32, 16, 32, 64, 32, 64, 128, 64, 128, 16, 4, 32, 8, 64, 16,
+        ];
+        usize::from(HEIGHTS[self as usize])
+    }
+}
+
 numbers! {
     /// The size of a transform: columns by rows of samples.
     TxSize:

@@ -1,4 +1,4 @@
-//! Whole plans, grids of tiles, sequences and traces.
+//! Whole plans, grids of tiles, sequences, and planes of another encoder.
 
 use crate::Error;
 use crate::error::{of_parts, of_plan};
@@ -118,20 +118,34 @@ pub struct Difference {
 // Both have the same fields in the same order.
 const _: () = assert!(size_of::<Difference>() == size_of::<sys::Difference>());
 
-/// Compares the planes of a trace, as another encoder left them, with the planes that its plan
-/// defines, and returns how many differences there are. Each leaf has at most one difference in
-/// each of Y, U and V: the first visible sample of its rectangle, in raster order, that differs.
-/// The first differences, leaf by leaf in coding order, are written to `room`, as many as fit; the
-/// rest of `room` is unchanged.
+/// A plane in memory, from its first visible sample on.
+#[derive(Clone, Copy, Debug, Default, PartialEq, Eq)]
+pub struct PlaneBytes<'a> {
+    /// Its bytes: a sample takes one at depth 8, else two, the low byte first.
+    pub bytes: &'a [u8],
+    /// How many bytes apart its rows begin.
+    pub stride: usize,
+}
+
+/// Compares the planes of a plan with planes Y, U and V that another encoder left, where they are,
+/// and returns how many differences there are. Each leaf has at most one difference in each plane:
+/// the first visible sample of its rectangle, in raster order, that differs. The first differences,
+/// leaf by leaf in coding order, are written to `room`, as many as fit; the rest of `room` is
+/// unchanged.
 ///
 /// # Errors
 ///
-/// `TooLong`, then `Malformed` for what comes before the planes, then `MalformedPart` or
-/// `InvalidPart` (part 0 is the plan), then `Malformed` for the planes. `OutOfMemory` can come
-/// instead of any of them. The buffer is then unchanged.
-pub fn trace_differences(bytes: &[u8], room: &mut [Difference]) -> Result<usize, Error> {
+/// `TooLong`, then `Malformed`, then `Invalid`, then `BadArea`: a row of a plane is longer than the
+/// stride, or does not lie in the bytes. `OutOfMemory` can come instead of any of them. The buffer
+/// is then unchanged.
+pub fn trace_differences(
+    plan: &[u8],
+    planes: [PlaneBytes<'_>; 3],
+    room: &mut [Difference],
+) -> Result<usize, Error> {
     let mut found = 0;
-    let mut refusal = sys::PartRefusal::default();
+    let mut refusal = sys::Refusal::default();
+    let [y, u, v] = planes;
     // SAFETY: pointers and lengths come from borrowed slices, `room` borrowed mutably, whose
     // elements are laid out as the call's; the call writes only `room` and two locals.
     let status = unsafe {
@@ -140,10 +154,19 @@ pub fn trace_differences(bytes: &[u8], room: &mut [Difference]) -> Result<usize,
             room.len(),
             &mut found,
             &mut refusal,
-            bytes.as_ptr(),
-            bytes.len(),
+            plan.as_ptr(),
+            plan.len(),
+            y.bytes.as_ptr(),
+            y.bytes.len(),
+            y.stride,
+            u.bytes.as_ptr(),
+            u.bytes.len(),
+            u.stride,
+            v.bytes.as_ptr(),
+            v.bytes.len(),
+            v.stride,
         )
     };
-    of_parts(status, &refusal)?;
+    of_plan(status, &refusal)?;
     Ok(found)
 }

@@ -1,34 +1,8 @@
 //! The inverse transform of a block, added to the caller's samples.
 
 use crate::error::told;
-use crate::{BitDepth, Error, TxSize, TxType};
-use std::fmt;
+use crate::{BitDepth, Context, Error, TxSize, TxType};
 use tilgwaren_sys as sys;
-
-/// Scratch memory for the transform of one block. Its contents before a call don't matter. Threads
-/// need one each.
-#[derive(Clone)]
-pub struct TransformScratch(Box<sys::TransformScratch>);
-
-impl TransformScratch {
-    /// Scratch memory for every size, 64x64 included.
-    #[must_use]
-    pub fn new() -> TransformScratch {
-        TransformScratch(Box::new(sys::TransformScratch { words: [0; 6144] }))
-    }
-}
-
-impl Default for TransformScratch {
-    fn default() -> TransformScratch {
-        TransformScratch::new()
-    }
-}
-
-impl fmt::Debug for TransformScratch {
-    fn fmt(&self, f: &mut fmt::Formatter<'_>) -> fmt::Result {
-        f.write_str("TransformScratch")
-    }
-}
 
 /// A transform, and where its block begins.
 #[derive(Clone, Copy, Debug, Default, PartialEq, Eq)]
@@ -82,14 +56,15 @@ macro_rules! transform_calls {
     ($call:ident, $sample:ident, $coefficient:ident, $($depth:ident,)? $(#[$doc:meta])+) => {
         $(#[$doc])+
         pub fn $call(
-            scratch: &mut TransformScratch,
+            context: &mut Context,
             coefficients: &[$coefficient],
             samples: &mut [$sample],
             stride: usize,
             block: TransformBlock,
             $($depth: BitDepth,)?
         ) -> Result<(), Error> {
-            // SAFETY: pointers and lengths come from borrowed slices, `samples` borrowed mutably.
+            // SAFETY: pointers and lengths come from borrowed memory, `samples` and `context`
+            // borrowed mutably.
             told(unsafe {
                 sys::$call(
                     samples.as_mut_ptr(),
@@ -97,7 +72,7 @@ macro_rules! transform_calls {
                     stride,
                     block.x,
                     block.y,
-                    &mut *scratch.0,
+                    context.as_mut(),
                     coefficients.as_ptr(),
                     coefficients.len(),
                     block.tx_size.into(),

@@ -442,12 +442,12 @@ fn differences_of_luma_are_those_from_the_mean() -> Result<(), Error> {
     assert_eq!(ac[64..], [7; 16]);
     let mut deep: Vec<u16> = luma.iter().map(|sample| u16::from(*sample)).collect();
     let mut other = [7; 80];
-    cfl_ac_16(&mut other, &deep, place, &cfl_block(), BitDepth::Ten)?;
+    cfl_ac_16(&mut other, &deep, place, &cfl_block())?;
     assert_eq!(ac, other);
     // The last sample that is read.
-    deep[32 * 23 + 23] = 1024;
+    deep[32 * 23 + 23] = 4096;
     assert_eq!(
-        cfl_ac_16(&mut other, &deep, place, &cfl_block(), BitDepth::Ten),
+        cfl_ac_16(&mut other, &deep, place, &cfl_block()),
         Err(Error::BadSample)
     );
     let large = CflBlock {

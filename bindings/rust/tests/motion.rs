@@ -1,7 +1,7 @@
 //! Blocks of references: predicted, prepared, averaged, moved and rejected.
 
 use tilgwaren::{
-    BitDepth, Error, Filter, MotionBlock, MotionPlane, MotionWindow, MovedBlock, Place, Tested,
+    BitDepth, Context, Error, Filter, MotionBlock, MotionPlane, MovedBlock, Place, Tested,
     mc_avg_8, mc_avg_16, prep_8tap_8, prep_moved_8, prep_moved_16, prep_tested_16, put_8tap_8,
     put_moved_8, put_moved_16, put_tested_16,
 };
@@ -192,7 +192,7 @@ fn outside_the_plane_each_sample_is_the_nearest() -> Result<(), Error> {
     let samples = sloping();
     let deep: Vec<u16> = samples.iter().map(|sample| u16::from(*sample)).collect();
     let tested = Tested::new(&deep, BitDepth::Ten)?;
-    let (mut window, mut deep_window) = (MotionWindow::new(), MotionWindow::new());
+    let mut context = Context::new();
     // So many samples down and to the right.
     for (down, right) in [(0, 0), (3, -5), (-40, 9), (7, 300), (-17, -12)] {
         let block = moved(8 * down as i16, 16 * right as i16);
@@ -212,9 +212,9 @@ fn outside_the_plane_each_sample_is_the_nearest() -> Result<(), Error> {
             &samples,
             &plane(),
             &block,
-            &mut window,
+            &mut context,
         )?;
-        prep_moved_8(&mut values, &samples, &plane(), &block, &mut window)?;
+        prep_moved_8(&mut values, &samples, &plane(), &block, &mut context)?;
         assert_eq!((rows(&put), put[0], values[32]), (wanted.clone(), 0, 5));
         assert!(
             wanted
@@ -229,9 +229,9 @@ fn outside_the_plane_each_sample_is_the_nearest() -> Result<(), Error> {
             &tested,
             &plane(),
             &block,
-            &mut deep_window,
+            &mut context,
         )?;
-        prep_moved_16(&mut values, &tested, &plane(), &block, &mut deep_window)?;
+        prep_moved_16(&mut values, &tested, &plane(), &block, &mut context)?;
         assert_eq!(
             (rows(&put.map(|sample| sample as u8)), put[9], values[32]),
             (wanted.clone(), 0, 5)
@@ -245,10 +245,10 @@ fn outside_the_plane_each_sample_is_the_nearest() -> Result<(), Error> {
 #[test]
 fn rejected_moves_write_nothing() {
     let (reference, to) = (sloping(), place(8, 0, 0));
-    let mut window = MotionWindow::new();
+    let mut context = Context::new();
     let mut samples = [7; 32];
     let mut put =
-        |to, plane, block| put_moved_8(&mut samples, to, &reference, &plane, &block, &mut window);
+        |to, plane, block| put_moved_8(&mut samples, to, &reference, &plane, &block, &mut context);
     let block = moved(0, 0);
     let narrow = MovedBlock { width: 0, ..block };
     assert_eq!(put(to, plane(), narrow), Err(Error::BadSize));

@@ -3,7 +3,7 @@
 use std::fs;
 use std::path::Path;
 use tilgwaren::{
-    Difference, Error, InvalidKind, planes_len, reconstruct_plan, reconstruct_sequence,
+    Difference, Error, InvalidKind, PlaneBytes, planes_len, reconstruct_plan, reconstruct_sequence,
     reconstruct_tiles, trace_differences,
 };
 
@@ -187,25 +187,30 @@ fn a_grid_has_any_sides_in_the_third_version() {
     );
 }
 
+// Planes of 64 bytes, one after the other.
+fn in_place(planes: &[u8], stride: usize) -> [PlaneBytes<'_>; 3] {
+    [0, 64, 128].map(|at| PlaneBytes {
+        bytes: &planes[at..planes.len().min(at + 64)],
+        stride,
+    })
+}
+
 #[test]
-fn a_trace_tells_where_its_planes_differ() {
+fn planes_are_compared_where_they_are() {
     let (plan, mut planes) = worked_plan();
-    let trace = |plan: &[u8], planes: &[u8]| {
-        [
-            b"RTR1",
-            &(plan.len() as u32).to_le_bytes()[..],
-            plan,
-            planes,
-        ]
-        .concat()
-    };
     let mut room = [Difference::default(); 3];
-    assert_eq!(trace_differences(&trace(&plan, &planes), &mut room), Ok(0));
+    assert_eq!(
+        trace_differences(&plan, in_place(&planes, 8), &mut room),
+        Ok(0)
+    );
     assert_eq!(room, [Difference::default(); 3]);
     // Column 1 of row 2 of Y, in the first leaf, and column 7 of row 7 of V, in the last one.
     planes[17] = 9;
     planes[191] = 8;
-    assert_eq!(trace_differences(&trace(&plan, &planes), &mut room), Ok(2));
+    assert_eq!(
+        trace_differences(&plan, in_place(&planes, 8), &mut room),
+        Ok(2)
+    );
     let first = Difference {
         leaf: 0,
         y: 2,
@@ -224,16 +229,26 @@ fn a_trace_tells_where_its_planes_differ() {
     };
     assert_eq!(room, [first, last, Difference::default()]);
     room[1] = Difference::default();
-    let found = trace_differences(&trace(&plan, &planes), &mut room[..1]);
+    let found = trace_differences(&plan, in_place(&planes, 8), &mut room[..1]);
     assert_eq!((found, room[0]), (Ok(2), first));
     assert_eq!(room[1..], [Difference::default(); 2]);
-    let cut = trace(&plan, &planes[1..]);
-    let fault = Err(Error::Malformed { at: 91 });
-    assert_eq!(trace_differences(&cut, &mut room), fault);
+    let short = in_place(&planes[1..], 8);
+    assert_eq!(
+        trace_differences(&plan, short, &mut room),
+        Err(Error::BadArea)
+    );
+    let narrow = in_place(&planes, 7);
+    assert_eq!(
+        trace_differences(&plan, narrow, &mut room),
+        Err(Error::BadArea)
+    );
     let mut spoilt = plan.clone();
     spoilt[HEADER] = 7;
-    let fault = Err(Error::MalformedPart { part: 0, at: 20 });
-    assert_eq!(trace_differences(&trace(&spoilt, &planes), &mut []), fault);
+    let fault = Err(Error::Malformed { at: 20 });
+    assert_eq!(
+        trace_differences(&spoilt, in_place(&planes, 8), &mut []),
+        fault
+    );
 }
 
 #[test]

@@ -1,8 +1,8 @@
 //! Regions: split, read, called on, and worked on by threads.
 
 use tilgwaren::{
-    BlockRoom, Error, Filter, MotionBlock, Place, Region, RegionMut, TransformBlock,
-    TransformScratch, TxSize, inverse_transform_add_8, put_8tap_8,
+    BlockRoom, Context, Error, Filter, MotionBlock, Place, Region, RegionMut, TransformBlock,
+    TxSize, inverse_transform_add_8, put_8tap_8,
 };
 
 const STRIDE: usize = 40;
@@ -212,7 +212,7 @@ fn refused_calls_leave_the_samples_alone() {
 /// Moves each block of 8x8 of a region, and adds a residual to it.
 fn work(region: &mut RegionMut<'_, u8>, seed: u8) -> Result<(), Error> {
     let reference: Vec<u8> = (0..=255).map(|i: u8| i.wrapping_mul(seed)).collect();
-    let (mut scratch, mut room) = (TransformScratch::new(), BlockRoom::new());
+    let (mut context, mut room) = (Context::new(), BlockRoom::new());
     let block = MotionBlock {
         width: 8,
         height: 8,
@@ -239,7 +239,7 @@ fn work(region: &mut RegionMut<'_, u8>, seed: u8) -> Result<(), Error> {
                     ..TransformBlock::default()
                 };
                 let coefficients = [300, -70, 9];
-                inverse_transform_add_8(&mut scratch, &coefficients, samples, to.stride, transform)
+                inverse_transform_add_8(&mut context, &coefficients, samples, to.stride, transform)
             })?;
         }
     }

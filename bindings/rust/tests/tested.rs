@@ -4,7 +4,7 @@ use std::cell::Cell;
 use std::sync::Arc;
 use std::sync::atomic::{AtomicUsize, Ordering};
 use tilgwaren::{
-    BitDepth, Error, Filter, MotionBlock, MotionPlane, MotionWindow, MovedBlock, Place, Tested,
+    BitDepth, Context, Error, Filter, MotionBlock, MotionPlane, MovedBlock, Place, Tested,
     put_moved_16, put_tested_16,
 };
 
@@ -116,7 +116,7 @@ fn a_plane_of_a_shared_frame_is_tested() -> Result<(), Error> {
         &tested,
         &whole,
         &moved,
-        &mut MotionWindow::new(),
+        &mut Context::new(),
     )?;
     assert_eq!(samples[..4], reference()[39..43]);
     Ok(())

@@ -1,7 +1,7 @@
 //! Residuals, added to samples and rejected.
 
 use tilgwaren::{
-    BitDepth, Error, TransformBlock, TransformScratch, TxSize, TxType, coefficients_len,
+    BitDepth, Context, Error, TransformBlock, TxSize, TxType, coefficients_len,
     inverse_transform_add_8, inverse_transform_add_16, inverse_transform_add_rav1e_16,
 };
 
@@ -17,9 +17,9 @@ fn block_at(x: usize, y: usize) -> TransformBlock {
 // A constant coefficient of 100 lifts each sample of 4x4 by 3.
 #[test]
 fn a_residual_is_added_to_its_rectangle() {
-    let mut scratch = TransformScratch::new();
+    let mut context = Context::new();
     let mut samples = [128; 64];
-    let added = inverse_transform_add_8(&mut scratch, &[100], &mut samples, 8, block_at(3, 2));
+    let added = inverse_transform_add_8(&mut context, &[100], &mut samples, 8, block_at(3, 2));
     assert_eq!(added, Ok(()));
     for (i, sample) in samples.iter().enumerate() {
         let inside = (3..7).contains(&(i % 8)) && (2..6).contains(&(i / 8));
@@ -35,8 +35,8 @@ fn coefficients_are_ordered_column_by_column() {
         ..block_at(0, 0)
     };
     let mut samples = [100; 16];
-    let scratch = &mut TransformScratch::new();
-    let added = inverse_transform_add_8(scratch, &[0, 0, 0, 80], &mut samples, 4, identity);
+    let context = &mut Context::new();
+    let added = inverse_transform_add_8(context, &[0, 0, 0, 80], &mut samples, 4, identity);
     assert_eq!(added, Ok(()));
     assert_eq!((samples[0], samples[3], samples[12]), (100, 100, 110));
 }
@@ -79,10 +79,10 @@ fn coefficients_up_to_an_end_of_block() {
 
 #[test]
 fn rejected_blocks_leave_the_samples_alone() {
-    let mut scratch = TransformScratch::new();
+    let mut context = Context::new();
     let mut samples = [128; 64];
     let mut rejection =
-        |stride, block| inverse_transform_add_8(&mut scratch, &[100], &mut samples, stride, block);
+        |stride, block| inverse_transform_add_8(&mut context, &[100], &mut samples, stride, block);
     let sine = TransformBlock {
         tx_size: TxSize::T32x32,
         tx_type: TxType::AdstDct,
@@ -97,26 +97,26 @@ fn rejected_blocks_leave_the_samples_alone() {
 
 #[test]
 fn large_coefficients_are_rejected() {
-    let scratch = &mut TransformScratch::new();
+    let context = &mut Context::new();
     let mut samples = [512; 16];
     let mut coefficients = [0; 16];
     coefficients[15] = (1 << 17) + 1;
     let (block, depth) = (block_at(0, 0), BitDepth::Ten);
-    let added = inverse_transform_add_16(scratch, &coefficients, &mut samples, 4, block, depth);
+    let added = inverse_transform_add_16(context, &coefficients, &mut samples, 4, block, depth);
     assert_eq!((added, samples), (Err(Error::BadCoefficient), [512; 16]));
 }
 
 #[test]
 fn rules_differ_where_an_identity_passes_32_bits() {
-    let scratch = &mut TransformScratch::new();
+    let context = &mut Context::new();
     let (mut by_av1, mut by_rav1e) = ([0; 16], [0; 16]);
     let identity = TransformBlock {
         tx_type: TxType::Identity,
         ..block_at(0, 0)
     };
     let (given, depth) = ([400_000], BitDepth::Twelve);
-    let added = inverse_transform_add_16(scratch, &given, &mut by_av1, 4, identity, depth);
+    let added = inverse_transform_add_16(context, &given, &mut by_av1, 4, identity, depth);
     assert_eq!((added, by_av1[0]), (Ok(()), 4095));
-    let added = inverse_transform_add_rav1e_16(scratch, &given, &mut by_rav1e, 4, identity, depth);
+    let added = inverse_transform_add_rav1e_16(context, &given, &mut by_rav1e, 4, identity, depth);
     assert_eq!((added, by_rav1e[0]), (Ok(()), 0));
 }

@@ -8,8 +8,6 @@ use Rattle.av1_sequence.specs.declared.error.SequenceError.{SequenceError}
 use Rattle.av1_sequence.specs.declared.error.SequenceError.TheVariants as sequence
 use Rattle.av1_tiles.specs.declared.error.TilesError.{TilesError}
 use Rattle.av1_tiles.specs.declared.error.TilesError.TheVariants as tiles
-use Rattle.av1_trace.specs.declared.error.TraceError.{TraceError}
-use Rattle.av1_trace.specs.declared.error.TraceError.TheVariants as trace
 use Rattle.av1_calls.specs.declared.status.TheConstants.{ROOM_TOO_SMALL}
 use Rattle.av1_c.specs.Faults.{kind_number}
 use Rattle.av1_c.specs.declared.part_fault.PartFault.{PartFault}
@@ -48,15 +46,6 @@ sequence_fault (sequence.Frame frame fault) = frame_fault frame fault
 sequence_fault (sequence.EmptySlot frame) = EmptySlot frame
 sequence_fault sequence.WriteFault = Memory
 sequence_fault sequence.Memory = Memory
-
--- the fault of an error of a trace; the only part of a trace is its plan
-abbrev pub trace_fault : TraceError → PartFault
-trace_fault trace.ReadFault = Memory
-trace_fault trace.TooLong = TooLong
-trace_fault (trace.Malformed at) = Malformed at
-trace_fault (trace.Plan fault) = in_part 0 fault
-trace_fault trace.WriteFault = Memory
-trace_fault trace.Memory = Memory
 
 -- the status of a call with this fault
 abbrev pub part_status : PartFault → ℕ

@@ -1,12 +1,11 @@
 //! Intra prediction for C: the calls on blocks, edges, chroma from luma and their arguments. Each call is the call of
 //! `av1_calls` with the same name. Its documentation is there.
-ghost use Rattle.std.specs.Prelude.{false, true};
 ghost use Rattle.av1_blocks.specs.declared.predict.PredictionMode.TheVariants as modes;
 ghost use Rattle.av1_calls.specs.CflPads.{FindsChroma};
 ghost use Rattle.av1_calls.specs.IntraBlocks.{Predicts, PredictsBy};
 ghost use Rattle.av1_calls.specs.IntraEdges.{PreparesEdge};
 ghost use Rattle.av1_calls.specs.IntraPlanes.{PredictsInPlane};
-ghost use Rattle.av1_calls.specs.LumaBlocks.{GivesDifferences};
+ghost use Rattle.av1_calls.specs.LumaBlocks.{GivesDifferences, IsLumaTested};
 
 use av1_calls::{CflBlock, EdgeBlock, EdgePlane, IntraBlock, LumaLeafBlock};
 
@@ -146,25 +145,25 @@ pub extern "C" fn tilg_cfl_ac_8(
     y: usize,
     block: &CflBlock,
 ) -> u32
-    ensures { GivesDifferences false 8 block.now stride x y luma.now ac.old ac.new result }
+    ensures { GivesDifferences block.now stride x y luma.now ac.old ac.new result }
 {
     av1_calls::tilg_cfl_ac_8(ac, luma, stride, x, y, block)
 }
 
-/// Gives the differences of luma from its mean, from samples of 16 bits.
+/// Gives the differences of luma from its mean, from samples of 16 bits that were tested before.
 #[unsafe(no_mangle)]
-pub extern "C" fn tilg_cfl_ac_16(
+pub extern "C" fn tilg_cfl_ac_tested_16(
     ac: &mut [i16],
     luma: &[u16],
     stride: usize,
     x: usize,
     y: usize,
     block: &CflBlock,
-    bit_depth: u8,
 ) -> u32
-    ensures { GivesDifferences true bit_depth block.now stride x y luma.now ac.old ac.new result }
+    requires { IsLumaTested block.now stride x y luma.now }
+    ensures { GivesDifferences block.now stride x y luma.now ac.old ac.new result }
 {
-    av1_calls::tilg_cfl_ac_16(ac, luma, stride, x, y, block, usize::from(bit_depth))
+    av1_calls::tilg_cfl_ac_tested_16(ac, luma, stride, x, y, block)
 }
 
 /// Finds the block of chroma that is predicted from a block's luma.

@@ -3,7 +3,7 @@
 //! - [`tilg_planes_len`] gives the length of a plan's planes in bytes. [`tilg_reconstruct_plan`] writes the planes to
 //!   the caller's buffer.
 //! - [`tilg_reconstruct_tiles`] and [`tilg_reconstruct_sequence`] write the planes of a grid of tiles and of a
-//!   sequence. [`tilg_trace_differences`] lists where the planes of another encoder differ from their plan.
+//!   sequence. [`tilg_trace_differences`] lists where planes of another encoder differ from their plan.
 //! - [`tilg_builder_begin`] and the calls after it write a plan field by field to the caller's buffer. The caller keeps
 //!   a [`Builder`] between the calls. These calls do not allocate.
 //! - The calls on one block (`src/transform_calls.rt`, `src/motion_calls.rt`, `src/intra_calls.rt`) are those of
@@ -66,7 +66,7 @@ pub use builder::{Builder, BuilderPart};
 pub use differences::{TraceDifference, tilg_trace_differences};
 pub use fault::Refusal;
 pub use intra_calls::{
-    tilg_cfl_ac_8, tilg_cfl_ac_16, tilg_cfl_block_of, tilg_intra_edge_8, tilg_intra_edge_16,
+    tilg_cfl_ac_8, tilg_cfl_ac_tested_16, tilg_cfl_block_of, tilg_intra_edge_8, tilg_intra_edge_16,
     tilg_predict_cfl_8, tilg_predict_cfl_16, tilg_predict_in_plane_8, tilg_predict_in_plane_16,
     tilg_predict_intra_8, tilg_predict_intra_16,
 };

@@ -1,12 +1,12 @@
 //! Prediction from references for C. Each call is the call of `av1_calls` with the same name. Its documentation is
 //! there.
-ghost use Rattle.std.specs.Prelude.{false, true, length};
+ghost use Rattle.std.specs.Prelude.{false, true};
 ghost use Rattle.av1_calls.specs.Motions.{Averages, IsReadWithin, Prepares, Puts, place};
 ghost use Rattle.av1_calls.specs.MovedBlocks.{AreMovedWithin, PreparesMoved, PutsMoved};
 ghost use Rattle.av1_calls.specs.Samples.{rectangle_of};
 ghost use Rattle.av1_calls.specs.TestedSamples.{TestsSamples};
 
-use av1_calls::{MotionBlock, MotionPlane, MovedBlock};
+use av1_calls::{Context, MotionBlock, MotionPlane, MovedBlock};
 
 /// Predicts a block from a reference, at a depth of 8.
 #[unsafe(no_mangle)]
@@ -95,14 +95,14 @@ pub extern "C" fn tilg_put_moved_8(
     dst_stride: usize,
     dst_x: usize,
     dst_y: usize,
-    window: &mut [u8],
+    context: &mut Context,
     src: &[u8],
     plane: &MotionPlane,
     block: &MovedBlock,
 ) -> u32
-    ensures { PutsMoved false 8 (place dst_stride dst_x dst_y) plane.now block.now (length window.old) src.now dst.old dst.new result }
+    ensures { PutsMoved false 8 (place dst_stride dst_x dst_y) plane.now block.now src.now dst.old dst.new result }
 {
-    av1_calls::tilg_put_moved_8(dst, dst_stride, dst_x, dst_y, src, plane, block, window)
+    av1_calls::tilg_put_moved_8(dst, dst_stride, dst_x, dst_y, src, plane, block, context)
 }
 
 /// Predicts a block that a vector moves, in samples of 16 bits. No sample that is read may be past the depth.
@@ -112,14 +112,14 @@ pub extern "C" fn tilg_put_moved_16(
     dst_stride: usize,
     dst_x: usize,
     dst_y: usize,
-    window: &mut [u16],
+    context: &mut Context,
     src: &[u16],
     plane: &MotionPlane,
     block: &MovedBlock,
     bit_depth: u8,
 ) -> u32
     requires { AreMovedWithin bit_depth plane.now block.now src.now }
-    ensures { PutsMoved true bit_depth (place dst_stride dst_x dst_y) plane.now block.now (length window.old) src.now dst.old dst.new result }
+    ensures { PutsMoved true bit_depth (place dst_stride dst_x dst_y) plane.now block.now src.now dst.old dst.new result }
 {
     av1_calls::tilg_put_moved_16(
         dst,
@@ -129,7 +129,7 @@ pub extern "C" fn tilg_put_moved_16(
         src,
         plane,
         block,
-        window,
+        context,
         usize::from(bit_depth),
     )
 }
@@ -139,30 +139,30 @@ pub extern "C" fn tilg_put_moved_16(
 #[unsafe(no_mangle)]
 pub extern "C" fn tilg_prep_moved_8(
     values: &mut [i16],
-    window: &mut [u8],
+    context: &mut Context,
     src: &[u8],
     plane: &MotionPlane,
     block: &MovedBlock,
 ) -> u32
-    ensures { PreparesMoved false 8 plane.now block.now (length window.old) src.now values.old values.new result }
+    ensures { PreparesMoved false 8 plane.now block.now src.now values.old values.new result }
 {
-    av1_calls::tilg_prep_moved_8(values, src, plane, block, window)
+    av1_calls::tilg_prep_moved_8(values, src, plane, block, context)
 }
 
 /// Prepares a block that a vector moves, from samples of 16 bits. No sample that is read may be past the depth.
 #[unsafe(no_mangle)]
 pub extern "C" fn tilg_prep_moved_16(
     values: &mut [i16],
-    window: &mut [u16],
+    context: &mut Context,
     src: &[u16],
     plane: &MotionPlane,
     block: &MovedBlock,
     bit_depth: u8,
 ) -> u32
     requires { AreMovedWithin bit_depth plane.now block.now src.now }
-    ensures { PreparesMoved true bit_depth plane.now block.now (length window.old) src.now values.old values.new result }
+    ensures { PreparesMoved true bit_depth plane.now block.now src.now values.old values.new result }
 {
-    av1_calls::tilg_prep_moved_16(values, src, plane, block, window, usize::from(bit_depth))
+    av1_calls::tilg_prep_moved_16(values, src, plane, block, context, usize::from(bit_depth))
 }
 
 /// Tests that no sample of a rectangle is past a depth.

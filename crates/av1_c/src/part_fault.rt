@@ -1,6 +1,6 @@
-//! Why a call on tiles, a sequence or a trace fails, its status, and what the caller learns about the bytes.
+//! Why a call on tiles or a sequence fails, its status, and what the caller learns about the bytes.
 ghost use Rattle.std.specs.Prelude.{◌≡◌};
-ghost use Rattle.av1_c.specs.PartFaults.{field_of, frame_fault, in_part, length_told, part_status, part_told, sequence_fault, tiles_fault, trace_fault};
+ghost use Rattle.av1_c.specs.PartFaults.{field_of, frame_fault, in_part, length_told, part_status, part_told, sequence_fault, tiles_fault};
 
 use crate::fault::kind_number;
 use crate::status::{
@@ -8,11 +8,11 @@ use crate::status::{
 };
 use av1_calls::ROOM_TOO_SMALL;
 use av1_plan::InvalidKind;
+use av1_recon::PlanFault;
 use av1_sequence::{FrameFault, SequenceError};
 use av1_tiles::TilesError;
-use av1_trace::{PlanFault, TraceError};
 
-/// Why a call fails on bytes that hold plans as parts: tiles, a sequence or a trace. Such a call writes nothing.
+/// Why a call fails on bytes that hold plans as parts: tiles or a sequence. Such a call writes nothing.
 #[derive(Clone, Copy, Debug, PartialEq, Eq)]
 pub enum PartFault {
     /// An allocation failed.
@@ -112,21 +112,6 @@ impl From<SequenceError> for PartFault {
                 part: u32::from(frame),
             },
             SequenceError::ReadFault | SequenceError::WriteFault | SequenceError::Memory => {
-                PartFault::Memory
-            }
-        }
-    }
-}
-
-impl From<TraceError> for PartFault {
-    ghost from_gives = { λ error fault. fault ≡ trace_fault error };
-
-    fn from(error: TraceError) -> Self {
-        match error {
-            TraceError::TooLong => PartFault::TooLong,
-            TraceError::Malformed { at } => PartFault::Malformed { at },
-            TraceError::Plan { fault } => in_part(0, fault),
-            TraceError::ReadFault | TraceError::WriteFault | TraceError::Memory => {
                 PartFault::Memory
             }
         }

@@ -23,7 +23,7 @@ use std::alloc::Global;
 /// # Errors
 ///
 /// `TooLong`, then `Malformed`, then `Invalid`. `Memory` may replace the latter two.
-fn read(alloc: Global, bytes: &[u8]) -> Result<Plan, PlanCallFault>
+pub(crate) fn read(alloc: Global, bytes: &[u8]) -> Result<Plan, PlanCallFault>
     ensures found { IfOk result (λ plan. ArePlan bytes.now (plan_value plan) × (first_fault (plan_value plan) ≡ None)) }
     ensures fault { IfErr result (λ fault. (room : ℕ) → IsCause bytes.now room fault) }
 {

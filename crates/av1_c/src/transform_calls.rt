@@ -2,11 +2,11 @@
 ghost use Rattle.std.specs.Prelude.{false, true};
 ghost use Rattle.av1_calls.specs.Transforms.{AddsResidue};
 
-use av1_calls::TxRoom;
+use av1_calls::Context;
 use std::mem::size_of;
 
-// In C and Rust, `TxRoom` is an array of 6,144 numbers of 32 bits.
-const _: () = prove!(size_of::<TxRoom>() == 24_576);
+// In C and Rust, `Context` is an array of 19,813 numbers of 32 bits.
+const _: () = prove!(size_of::<Context>() == 79_252);
 
 /// Adds the residual of coefficients to the samples of a rectangle, at a depth of 8.
 #[unsafe(no_mangle)]
@@ -15,7 +15,7 @@ pub extern "C" fn tilg_inverse_transform_add_8(
     stride: usize,
     x: usize,
     y: usize,
-    scratch: &mut TxRoom,
+    context: &mut Context,
     coefficients: &[i16],
     tx_size: u8,
     tx_type: u8,
@@ -23,7 +23,7 @@ pub extern "C" fn tilg_inverse_transform_add_8(
     ensures { AddsResidue true false 8 tx_size tx_type stride x y coefficients.now samples.old samples.new result }
 {
     av1_calls::tilg_inverse_transform_add_8(
-        scratch,
+        context,
         coefficients,
         samples,
         stride,
@@ -41,7 +41,7 @@ pub extern "C" fn tilg_inverse_transform_add_16(
     stride: usize,
     x: usize,
     y: usize,
-    scratch: &mut TxRoom,
+    context: &mut Context,
     coefficients: &[i32],
     tx_size: u8,
     tx_type: u8,
@@ -50,7 +50,7 @@ pub extern "C" fn tilg_inverse_transform_add_16(
     ensures { AddsResidue true true bit_depth tx_size tx_type stride x y coefficients.now samples.old samples.new result }
 {
     av1_calls::tilg_inverse_transform_add_16(
-        scratch,
+        context,
         coefficients,
         samples,
         stride,
@@ -69,7 +69,7 @@ pub extern "C" fn tilg_inverse_transform_add_rav1e_16(
     stride: usize,
     x: usize,
     y: usize,
-    scratch: &mut TxRoom,
+    context: &mut Context,
     coefficients: &[i32],
     tx_size: u8,
     tx_type: u8,
@@ -78,7 +78,7 @@ pub extern "C" fn tilg_inverse_transform_add_rav1e_16(
     ensures { AddsResidue false true bit_depth tx_size tx_type stride x y coefficients.now samples.old samples.new result }
 {
     av1_calls::tilg_inverse_transform_add_rav1e_16(
-        scratch,
+        context,
         coefficients,
         samples,
         stride,

@@ -4,7 +4,7 @@ use Rattle.std.proofs.Common.{slice_index, pos, ◌+ℤ◌, unsigned_abs, arith,
 use Rattle.std.proofs.lemmas.Bool.{cases_lt}
 use Rattle.std.proofs.lemmas.Bool.Decides.{nat_tests}
 use Rattle.std.proofs.lemmas.Int.{ints}
-use Rattle.std.proofs.lemmas.List.{get_or-take, take-map}
+use Rattle.std.proofs.lemmas.List.{get_or-take, map-id, take-map}
 use Rattle.std.proofs.Math.Nat.{div-lt_iff_lt-mul, mod-lt, mul_comm}
 use Rattle.av1_blocks.specs.Blocks.{block_height, block_width}
 use Rattle.av1_blocks.specs.declared.partition.BlockSize.{BlockSize}
@@ -21,7 +21,9 @@ use Rattle.av1_frame.proofs.Fits.{row_end_le}
 use Rattle.av1_frame.proofs.Update.{get_or-update, length-update, update_is}
 use Rattle.av1_intra.specs.ChromaFromLuma.{columns_read, last_begun, luma_difference, padded_block, rows_read, with_rows}
 use Rattle.av1_intra.proofs.SameLuma.{luma_difference_same}
-use Rattle.av1_calls.specs.LumaBlocks.{luma_in}
+use Rattle.av1_calls.specs.LumaBlocks.{IsCflBlock, IsLumaTested, luma_area, luma_in}
+use Rattle.av1_calls.specs.Samples.{AreBelow}
+use Rattle.av1_calls.specs.declared.luma.CflBlock.{CflBlock}
 
 -- ---- the rectangle as a region
 
@@ -84,3 +86,13 @@ differences_same f g size w_pad h_pad xdec ydec before after x y some agree put 
     put ∙ row_same (w * h) _ _ before (λ k v l.
     luma_difference_same f g (padded_block size w_pad h_pad xdec ydec) x y agree (k / w) (k % w)
     ((div-lt_iff_lt-mul some).1 (subst (λ n. k < n) (mul_comm w h) l)) (mod-lt k some))
+
+-- ---- samples that were tested before
+
+-- what is read for a block is below the bound
+pub luma_tested : (b : CflBlock) (stride x y ac : ℕ) (samples : List ℕ) (size : BlockSize) (area : StoredArea) → IsLumaTested b stride x y samples →
+    IsCflBlock b stride x y ac (length samples) size → area ≡ luma_area b size x y → AreBelow 4096 stride area (map (λ n. n) samples)
+luma_tested b stride x y ac samples size area tested is placed =
+    subst (λ (xs : List ℕ). AreBelow 4096 stride area xs) (sym (map-id samples))
+    (subst (λ (a : StoredArea). AreBelow 4096 stride a samples) (sym placed)
+    (tested size (record { sized = is.sized; sampled = is.sampled; padded = is.padded })))

@@ -19,7 +19,7 @@ use Rattle.av1_calls.specs.MotionPlaces.{IsPlaceFor, IsPlaceOf, first_read}
 use Rattle.av1_calls.specs.Motions.{AreOfDepth, AreSides, HoldBlock, IsPrep, IsPut, IsSource, moved_sample, place, read_at, rectangle_at}
 use Rattle.av1_calls.specs.MovedBlocks.{AreMovedFilters, AreMovedWithin, gathered_area, IsVisible, LiesWithin, motion_at, moved_source, nearest_place}
 use Rattle.av1_calls.specs.MovedBlocks.{stored_at}
-use Rattle.av1_calls.specs.MovedBlocks.{visible_of, window_of}
+use Rattle.av1_calls.specs.MovedBlocks.{visible_of}
 use Rattle.av1_calls.specs.declared.motion.MotionBlock.{MotionBlock}
 use Rattle.av1_calls.specs.declared.motion.Place.{Place}
 use Rattle.av1_calls.specs.declared.motion_place.MotionPlane.{MotionPlane}
@@ -226,10 +226,15 @@ painted_item : {T : Type 0} (num : T → ℕ) (src window : List T) (index k : �
 painted_item num src window index k d e inside stored = get_or-map num window index d 0 inside ∙ ap num e ∙ sym (get_or-map num src k d 0 stored)
 
 -- the part of a window that is filled
-pub part_rows : (b : MovedBlock) (fx fy n : ℕ) → AreRows (b.width + 7) (window_of b) n → AreRows (b.width + 7) (gathered_area b fx fy) n
-part_rows b fx fy n rows =
-    let high = rows_le (0 + (b.height + read_beside fy)) (0 + (b.height + 7)) (b.width + 7) _ refl (omega (arith, beside_few fy)) in
-    record { some = rows.some; columns = omega (arith, beside_few fx); rows = omega (arith, high, rows.rows); few = rows.few }
+pub part_rows : (b : MovedBlock) (fx fy n : ℕ) → AreSides b.width b.height → n ≡ 18225 → AreRows (b.width + 7) (gathered_area b fx fy) n
+part_rows b fx fy n sides whole =
+    let high = rows_le (0 + (b.height + read_beside fy)) 135 (b.width + 7) _ refl (omega (arith, sides.high, beside_few fy)) in
+    record {
+      some = omega arith;
+      columns = omega (arith, beside_few fx);
+      rows = omega (arith, high, sides.wide, whole);
+      few = omega (arith, whole);
+    }
 
 module _ {T : Type 0} (num : T → ℕ) (src old window : List T) (p : MotionPlane) (b : MovedBlock) (at : MovedPlace) (zx zy : ℤ) (found : IsPlaceOf p b at)
     (x_is : zx ≡ at.x -ℤ pos (read_before at.col_frac)) (y_is : zy ≡ at.y -ℤ pos (read_before at.row_frac))

@@ -1,21 +1,18 @@
 -- The contracts of the calls that give the differences of luma from its mean, for a block of chroma in numbers. The
 -- block's luma begins at column x of row y, and rows are `stride` samples apart. AV1 specification: predict chroma from
 -- luma process.
-use Rattle.std.specs.Prelude.{◌≡◌, ◌≢◌, ◌⊎◌, Bool, ℕ, ◌*◌, ◌^◌, ◌<◌, ◌≤◌, List, length, Some, slice_get, ℤ}
+use Rattle.std.specs.Prelude.{◌≡◌, ◌≢◌, ◌⊎◌, ℕ, ◌*◌, ◌^◌, ◌<◌, ◌≤◌, List, length, Some, slice_get, ℤ}
 use Rattle.av1_blocks.specs.Blocks.{block_height, block_width}
-use Rattle.av1_blocks.specs.Depths.{IsDepth}
 use Rattle.av1_blocks.specs.declared.partition.BlockSize.{BlockSize}
 use Rattle.av1_blocks.specs.declared.partition.TheConstants.BlockSize as block_sizes
 use Rattle.av1_frame.specs.Areas.{AreRows}
 use Rattle.av1_frame.specs.declared.plane_region.StoredArea.{StoredArea}
 use Rattle.av1_intra.specs.ChromaFromLuma.{columns_read, luma_difference, padded_block, rows_read, with_rows}
-use Rattle.av1_calls.specs.Arguments.{IfWide, OnlyWide}
 use Rattle.av1_calls.specs.Samples.{AreBelow, area_sample}
 use Rattle.av1_calls.specs.declared.argument.BadArgument.{BadArgument}
 use Rattle.av1_calls.specs.declared.argument.BadArgument.TheVariants as bad
 use Rattle.av1_calls.specs.declared.luma.CflBlock.{CflBlock}
-use Rattle.av1_calls.specs.declared.status.TheConstants.{BAD_AREA, BAD_DEPTH, BAD_PAD, BAD_SAMPLE, BAD_SAMPLING}
-use Rattle.av1_calls.specs.declared.status.TheConstants.{BAD_SIZE, DONE, TOO_SHORT}
+use Rattle.av1_calls.specs.declared.status.TheConstants.{BAD_AREA, BAD_PAD, BAD_SAMPLING, BAD_SIZE, DONE, TOO_SHORT}
 
 -- ---- what is required
 
@@ -56,11 +53,10 @@ pub record IsCflBlock (b : CflBlock) (stride x y ac samples : ℕ) (size : Block
   pub rows : AreRows stride (luma_area b size x y) samples
   pub long : block_width size * block_height size ≤ ac
 
--- the depth is valid, and no sample that is read is past it
-pub record IsLumaOfDepth (depth : ℕ) (b : CflBlock) (stride x y : ℕ) (samples : List ℕ)
-    (size : BlockSize) : Type 0 where
-  pub known : IsDepth depth
-  pub within : AreBelow (2 ^ depth) stride (luma_area b size x y) samples
+-- no sample that is read is past a depth of 12, which is the greatest
+abbrev pub IsLumaTested : CflBlock → (stride x y : ℕ) → List ℕ → Type 0
+IsLumaTested b stride x y samples = (size : BlockSize) → IsChroma b size →
+    AreBelow (2 ^ 12) stride (luma_area b size x y) samples
 
 -- ---- what is written
 
@@ -100,45 +96,27 @@ HasFewDifferences b stride x y ac samples =
     (IsChroma b size ×
     (AreRows stride (luma_area b size x y) samples × (ac < block_width size * block_height size)))
 
--- samples have no such depth
-abbrev pub HasNoLumaDepth : (depth : ℕ) → CflBlock → (stride x y ac samples : ℕ) → Type 0
-HasNoLumaDepth depth b stride x y ac samples =
-    (size : BlockSize) × (IsCflBlock b stride x y ac samples size × (¬ IsDepth depth))
-
--- some sample that is read is past the depth
-abbrev pub HasDeepLuma : (depth : ℕ) → CflBlock → (stride x y ac : ℕ) → List ℕ → Type 0
-HasDeepLuma depth b stride x y ac samples =
-    (size : BlockSize) ×
-    (IsCflBlock b stride x y ac (length samples) size ×
-    (IsDepth depth × (¬ AreBelow (2 ^ depth) stride (luma_area b size x y) samples)))
-
 -- ---- the contracts
 
--- The call gives the differences of luma, at this depth. `before` is the list before the call, `after` after it, and
+-- The call gives the differences of luma. `before` is the list before the call, `after` after it, and
 -- `answer` is the status.
-pub record GivesDifferences (wide : Bool) (bit_depth : ℕ) (block : CflBlock) (stride x y : ℕ) (luma : List ℕ)
-    (before after : List ℤ) (answer : ℕ) : Type 0 where
+pub record GivesDifferences (block : CflBlock) (stride x y : ℕ) (luma : List ℕ) (before after : List ℤ)
+    (answer : ℕ) : Type 0 where
   -- The arguments name a block, and the differences are those of the block's luma.
   pub done : answer ≡ DONE → (size : BlockSize) × (IsCflBlock block stride x y (length before) (length luma) size
-      × (IfWide wide (IsLumaOfDepth bit_depth block stride x y luma size)
-      × (after ≡ with_differences block size stride x y luma before)))
+      × (after ≡ with_differences block size stride x y luma before))
   -- The call requires nothing else of its arguments.
-  pub asked : (size : BlockSize) → IsCflBlock block stride x y (length before) (length luma) size
-      → IfWide wide (IsLumaOfDepth bit_depth block stride x y luma size) → answer ≡ DONE
+  pub asked : (size : BlockSize) → IsCflBlock block stride x y (length before) (length luma) size → answer ≡ DONE
   -- The status names the first bad argument, and these clauses say what is wrong with it.
   pub size : answer ≡ BAD_SIZE → HasNoChromaSize block.block_size
   pub sampling : answer ≡ BAD_SAMPLING → HasNoSampling block
   pub pad : answer ≡ BAD_PAD → HasNoLuma block
   pub area : answer ≡ BAD_AREA → LumaLiesOutside block stride x y (length luma)
   pub short : answer ≡ TOO_SHORT → HasFewDifferences block stride x y (length before) (length luma)
-  pub depth : answer ≡ BAD_DEPTH
-      → OnlyWide wide (HasNoLumaDepth bit_depth block stride x y (length before) (length luma))
-  pub sample : answer ≡ BAD_SAMPLE → OnlyWide wide (HasDeepLuma bit_depth block stride x y (length before) luma)
   -- If the call rejects an argument, the differences are unchanged.
   pub kept : answer ≢ DONE → after ≡ before
   pub known : (answer ≡ DONE) ⊎ ((answer ≡ BAD_SIZE) ⊎ ((answer ≡ BAD_SAMPLING) ⊎ ((answer ≡ BAD_PAD)
-      ⊎ ((answer ≡ BAD_AREA) ⊎ ((answer ≡ TOO_SHORT)
-      ⊎ OnlyWide wide ((answer ≡ BAD_DEPTH) ⊎ (answer ≡ BAD_SAMPLE)))))))
+      ⊎ ((answer ≡ BAD_AREA) ⊎ (answer ≡ TOO_SHORT)))))
 
 -- ---- definitions for private contracts: why nothing is written
 
@@ -149,8 +127,3 @@ IsCflFault b stride x y ac samples bad.Pad = HasNoLuma b
 IsCflFault b stride x y ac samples bad.Area = LumaLiesOutside b stride x y samples
 IsCflFault b stride x y ac samples bad.Short = HasFewDifferences b stride x y ac samples
 IsCflFault b stride x y ac samples _ = ⊥
-
-abbrev pub IsDeepCflFault : (depth : ℕ) → CflBlock → (stride x y ac : ℕ) → List ℕ → BadArgument → Type 0
-IsDeepCflFault depth b stride x y ac samples bad.Depth = HasNoLumaDepth depth b stride x y ac (length samples)
-IsDeepCflFault depth b stride x y ac samples bad.Sample = HasDeepLuma depth b stride x y ac samples
-IsDeepCflFault depth b stride x y ac samples fault = IsCflFault b stride x y ac (length samples) fault

@@ -78,29 +78,18 @@ pub record IsPlaced (to : Place) (room : ℕ) (p : MotionPlane) (samples : ℕ) 
   pub source : IsSourced p samples b
   pub rows : AreRows to.stride (rectangle_at to b.width b.height) room
 
--- the rectangle of all that may be read for the block, row by row
-abbrev pub window_of : MovedBlock → StoredArea
-window_of b = record { x = 0; y = 0; width = b.width + 7; height = b.height + 7 }
-
--- The block can be moved and written, and a window of this many samples holds all that is read.
-pub record IsPutMoved (to : Place) (room : ℕ) (p : MotionPlane) (samples : ℕ) (b : MovedBlock) (window : ℕ) : Type 0
-  where
-    pub sides : AreSides b.width b.height
-    pub filters : AreMovedFilters b
-    pub placed : IsPlaced to room p samples b
-    pub long : AreRows (b.width + 7) (window_of b) window
-
--- The block fits `room` values, and all that is read fits a window of this many samples.
-pub record HasRoom (room : ℕ) (b : MovedBlock) (window : ℕ) : Type 0 where
-  pub values : b.height * b.width ≤ room
-  pub long : AreRows (b.width + 7) (window_of b) window
+-- The block can be moved and written.
+pub record IsPutMoved (to : Place) (room : ℕ) (p : MotionPlane) (samples : ℕ) (b : MovedBlock) : Type 0 where
+  pub sides : AreSides b.width b.height
+  pub filters : AreMovedFilters b
+  pub placed : IsPlaced to room p samples b
 
 -- The block can be moved, and can be prepared in `room` values.
-pub record IsPrepMoved (room : ℕ) (p : MotionPlane) (samples : ℕ) (b : MovedBlock) (window : ℕ) : Type 0 where
+pub record IsPrepMoved (room : ℕ) (p : MotionPlane) (samples : ℕ) (b : MovedBlock) : Type 0 where
   pub sides : AreSides b.width b.height
   pub filters : AreMovedFilters b
   pub source : IsSourced p samples b
-  pub roomy : HasRoom room b window
+  pub long : b.height * b.width ≤ room
 
 -- no sample that is read is past the depth
 abbrev pub AreMovedWithin : (depth : ℕ) → MotionPlane → MovedBlock → List ℕ → Type 0
@@ -116,99 +105,84 @@ abbrev pub HasNoPlace : (to : Place) (room : ℕ) → MotionPlane → (samples :
 HasNoPlace to room p samples b =
     AreSides b.width b.height × (AreMovedFilters b × (¬ IsPlaced to room p samples b))
 
--- the window is too short for what is read
-abbrev pub HasNoWindow : (to : Place) (room : ℕ) → MotionPlane → (samples : ℕ) → MovedBlock → (window : ℕ) → Type 0
-HasNoWindow to room p samples b window =
-    AreSides b.width b.height ×
-    (AreMovedFilters b × (IsPlaced to room p samples b × (¬ AreRows (b.width + 7) (window_of b) window)))
-
 -- the plane or the block's position does not lie where it has to
 abbrev pub HasNoSource : MotionPlane → (samples : ℕ) → MovedBlock → Type 0
 HasNoSource p samples b = AreSides b.width b.height × (AreMovedFilters b × (¬ IsSourced p samples b))
 
--- there are fewer values than the block has samples, or the window is too short for what is read
-abbrev pub HasNoRoom : (room : ℕ) → MotionPlane → (samples : ℕ) → MovedBlock → (window : ℕ) → Type 0
-HasNoRoom room p samples b window =
-    AreSides b.width b.height × (AreMovedFilters b × (IsSourced p samples b × (¬ HasRoom room b window)))
-
-abbrev pub IsPutMovedStatus : (wide : Bool) → ℕ → Type 0
-IsPutMovedStatus wide status =
-    (status ≡ DONE) ⊎ ((status ≡ BAD_SIZE) ⊎ ((status ≡ BAD_MODE) ⊎ ((status ≡ BAD_AREA) ⊎ ((status ≡ TOO_SHORT)
-    ⊎ OnlyWide wide (status ≡ BAD_DEPTH)))))
+-- there are fewer values than the block has samples
+abbrev pub HasFewValues : (room : ℕ) → MotionPlane → (samples : ℕ) → MovedBlock → Type 0
+HasFewValues room p samples b =
+    AreSides b.width b.height × (AreMovedFilters b × (IsSourced p samples b × (room < b.height * b.width)))
 
 -- ---- the contracts
 
 -- The call predicts a block that a vector moves, at this depth. `before` is the samples before the call, `after` after
 -- it, and `answer` is the status.
 pub record PutsMoved (wide : Bool) (bit_depth : ℕ) (to : Place) (plane : MotionPlane) (block : MovedBlock)
-    (window : ℕ) (src before after : List ℕ) (answer : ℕ) : Type 0 where
+    (src before after : List ℕ) (answer : ℕ) : Type 0 where
   -- The block can be moved and written, and its rectangle holds the block.
-  pub done : answer ≡ DONE → IsPutMoved to (length before) plane (length src) block window
+  pub done : answer ≡ DONE → IsPutMoved to (length before) plane (length src) block
       × (IfWide wide (IsDepth bit_depth)
       × (after ≡ with_block bit_depth to (motion_of plane block) (moved_source plane block src) before))
   -- The call requires nothing else of its arguments.
-  pub asked : IsPutMoved to (length before) plane (length src) block window → IfWide wide (IsDepth bit_depth)
+  pub asked : IsPutMoved to (length before) plane (length src) block → IfWide wide (IsDepth bit_depth)
       → answer ≡ DONE
   -- The status names the first bad argument, and these clauses say what is wrong with it.
   pub size : answer ≡ BAD_SIZE → ¬ AreSides block.width block.height
   pub mode : answer ≡ BAD_MODE → HasNoFilters block
   pub area : answer ≡ BAD_AREA → HasNoPlace to (length before) plane (length src) block
-  pub short : answer ≡ TOO_SHORT → HasNoWindow to (length before) plane (length src) block window
   pub depth : answer ≡ BAD_DEPTH
-      → OnlyWide wide (IsPutMoved to (length before) plane (length src) block window × (¬ IsDepth bit_depth))
+      → OnlyWide wide (IsPutMoved to (length before) plane (length src) block × (¬ IsDepth bit_depth))
   -- If the call rejects an argument, the samples are unchanged.
   pub kept : answer ≢ DONE → after ≡ before
-  pub known : IsPutMovedStatus wide answer
+  pub known : (answer ≡ DONE) ⊎ ((answer ≡ BAD_SIZE) ⊎ ((answer ≡ BAD_MODE) ⊎ ((answer ≡ BAD_AREA)
+      ⊎ OnlyWide wide (answer ≡ BAD_DEPTH))))
 
 -- The call prepares a block that a vector moves for the average with another block.
-pub record PreparesMoved (wide : Bool) (bit_depth : ℕ) (plane : MotionPlane) (block : MovedBlock) (window : ℕ)
-    (src : List ℕ) (before after : List ℤ) (answer : ℕ) : Type 0 where
+pub record PreparesMoved (wide : Bool) (bit_depth : ℕ) (plane : MotionPlane) (block : MovedBlock) (src : List ℕ)
+    (before after : List ℤ) (answer : ℕ) : Type 0 where
   -- The block can be moved, and the first values are its prepared values.
-  pub done : answer ≡ DONE → IsPrepMoved (length before) plane (length src) block window
+  pub done : answer ≡ DONE → IsPrepMoved (length before) plane (length src) block
       × (IfWide wide (IsDepth bit_depth)
       × HoldBlock bit_depth (motion_of plane block) (moved_source plane block src) before after)
   -- The call requires nothing else of its arguments.
-  pub asked : IsPrepMoved (length before) plane (length src) block window → IfWide wide (IsDepth bit_depth)
+  pub asked : IsPrepMoved (length before) plane (length src) block → IfWide wide (IsDepth bit_depth)
       → answer ≡ DONE
   -- The status names the first bad argument, and these clauses say what is wrong with it.
   pub size : answer ≡ BAD_SIZE → ¬ AreSides block.width block.height
   pub mode : answer ≡ BAD_MODE → HasNoFilters block
   pub area : answer ≡ BAD_AREA → HasNoSource plane (length src) block
-  pub short : answer ≡ TOO_SHORT → HasNoRoom (length before) plane (length src) block window
+  pub short : answer ≡ TOO_SHORT → HasFewValues (length before) plane (length src) block
   pub depth : answer ≡ BAD_DEPTH
-      → OnlyWide wide (IsPrepMoved (length before) plane (length src) block window × (¬ IsDepth bit_depth))
+      → OnlyWide wide (IsPrepMoved (length before) plane (length src) block × (¬ IsDepth bit_depth))
   -- If the call rejects an argument, the values are unchanged.
   pub kept : answer ≢ DONE → after ≡ before
-  pub known : IsPutMovedStatus wide answer
+  pub known : (answer ≡ DONE) ⊎ ((answer ≡ BAD_SIZE) ⊎ ((answer ≡ BAD_MODE) ⊎ ((answer ≡ BAD_AREA)
+      ⊎ ((answer ≡ TOO_SHORT) ⊎ OnlyWide wide (answer ≡ BAD_DEPTH)))))
 
 -- ---- definitions for private contracts: why nothing is written
 
-abbrev pub IsPutMovedFault : (to : Place) (room : ℕ) → MotionPlane → (samples : ℕ) → MovedBlock → (window : ℕ) →
-    BadArgument → Type 0
-IsPutMovedFault to room p samples b window bad.Size = ¬ AreSides b.width b.height
-IsPutMovedFault to room p samples b window bad.Mode = HasNoFilters b
-IsPutMovedFault to room p samples b window bad.Area = HasNoPlace to room p samples b
-IsPutMovedFault to room p samples b window bad.Short = HasNoWindow to room p samples b window
-IsPutMovedFault to room p samples b window _ = ⊥
+abbrev pub IsPutMovedFault : (to : Place) (room : ℕ) → MotionPlane → (samples : ℕ) → MovedBlock → BadArgument → Type 0
+IsPutMovedFault to room p samples b bad.Size = ¬ AreSides b.width b.height
+IsPutMovedFault to room p samples b bad.Mode = HasNoFilters b
+IsPutMovedFault to room p samples b bad.Area = HasNoPlace to room p samples b
+IsPutMovedFault to room p samples b _ = ⊥
 
 abbrev pub IsDeepMovedFault : (depth : ℕ) (to : Place) (room : ℕ) → MotionPlane → (samples : ℕ) → MovedBlock →
-    (window : ℕ) → BadArgument → Type 0
-IsDeepMovedFault depth to room p samples b window bad.Depth = IsPutMoved to room p samples b window × (¬ IsDepth depth)
-IsDeepMovedFault depth to room p samples b window fault = IsPutMovedFault to room p samples b window fault
-
-abbrev pub IsPrepMovedFault : (room : ℕ) → MotionPlane → (samples : ℕ) → MovedBlock → (window : ℕ) → BadArgument →
-    Type 0
-IsPrepMovedFault room p samples b window bad.Size = ¬ AreSides b.width b.height
-IsPrepMovedFault room p samples b window bad.Mode = HasNoFilters b
-IsPrepMovedFault room p samples b window bad.Area = HasNoSource p samples b
-IsPrepMovedFault room p samples b window bad.Short = HasNoRoom room p samples b window
-IsPrepMovedFault room p samples b window _ = ⊥
-
-abbrev pub IsDeepPrepMovedFault : (depth room : ℕ) → MotionPlane → (samples : ℕ) → MovedBlock → (window : ℕ) →
     BadArgument → Type 0
-IsDeepPrepMovedFault depth room p samples b window bad.Depth =
-    IsPrepMoved room p samples b window × (¬ IsDepth depth)
-IsDeepPrepMovedFault depth room p samples b window fault = IsPrepMovedFault room p samples b window fault
+IsDeepMovedFault depth to room p samples b bad.Depth = IsPutMoved to room p samples b × (¬ IsDepth depth)
+IsDeepMovedFault depth to room p samples b fault = IsPutMovedFault to room p samples b fault
+
+abbrev pub IsPrepMovedFault : (room : ℕ) → MotionPlane → (samples : ℕ) → MovedBlock → BadArgument → Type 0
+IsPrepMovedFault room p samples b bad.Size = ¬ AreSides b.width b.height
+IsPrepMovedFault room p samples b bad.Mode = HasNoFilters b
+IsPrepMovedFault room p samples b bad.Area = HasNoSource p samples b
+IsPrepMovedFault room p samples b bad.Short = HasFewValues room p samples b
+IsPrepMovedFault room p samples b _ = ⊥
+
+abbrev pub IsDeepPrepMovedFault : (depth room : ℕ) → MotionPlane → (samples : ℕ) → MovedBlock → BadArgument → Type 0
+IsDeepPrepMovedFault depth room p samples b bad.Depth = IsPrepMoved room p samples b × (¬ IsDepth depth)
+IsDeepPrepMovedFault depth room p samples b fault = IsPrepMovedFault room p samples b fault
 
 -- ---- definitions for private contracts: what is read
 

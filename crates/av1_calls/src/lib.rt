@@ -10,12 +10,13 @@
 //! - Intra: [`tilg_predict_intra_8`], [`tilg_predict_intra_16`], [`tilg_predict_cfl_8`] and [`tilg_predict_cfl_16`]
 //!   predict a block from the edge that the caller passes. [`tilg_intra_edge_8`] and [`tilg_intra_edge_16`] prepare
 //!   this edge from a plane. [`tilg_predict_in_plane_8`] and [`tilg_predict_in_plane_16`] do both.
-//! - Chroma from luma: [`tilg_cfl_ac_8`] and [`tilg_cfl_ac_16`] give the differences of luma from its mean, which
-//!   predict chroma.
-//! - Arguments: [`tilg_cfl_block_of`] computes numbers that [`tilg_cfl_ac_8`] and [`tilg_cfl_ac_16`] require.
+//! - Chroma from luma: [`tilg_cfl_ac_8`] and [`tilg_cfl_ac_tested_16`] give the differences of luma from its mean,
+//!   which predict chroma.
+//! - Arguments: [`tilg_cfl_block_of`] computes numbers that [`tilg_cfl_ac_8`] and [`tilg_cfl_ac_tested_16`] require.
 //!
-//! [`tilg_put_tested_16`], [`tilg_prep_tested_16`], [`tilg_put_moved_16`] and [`tilg_prep_moved_16`] do not test the
-//! samples that they read. For these calls, [`tilg_test_samples_16`] tests a reference once.
+//! [`tilg_put_tested_16`], [`tilg_prep_tested_16`], [`tilg_put_moved_16`], [`tilg_prep_moved_16`] and
+//! [`tilg_cfl_ac_tested_16`] do not test the samples that they read. For these calls, [`tilg_test_samples_16`] tests
+//! samples once.
 //!
 //! This crate uses `av1_itx` for transforms and `av1_inter` for motion, and `av1_edges` and `av1_intra` for intra
 //! prediction. `av1_c` exports the calls for C.
@@ -23,7 +24,7 @@
 //! What the calls promise:
 //!
 //! - No call allocates, and each call returns. The result is one of the statuses of `src/status.rt`.
-//! - Only the four calls that don't test samples have a requirement: no sample that they read is past the depth.
+//! - Only the five calls that don't test samples have a requirement: no sample that they read is past the depth.
 //! - Valid arguments give [`DONE`], and [`DONE`] says that the arguments are valid.
 //! - After [`DONE`] the contract says what was written: samples (`specs/Transforms.antt`, `specs/Motions.antt`,
 //!   `specs/MovedBlocks.antt`, `specs/IntraBlocks.antt`, `specs/IntraEdges.antt`, `specs/IntraPlanes.antt`),
@@ -33,6 +34,7 @@
 
 mod argument;
 mod cfl_block;
+mod context;
 mod intra;
 mod intra_edge;
 mod intra_plane;
@@ -52,8 +54,8 @@ mod transform_add;
 mod window;
 
 pub use argument::filter_mode;
-pub use av1_itx::TxRoom;
 pub use cfl_block::{LumaLeafBlock, tilg_cfl_block_of};
+pub use context::Context;
 pub use intra::{
     IntraBlock, tilg_predict_cfl_8, tilg_predict_cfl_16, tilg_predict_intra_8,
     tilg_predict_intra_16,
@@ -62,7 +64,7 @@ pub use intra_edge::{
     ANY_MODE, EDGE_SAMPLES, EdgeBlock, EdgePlane, tilg_intra_edge_8, tilg_intra_edge_16,
 };
 pub use intra_plane::{FROM_LUMA, tilg_predict_in_plane_8, tilg_predict_in_plane_16};
-pub use luma::{CflBlock, tilg_cfl_ac_8, tilg_cfl_ac_16};
+pub use luma::{CflBlock, tilg_cfl_ac_8, tilg_cfl_ac_tested_16};
 pub use mc_avg::{tilg_mc_avg_8, tilg_mc_avg_16};
 pub use motion::{MotionBlock, RAV1E_SHARP, SHARP};
 pub use motion_place::{MotionPlane, MovedBlock};
@@ -70,6 +72,7 @@ pub use prep_8tap::{tilg_prep_8tap_8, tilg_prep_tested_16};
 pub use prep_moved::{tilg_prep_moved_8, tilg_prep_moved_16};
 pub use put_8tap::{tilg_put_8tap_8, tilg_put_tested_16};
 pub use put_moved::{tilg_put_moved_8, tilg_put_moved_16};
+pub use samples::is_readable;
 pub use status::{
     BAD_ANGLE, BAD_AREA, BAD_COEFFICIENT, BAD_DEPTH, BAD_FRACTION, BAD_MODE, BAD_PAD, BAD_SAMPLE,
     BAD_SAMPLING, BAD_SIZE, BAD_TYPE, DONE, ROOM_TOO_SMALL, TOO_SHORT,

@@ -1,18 +1,18 @@
 //! Computes how far luma is from its mean over each sample of a block of chroma.
 //!
 //! AV1 specification: predict chroma from luma process.
-ghost use Rattle.std.specs.Prelude.{true, false, ◌≡◌, ℕ, ◌+◌, ◌-◌, ◌*◌, ◌^◌, ◌<◌, ◌≤◌, min, map, IfOk, IfErr, IfSome, None, length};
+ghost use Rattle.std.specs.Prelude.{true, ◌≡◌, ℕ, ◌+◌, ◌-◌, ◌*◌, ◌^◌, ◌<◌, ◌≤◌, min, map, IfOk, IfErr, IfSome, None, length};
 ghost use Rattle.av1_blocks.specs.Blocks.{block_height, block_width};
 ghost use Rattle.av1_edges.specs.Edges.{region_sample};
 ghost use Rattle.av1_frame.specs.Areas.{AreRows};
 ghost use Rattle.av1_frame.specs.Regions.{IsReadable};
 ghost use Rattle.av1_intra.specs.ChromaFromLuma.{columns_read, last_begun, luma_difference, padded_block, rows_read, with_rows};
-ghost use Rattle.av1_calls.specs.LumaBlocks.{GivesDifferences, HasLuma, HasNoChromaSize, IsCflBlock, IsCflFault, IsChromaSize, IsDeepCflFault, IsLumaOfDepth};
-ghost use Rattle.av1_calls.specs.LumaBlocks.{IsSampling, luma_area, luma_in, with_differences};
+ghost use Rattle.av1_calls.specs.LumaBlocks.{GivesDifferences, HasLuma, HasNoChromaSize, IsCflBlock, IsCflFault, IsChromaSize};
+ghost use Rattle.av1_calls.specs.LumaBlocks.{IsLumaTested, IsSampling, luma_area, luma_in, with_differences};
 ghost use Rattle.av1_calls.specs.Samples.{AreBelow};
 
-use crate::argument::{BadArgument, are_rows, is_depth};
-use crate::samples::{are_within, have_8_bits};
+use crate::argument::{BadArgument, are_rows};
+use crate::samples::have_8_bits;
 use crate::status::DONE;
 use av1_blocks::BlockSize;
 use av1_frame::{Pixel, PlaneConfig, PlaneRegion, StoredArea, visible_area};
@@ -155,37 +155,6 @@ fn luma_of(
     Ok(ChromaSource { size, area })
 }
 
-/// Reads a block of chroma from its numbers, and tests that the luma that is read fits the depth.
-///
-/// # Errors
-///
-/// `Size`, then `Sampling`, then `Pad`, then `Area`, then `Short`, then `Depth`, then `Sample`.
-fn deep_luma_of(
-    block: CflBlock,
-    samples: &[u16],
-    stride: usize,
-    x: usize,
-    y: usize,
-    ac: usize,
-    bit_depth: usize,
-) -> Result<ChromaSource, BadArgument>
-    ensures found { IfOk result (λ luma. IsCflBlock block stride x y ac (length samples.now) luma.size) }
-    ensures area { IfOk result (λ luma. luma.area ≡ luma_area block luma.size x y) }
-    ensures some_columns { IfOk result (λ luma. 0 < luma.area.width) }
-    ensures some_rows { IfOk result (λ luma. 0 < luma.area.height) }
-    ensures depth { IfOk result (λ luma. IsLumaOfDepth bit_depth block stride x y samples.now luma.size) }
-    ensures fault { IfErr result (IsDeepCflFault bit_depth block stride x y ac samples.now) }
-{
-    let luma = luma_of(block, stride, x, y, ac, samples.len())?;
-    if !is_depth(bit_depth) {
-        return Err(BadArgument::Depth);
-    }
-    if !are_within(samples, stride, luma.area, bit_depth) {
-        return Err(BadArgument::Sample);
-    }
-    Ok(luma)
-}
-
 /// A rectangle of samples as a region.
 #[inline(always)]
 fn region_of<T: Pixel>(samples: &[T], stride: usize, area: StoredArea) -> PlaneRegion<'_, T>
@@ -282,7 +251,7 @@ pub fn tilg_cfl_ac_8(
     y: usize,
     block: &CflBlock,
 ) -> u32
-    ensures { GivesDifferences false 8 block.now stride x y luma.now ac.old ac.new result }
+    ensures { GivesDifferences block.now stride x y luma.now ac.old ac.new result }
 {
     let block = *block;
     match luma_of(block, stride, x, y, ac.len(), luma.len()) {
@@ -295,26 +264,26 @@ pub fn tilg_cfl_ac_8(
     }
 }
 
-/// Writes the differences as [`tilg_cfl_ac_8`] does, from samples of 16 bits at a depth of 8, 10 or 12.
-///
-/// `BAD_DEPTH`: samples have no such depth. `BAD_SAMPLE`: a sample that is read is past the depth.
-pub fn tilg_cfl_ac_16(
+/// Writes the differences as [`tilg_cfl_ac_8`] does, from samples of 16 bits. The differences are the same whatever the
+/// depth. The call does not test the samples. The caller has to ensure that each sample that is read is below 4096, as
+/// samples of at most 12 bits are. `tilg_test_samples_16` tests a whole plane.
+pub fn tilg_cfl_ac_tested_16(
     ac: &mut [i16],
     luma: &[u16],
     stride: usize,
     x: usize,
     y: usize,
     block: &CflBlock,
-    bit_depth: usize,
 ) -> u32
-    ensures { GivesDifferences true bit_depth block.now stride x y luma.now ac.old ac.new result }
+    requires { IsLumaTested block.now stride x y luma.now }
+    ensures { GivesDifferences block.now stride x y luma.now ac.old ac.new result }
 {
     let block = *block;
-    match deep_luma_of(block, luma, stride, x, y, ac.len(), bit_depth) {
+    match luma_of(block, stride, x, y, ac.len(), luma.len()) {
         Ok(found) => {
             put_differences_of(ac, luma, stride, x, y, found, block);
             DONE
         }
-        Err(refused) => refused.status(),
+        Err(fault) => fault.status(),
     }
 }

@@ -3,7 +3,7 @@ ghost use Rattle.std.specs.Prelude.{◌≡◌, true, ◌+◌, ◌≤◌, ◌-ℤ
 ghost use Rattle.av1_calls.specs.MotionPlaces.{IsPlaceOf};
 ghost use Rattle.av1_calls.specs.Motions.{AreSides, IsSource, read_at};
 ghost use Rattle.av1_calls.specs.MovedBlocks.{AreMovedFilters, IsSourced, IsVisible, LiesWithin, gathered_area, motion_at, moved_source, stored_at};
-ghost use Rattle.av1_calls.specs.MovedBlocks.{visible_of, window_of};
+ghost use Rattle.av1_calls.specs.MovedBlocks.{visible_of};
 ghost use Rattle.av1_frame.specs.Areas.{AreRows};
 ghost use Rattle.av1_inter.specs.Places.{IsReadFrom, read_before};
 
@@ -32,21 +32,6 @@ pub(crate) fn visible_of(plane: MotionPlane) -> StoredArea
         y: plane.y,
         width: plane.width,
         height: plane.height,
-    }
-}
-
-/// The rectangle of all samples that may be read for a block, row by row.
-#[inline(always)]
-pub(crate) fn window_of(block: MovedBlock) -> StoredArea
-    requires short { block.width ≤ 128 }
-    requires low { block.height ≤ 128 }
-    ensures { result ≡ window_of block }
-{
-    StoredArea {
-        x: 0,
-        y: 0,
-        width: block.width + 7,
-        height: block.height + 7,
     }
 }
 
@@ -157,7 +142,7 @@ pub(crate) fn gathered<T: Pixel>(window: &mut [T], src: &[T], moved: MovedCall) 
     requires sides { AreSides moved.block.width moved.block.height }
     requires found { IsPlaceOf moved.plane moved.block moved.place }
     requires source { IsSourced moved.plane (length src.now) moved.block }
-    requires long { AreRows (moved.block.width + 7) (window_of moved.block) (length window.old) }
+    requires whole { length window.old ≡ 18225 }
     ensures lies { IsSource result (motion_at moved.block moved.place.col_frac moved.place.row_frac) (length window.new) }
     ensures same { IsReadFrom moved.place.col_frac moved.place.row_frac moved.block.width moved.block.height
         (read_at result (motion_at moved.block moved.place.col_frac moved.place.row_frac) (map T.num window.new))

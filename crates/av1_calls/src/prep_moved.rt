@@ -5,32 +5,22 @@ ghost use Rattle.std.specs.Prelude.{true, false, ◌≡◌, ◌*◌, ◌≤◌, 
 ghost use Rattle.av1_blocks.specs.Depths.{IsDepth};
 ghost use Rattle.av1_calls.specs.MotionPlaces.{IsPlaceOf};
 ghost use Rattle.av1_calls.specs.Motions.{AreSides, HoldBlock};
-ghost use Rattle.av1_calls.specs.MovedBlocks.{AreMovedFilters, AreMovedWithin, HasRoom, IsDeepPrepMovedFault, IsPrepMoved, IsPrepMovedFault};
+ghost use Rattle.av1_calls.specs.MovedBlocks.{AreMovedFilters, AreMovedWithin, IsDeepPrepMovedFault, IsPrepMoved, IsPrepMovedFault};
 ghost use Rattle.av1_calls.specs.MovedBlocks.{IsSourced, LiesWithin, PreparesMoved, motion_of, moved_source};
 
-use crate::argument::{BadArgument, are_rows, is_depth};
+use crate::argument::{BadArgument, is_depth};
+use crate::context::Context;
 use crate::motion::are_sides;
 use crate::motion_place::{MotionPlane, MovedBlock, place_of};
 use crate::moved::{
     MovedCall, are_moved_filters, gathered, is_sourced, lies_within, motion_at, stored_at,
-    window_of,
 };
 use crate::prep_8tap::prep;
 use crate::samples::have_8_bits;
 use crate::status::DONE;
 use av1_frame::Pixel;
 
-// Whether the block fits `room` values, and all samples that are read fit a window of `window` samples.
-#[inline(always)]
-fn has_room(room: usize, block: MovedBlock, window: usize) -> bool
-    requires { AreSides block.width block.height }
-    ensures true_is { result ≡ true → HasRoom room block window }
-    ensures is_true { HasRoom room block window → result ≡ true }
-{
-    block.height * block.width <= room && are_rows(block.width + 7, window_of(block), window)
-}
-
-/// Tests that the block can be moved and fits `room` values, and that the window is long enough.
+/// Tests that the block can be moved and fits `room` values.
 ///
 /// # Errors
 ///
@@ -40,10 +30,9 @@ fn test_prep_moved(
     plane: MotionPlane,
     samples: usize,
     block: MovedBlock,
-    window: usize,
 ) -> Result<(), BadArgument>
-    ensures good { IfOk result (λ _. IsPrepMoved room plane samples block window) }
-    ensures fault { IfErr result (IsPrepMovedFault room plane samples block window) }
+    ensures good { IfOk result (λ _. IsPrepMoved room plane samples block) }
+    ensures fault { IfErr result (IsPrepMovedFault room plane samples block) }
 {
     if !are_sides(block.width, block.height) {
         return Err(BadArgument::Size);
@@ -54,13 +43,13 @@ fn test_prep_moved(
     if !is_sourced(plane, samples, block) {
         return Err(BadArgument::Area);
     }
-    if !has_room(room, block, window) {
+    if room < block.height * block.width {
         return Err(BadArgument::Short);
     }
     Ok(())
 }
 
-/// Tests that the block can be moved and fits `room` values, that the window is long enough, and the depth.
+/// Tests that the block can be moved and fits `room` values, and the depth.
 ///
 /// # Errors
 ///
@@ -70,14 +59,13 @@ fn test_deep_prep_moved(
     plane: MotionPlane,
     samples: usize,
     block: MovedBlock,
-    window: usize,
     bit_depth: usize,
 ) -> Result<(), BadArgument>
-    ensures good { IfOk result (λ _. IsPrepMoved room plane samples block window) }
+    ensures good { IfOk result (λ _. IsPrepMoved room plane samples block) }
     ensures depth { IfOk result (λ _. IsDepth bit_depth) }
-    ensures fault { IfErr result (IsDeepPrepMovedFault bit_depth room plane samples block window) }
+    ensures fault { IfErr result (IsDeepPrepMovedFault bit_depth room plane samples block) }
 {
-    test_prep_moved(room, plane, samples, block, window)?;
+    test_prep_moved(room, plane, samples, block)?;
     if is_depth(bit_depth) {
         Ok(())
     } else {
@@ -112,7 +100,8 @@ fn prep_gathered<T: Pixel>(
     window: &mut [T],
     bit_depth: usize,
 )
-    requires asked { IsPrepMoved (length values.old) moved.plane (length src.now) moved.block (length window.old) }
+    requires asked { IsPrepMoved (length values.old) moved.plane (length src.now) moved.block }
+    requires whole { length window.old ≡ 18225 }
     requires found { IsPlaceOf moved.plane moved.block moved.place }
     requires is_depth { IsDepth bit_depth }
     requires deep { AreMovedWithin bit_depth moved.plane moved.block (map T.num src.now) }
@@ -133,7 +122,8 @@ fn prep_moved<T: Pixel>(
     window: &mut [T],
     bit_depth: usize,
 )
-    requires asked { IsPrepMoved (length values.old) plane (length src.now) block (length window.old) }
+    requires asked { IsPrepMoved (length values.old) plane (length src.now) block }
+    requires whole { length window.old ≡ 18225 }
     requires is_depth { IsDepth bit_depth }
     requires deep { AreMovedWithin bit_depth plane block (map T.num src.now) }
     ensures { HoldBlock bit_depth (motion_of plane block) (moved_source plane block (map T.num src.now)) values.old values.new }
@@ -153,26 +143,25 @@ fn prep_moved<T: Pixel>(
 /// Prepares a block that a vector moves for the average with another block, at a depth of 8. The reference needs no
 /// margins. This is the specification's "Block inter prediction process" with the rounding of compound prediction. The
 /// first `height * width` of `values` become the values of the block, row by row. The other values are unchanged. The
-/// call only reads visible samples of the plane. Outside them it uses the nearest visible sample. `window` is scratch
-/// of `width + 7` by `height + 7` samples. Its contents after the call are unspecified.
+/// call only reads visible samples of the plane. Outside them it uses the nearest visible sample.
 ///
 /// `DONE`: success. `BAD_SIZE`: the width or the height is 0 or above 128. `BAD_MODE`: no filter has this number.
 /// `BAD_AREA`: the plane has no samples or does not lie in `src`, or its dimensions or the block's position are above
-/// 65,536. `TOO_SHORT`: there are fewer values than the block has samples, or the window is too short.
+/// 65,536. `TOO_SHORT`: there are fewer values than the block has samples.
 pub fn tilg_prep_moved_8(
     values: &mut [i16],
     src: &[u8],
     plane: &MotionPlane,
     block: &MovedBlock,
-    window: &mut [u8],
+    context: &mut Context,
 ) -> u32
-    ensures { PreparesMoved false 8 plane.now block.now (length window.old) src.now values.old values.new result }
+    ensures { PreparesMoved false 8 plane.now block.now src.now values.old values.new result }
 {
     let (plane, block) = (*plane, *block);
-    match test_prep_moved(values.len(), plane, src.len(), block, window.len()) {
+    match test_prep_moved(values.len(), plane, src.len(), block) {
         Ok(()) => {
             have_8_bits(src);
-            prep_moved(values, src, plane, block, window, 8);
+            prep_moved(values, src, plane, block, &mut context.window_8, 8);
             DONE
         }
         Err(fault) => fault.status(),
@@ -189,23 +178,16 @@ pub fn tilg_prep_moved_16(
     src: &[u16],
     plane: &MotionPlane,
     block: &MovedBlock,
-    window: &mut [u16],
+    context: &mut Context,
     bit_depth: usize,
 ) -> u32
     requires { AreMovedWithin bit_depth plane.now block.now src.now }
-    ensures { PreparesMoved true bit_depth plane.now block.now (length window.old) src.now values.old values.new result }
+    ensures { PreparesMoved true bit_depth plane.now block.now src.now values.old values.new result }
 {
     let (plane, block) = (*plane, *block);
-    match test_deep_prep_moved(
-        values.len(),
-        plane,
-        src.len(),
-        block,
-        window.len(),
-        bit_depth,
-    ) {
+    match test_deep_prep_moved(values.len(), plane, src.len(), block, bit_depth) {
         Ok(()) => {
-            prep_moved(values, src, plane, block, window, bit_depth);
+            prep_moved(values, src, plane, block, &mut context.window_16, bit_depth);
             DONE
         }
         Err(refused) => refused.status(),

@@ -1,7 +1,7 @@
 //! Predicts a block that a vector moves, from a plane without margins.
 //!
 //! AV1 specification: block inter prediction process.
-ghost use Rattle.std.specs.Prelude.{true, false, ◌≡◌, ◌+◌, ◌≤◌, IfOk, IfErr, map, length};
+ghost use Rattle.std.specs.Prelude.{true, false, ◌≡◌, ◌≤◌, IfOk, IfErr, map, length};
 ghost use Rattle.av1_blocks.specs.Depths.{IsDepth};
 ghost use Rattle.av1_calls.specs.MotionPlaces.{IsPlaceOf};
 ghost use Rattle.av1_calls.specs.Motions.{AreSides, moved_sample, place, rectangle_at};
@@ -10,11 +10,11 @@ ghost use Rattle.av1_calls.specs.MovedBlocks.{LiesWithin, PutsMoved, motion_of, 
 ghost use Rattle.av1_frame.specs.Samples.{paint};
 
 use crate::argument::{BadArgument, are_rows, is_depth};
+use crate::context::Context;
 use crate::motion::{Place, are_sides, rectangle_at};
 use crate::motion_place::{MotionPlane, MovedBlock, place_of};
 use crate::moved::{
     MovedCall, are_moved_filters, gathered, is_sourced, lies_within, motion_at, stored_at,
-    window_of,
 };
 use crate::put_8tap::put;
 use crate::samples::have_8_bits;
@@ -31,21 +31,20 @@ fn is_placed(to: Place, room: usize, plane: MotionPlane, samples: usize, block: 
         && are_rows(to.stride, rectangle_at(to, block.width, block.height), room)
 }
 
-/// Tests that the block can be moved and written, and that a window of `window` samples is long enough.
+/// Tests that the block can be moved and written.
 ///
 /// # Errors
 ///
-/// `Size`, then `Mode`, then `Area`, then `Short`.
+/// `Size`, then `Mode`, then `Area`.
 fn test_put_moved(
     to: Place,
     room: usize,
     plane: MotionPlane,
     samples: usize,
     block: MovedBlock,
-    window: usize,
 ) -> Result<(), BadArgument>
-    ensures good { IfOk result (λ _. IsPutMoved to room plane samples block window) }
-    ensures fault { IfErr result (IsPutMovedFault to room plane samples block window) }
+    ensures good { IfOk result (λ _. IsPutMoved to room plane samples block) }
+    ensures fault { IfErr result (IsPutMovedFault to room plane samples block) }
 {
     if !are_sides(block.width, block.height) {
         return Err(BadArgument::Size);
@@ -56,31 +55,27 @@ fn test_put_moved(
     if !is_placed(to, room, plane, samples, block) {
         return Err(BadArgument::Area);
     }
-    if !are_rows(block.width + 7, window_of(block), window) {
-        return Err(BadArgument::Short);
-    }
     Ok(())
 }
 
-/// Tests that the block can be moved and written, that the window is long enough, and the depth.
+/// Tests that the block can be moved and written, and the depth.
 ///
 /// # Errors
 ///
-/// `Size`, then `Mode`, then `Area`, then `Short`, then `Depth`.
+/// `Size`, then `Mode`, then `Area`, then `Depth`.
 fn test_deep_moved(
     to: Place,
     room: usize,
     plane: MotionPlane,
     samples: usize,
     block: MovedBlock,
-    window: usize,
     bit_depth: usize,
 ) -> Result<(), BadArgument>
-    ensures good { IfOk result (λ _. IsPutMoved to room plane samples block window) }
+    ensures good { IfOk result (λ _. IsPutMoved to room plane samples block) }
     ensures depth { IfOk result (λ _. IsDepth bit_depth) }
-    ensures fault { IfErr result (IsDeepMovedFault bit_depth to room plane samples block window) }
+    ensures fault { IfErr result (IsDeepMovedFault bit_depth to room plane samples block) }
 {
-    test_put_moved(to, room, plane, samples, block, window)?;
+    test_put_moved(to, room, plane, samples, block)?;
     if is_depth(bit_depth) {
         Ok(())
     } else {
@@ -117,7 +112,8 @@ fn put_gathered<T: Pixel>(
     window: &mut [T],
     bit_depth: usize,
 )
-    requires asked { IsPutMoved to (length dst.old) moved.plane (length src.now) moved.block (length window.old) }
+    requires asked { IsPutMoved to (length dst.old) moved.plane (length src.now) moved.block }
+    requires whole { length window.old ≡ 18225 }
     requires found { IsPlaceOf moved.plane moved.block moved.place }
     requires is_depth { IsDepth bit_depth }
     requires depth { bit_depth ≤ T.BITS }
@@ -141,7 +137,8 @@ fn put_moved<T: Pixel>(
     window: &mut [T],
     bit_depth: usize,
 )
-    requires asked { IsPutMoved to (length dst.old) plane (length src.now) block (length window.old) }
+    requires asked { IsPutMoved to (length dst.old) plane (length src.now) block }
+    requires whole { length window.old ≡ 18225 }
     requires is_depth { IsDepth bit_depth }
     requires depth { bit_depth ≤ T.BITS }
     requires deep { AreMovedWithin bit_depth plane block (map T.num src.now) }
@@ -163,12 +160,11 @@ fn put_moved<T: Pixel>(
 /// Predicts a block that a vector moves, from one reference, at a depth of 8. The reference needs no margins. This is
 /// the specification's "Block inter prediction process". The block's rectangle begins at column `dst_x` of row `dst_y`
 /// of `dst`, and rows of `dst` are `dst_stride` samples apart. All other samples of `dst` are unchanged. The call only
-/// reads visible samples of the plane. Outside them it uses the nearest visible sample. `window` is scratch of `width +
-/// 7` by `height + 7` samples. Its contents after the call are unspecified.
+/// reads visible samples of the plane. Outside them it uses the nearest visible sample.
 ///
 /// `DONE`: success. `BAD_SIZE`: the width or the height is 0 or above 128. `BAD_MODE`: no filter has this number.
 /// `BAD_AREA`: the plane has no samples or does not lie in `src`, or the rectangle does not lie in `dst`. It is also
-/// the status if the plane's dimensions or the block's position are above 65,536. `TOO_SHORT`: the window is too short.
+/// the status if the plane's dimensions or the block's position are above 65,536.
 pub fn tilg_put_moved_8(
     dst: &mut [u8],
     dst_stride: usize,
@@ -177,9 +173,9 @@ pub fn tilg_put_moved_8(
     src: &[u8],
     plane: &MotionPlane,
     block: &MovedBlock,
-    window: &mut [u8],
+    context: &mut Context,
 ) -> u32
-    ensures { PutsMoved false 8 (place dst_stride dst_x dst_y) plane.now block.now (length window.old) src.now dst.old dst.new result }
+    ensures { PutsMoved false 8 (place dst_stride dst_x dst_y) plane.now block.now src.now dst.old dst.new result }
 {
     let (plane, block) = (*plane, *block);
     let to = Place {
@@ -187,10 +183,10 @@ pub fn tilg_put_moved_8(
         x: dst_x,
         y: dst_y,
     };
-    match test_put_moved(to, dst.len(), plane, src.len(), block, window.len()) {
+    match test_put_moved(to, dst.len(), plane, src.len(), block) {
         Ok(()) => {
             have_8_bits(src);
-            put_moved(dst, to, src, plane, block, window, 8);
+            put_moved(dst, to, src, plane, block, &mut context.window_8, 8);
             DONE
         }
         Err(fault) => fault.status(),
@@ -210,11 +206,11 @@ pub fn tilg_put_moved_16(
     src: &[u16],
     plane: &MotionPlane,
     block: &MovedBlock,
-    window: &mut [u16],
+    context: &mut Context,
     bit_depth: usize,
 ) -> u32
     requires { AreMovedWithin bit_depth plane.now block.now src.now }
-    ensures { PutsMoved true bit_depth (place dst_stride dst_x dst_y) plane.now block.now (length window.old) src.now dst.old dst.new result }
+    ensures { PutsMoved true bit_depth (place dst_stride dst_x dst_y) plane.now block.now src.now dst.old dst.new result }
 {
     let (plane, block) = (*plane, *block);
     let to = Place {
@@ -222,17 +218,17 @@ pub fn tilg_put_moved_16(
         x: dst_x,
         y: dst_y,
     };
-    match test_deep_moved(
-        to,
-        dst.len(),
-        plane,
-        src.len(),
-        block,
-        window.len(),
-        bit_depth,
-    ) {
+    match test_deep_moved(to, dst.len(), plane, src.len(), block, bit_depth) {
         Ok(()) => {
-            put_moved(dst, to, src, plane, block, window, bit_depth);
+            put_moved(
+                dst,
+                to,
+                src,
+                plane,
+                block,
+                &mut context.window_16,
+                bit_depth,
+            );
             DONE
         }
         Err(refused) => refused.status(),

@@ -1,9 +1,9 @@
 //! Tests whether the caller's samples fit a depth.
 ghost use Rattle.std.specs.Prelude.{◌≡◌, true, ℕ, ◌+◌, ◌*◌, ◌^◌, ◌<◌, ◌≤◌, length, slice_index};
 ghost use Rattle.av1_blocks.specs.Depths.{IsDepth};
-ghost use Rattle.av1_frame.specs.Areas.{AreRows};
 ghost use Rattle.av1_calls.specs.Samples.{AreBelow, AreHeld, AreLanesBelow, IsGreatest, TakesIn, TakesInRows, rectangle_of};
 
+use crate::argument::are_rows;
 use av1_frame::StoredArea;
 use std::simd::prelude::*;
 
@@ -206,10 +206,10 @@ fn bound_of(bit_depth: usize) -> u16
     1 << bit_depth
 }
 
-// Whether no sample of a rectangle is past the depth.
+// Whether no sample of a rectangle is past the depth. The last row may end with its samples.
 #[inline(always)]
 pub(crate) fn are_within(samples: &[u16], stride: usize, area: StoredArea, bit_depth: usize) -> bool
-    requires rows { AreRows stride area (length samples.now) }
+    requires rows { AreHeld stride area (length samples.now) }
     requires depths { IsDepth bit_depth }
     ensures true_is { result ≡ true → AreBelow (2 ^ bit_depth) stride area samples.now }
     ensures is_true { AreBelow (2 ^ bit_depth) stride area samples.now → result ≡ true }
@@ -248,4 +248,22 @@ pub(crate) fn are_held(stride: usize, area: StoredArea, samples: usize) -> bool
         return false;
     };
     0 < stride && right <= stride && samples < 1 << 63 && ends_within(last, stride, right, samples)
+}
+
+/// Whether each row of the rectangle ends in `samples` samples, in rows of this stride. A rectangle may have no rows.
+pub fn is_readable(stride: usize, area: StoredArea, samples: usize) -> bool
+    ensures true_is { result ≡ true → AreHeld stride area samples }
+    ensures is_true { AreHeld stride area samples → result ≡ true }
+{
+    if area.height == 0 {
+        let none = StoredArea {
+            x: area.x,
+            y: 0,
+            width: area.width,
+            height: 0,
+        };
+        are_rows(stride, none, samples)
+    } else {
+        are_held(stride, area, samples)
+    }
 }

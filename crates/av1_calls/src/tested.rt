@@ -3,8 +3,8 @@ ghost use Rattle.std.specs.Prelude.{IfOk, IfErr};
 ghost use Rattle.av1_calls.specs.Samples.{rectangle_of};
 ghost use Rattle.av1_calls.specs.TestedSamples.{AreTested, IsTestFault, TestsSamples};
 
-use crate::argument::{BadArgument, are_rows, is_depth};
-use crate::samples::are_within;
+use crate::argument::{BadArgument, is_depth};
+use crate::samples::{are_within, is_readable};
 use crate::status::DONE;
 use av1_frame::StoredArea;
 
@@ -22,7 +22,7 @@ fn test_area(
     ensures good { IfOk result (λ _. AreTested bit_depth stride area samples.now) }
     ensures fault { IfErr result (IsTestFault bit_depth stride area samples.now) }
 {
-    if !are_rows(stride, area, samples.len()) {
+    if !is_readable(stride, area, samples.len()) {
         return Err(BadArgument::Area);
     }
     if !is_depth(bit_depth) {
@@ -36,7 +36,7 @@ fn test_area(
 
 /// Tests that no sample of a rectangle is past a depth of 8, 10 or 12. `tilg_put_tested_16` and `tilg_prep_tested_16`
 /// require this of the samples that they read. The rectangle begins at column `x` of row `y`, and rows are `stride`
-/// samples apart.
+/// samples apart. The last row may end with its samples.
 ///
 /// `DONE`: no sample is past the depth. `BAD_AREA`: the rectangle does not lie in the samples. `BAD_DEPTH`: samples
 /// have no such depth. `BAD_SAMPLE`: a sample of the rectangle is past the depth.

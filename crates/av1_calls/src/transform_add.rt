@@ -10,6 +10,7 @@ ghost use Rattle.av1_calls.specs.Arguments.{rectangle};
 ghost use Rattle.av1_calls.specs.Transforms.{AddsResidue, AllFitDepth, IsBlock, IsBlockFault, IsDeepFault, IsDepthFault, IsRunnable};
 
 use crate::argument::{BadArgument, are_rows, area_of, is_depth};
+use crate::context::Context;
 use crate::motion::Place;
 use crate::status::DONE;
 use av1_blocks::{TxSize, TxType, valid_av1_transform};
@@ -247,12 +248,12 @@ fn add_deep(
 ///
 /// The coefficient of row r and column c is at offset `c * min(height, 32) + r`. Rows and columns from 32 on have no
 /// coefficients. Coefficients past the end of `coefficients` are 0 and cost nothing. So the list may end after the last
-/// coefficient that isn't 0. `scratch` may hold anything before the call.
+/// coefficient that isn't 0.
 ///
 /// `DONE`: success. `BAD_SIZE`, `BAD_TYPE`: no size or type has this number, or the size has no such type. `BAD_AREA`:
 /// the rectangle does not lie in the samples.
 pub fn tilg_inverse_transform_add_8(
-    scratch: &mut TxRoom,
+    context: &mut Context,
     coefficients: &[i16],
     samples: &mut [u8],
     stride: usize,
@@ -268,7 +269,7 @@ pub fn tilg_inverse_transform_add_8(
         Ok(block) => {
             have_16_bits(coefficients);
             inverse_transform_add_in(
-                scratch,
+                &mut context.transform,
                 coefficients,
                 samples,
                 stride,
@@ -293,7 +294,7 @@ pub fn tilg_inverse_transform_add_8(
 /// `BAD_DEPTH`: samples have no such depth. `BAD_COEFFICIENT`: a coefficient of the transform has more than `bit_depth
 /// + 8` bits, including its sign.
 pub fn tilg_inverse_transform_add_16(
-    scratch: &mut TxRoom,
+    context: &mut Context,
     coefficients: &[i32],
     samples: &mut [u16],
     stride: usize,
@@ -309,7 +310,7 @@ pub fn tilg_inverse_transform_add_16(
     match deep_block_of(tx_size, tx_type, at, coefficients, samples.len(), bit_depth) {
         Ok(block) => {
             add_deep(
-                scratch,
+                &mut context.transform,
                 coefficients,
                 samples,
                 stride,
@@ -327,7 +328,7 @@ pub fn tilg_inverse_transform_add_16(
 /// above 8. At a depth of 12, rav1e's identities of 4 and 16 values along rows wrap at 32 bits, and AV1's don't. And
 /// rav1e clamps lossless blocks (`WHT_WHT`) between the passes, as it clamps all others.
 pub fn tilg_inverse_transform_add_rav1e_16(
-    scratch: &mut TxRoom,
+    context: &mut Context,
     coefficients: &[i32],
     samples: &mut [u16],
     stride: usize,
@@ -343,7 +344,7 @@ pub fn tilg_inverse_transform_add_rav1e_16(
     match deep_block_of(tx_size, tx_type, at, coefficients, samples.len(), bit_depth) {
         Ok(block) => {
             add_deep(
-                scratch,
+                &mut context.transform,
                 coefficients,
                 samples,
                 stride,

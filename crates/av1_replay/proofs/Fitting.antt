@@ -1,10 +1,12 @@
 -- Numbers of few bits are numbers of more, and so are those at the front of a list.
-use Rattle.std.proofs.Common.{ℕ, ◌-◌, ◌^◌, ◌<◌, ◌≤◌, ℤ, pos, neg_ℤ, ◌≤ℤ◌, ◌<ℤ◌, List, take, All, length, map, arith, subst, sym}
+use Rattle.std.proofs.Common.{◌≡◌, ℕ, ◌-◌, ◌^◌, ◌<◌, ◌≤◌, ℤ, pos, neg_ℤ, ◌≤ℤ◌, ◌<ℤ◌, List, take, All, length, map, arith, subst, sym}
 use Rattle.std.proofs.lemmas.Int.{ints}
 use Rattle.std.proofs.Math.Pow.{pow_mono}
 use Rattle.std.proofs.lemmas.List.Elements.{All-map, All-take, All-weaker}
 use Rattle.std.proofs.lemmas.List.{length-map}
+use Rattle.av1_blocks.specs.Depths.{IsDepth}
 use Rattle.av1_dct.specs.Arithmetic.{at, FitsBits}
+use Rattle.av1_inter.proofs.Halves.{depth_numbers}
 
 pub wider_low : (k n : ℕ) (z : ℤ) → k ≤ n → FitsBits k z → neg_ℤ (pos (2 ^ (n - 1))) ≤ℤ z
 wider_low k n z few fits =
@@ -34,3 +36,11 @@ pub fits_at :
 fits_at val k n i coefficients few lt fit =
     let within : i < length (map val coefficients) = subst (λ m. i < m) (sym (length-map coefficients val)) lt in
     wider k n (at (map val coefficients) i) few (All-map (FitsBits k) val coefficients fit i (pos 0) within)
+
+-- samples of a depth have at most 12 bits
+pub low_samples : {T : Type 0} (num : T → ℕ) (depth : ℕ) (samples given : List T) → IsDepth depth → All (λ sample. num sample < 2 ^ depth) samples →
+    given ≡ samples → All (λ sample. num sample < 2 ^ 12) given
+low_samples {T} num depth samples given known within same =
+    let few = depth_numbers depth known in
+    subst (λ (xs : List T). All (λ sample. num sample < 2 ^ 12) xs) (sym same)
+    (All-weaker (λ sample. num sample < 2 ^ depth) (λ sample. num sample < 2 ^ 12) (λ sample h. omega (arith, few, h)) samples within)

@@ -4,7 +4,7 @@ ghost use Rattle.std.specs.Prelude.{◌^◌, ◌<◌, All};
 
 use crate::samples::Target;
 use av1_calls::{
-    CflBlock, EdgeBlock, EdgePlane, IntraBlock, MotionBlock, tilg_cfl_ac_8, tilg_cfl_ac_16,
+    CflBlock, EdgeBlock, EdgePlane, IntraBlock, MotionBlock, tilg_cfl_ac_8, tilg_cfl_ac_tested_16,
     tilg_intra_edge_8, tilg_intra_edge_16, tilg_mc_avg_8, tilg_mc_avg_16, tilg_predict_cfl_8,
     tilg_predict_cfl_16, tilg_predict_intra_8, tilg_predict_intra_16, tilg_prep_8tap_8,
     tilg_prep_tested_16, tilg_put_8tap_8, tilg_put_tested_16,
@@ -13,13 +13,6 @@ use av1_frame::Pixel;
 
 /// The column and row of a block in its reference. The samples that the filters read begin with the first sample.
 pub const BEFORE: usize = 3;
-
-/// Samples of luma, in rows that are `stride` apart.
-#[derive(Clone, Copy)]
-pub struct Source<'a, T> {
-    pub samples: &'a [T],
-    pub stride: usize,
-}
 
 /// The dimensions of a block.
 #[derive(Clone, Copy)]
@@ -76,14 +69,15 @@ pub trait Called: Pixel {
         block: &EdgeBlock,
     ) -> u32;
 
-    /// Writes how far luma is from its mean.
+    /// Writes how far luma is from its mean. Rows of luma, whose samples have at most 12 bits, are `stride` apart.
     fn put_differences(
         differences: &mut [i16],
-        luma: Source<Self>,
+        luma: &[Self],
+        stride: usize,
         target: Target,
         block: &CflBlock,
-        depth: u8,
-    ) -> u32;
+    ) -> u32
+        requires low { All (λ sample. Self.num sample < 2 ^ 12) luma.now };
 }
 
 impl Called for u8 {
@@ -172,15 +166,15 @@ impl Called for u8 {
 
     fn put_differences(
         differences: &mut [i16],
-        luma: Source<u8>,
+        luma: &[u8],
+        stride: usize,
         target: Target,
         block: &CflBlock,
-        _depth: u8,
     ) -> u32 {
         tilg_cfl_ac_8(
             differences,
-            luma.samples,
-            luma.stride,
+            luma,
+            stride,
             target.area.x,
             target.area.y,
             block,
@@ -282,19 +276,18 @@ impl Called for u16 {
 
     fn put_differences(
         differences: &mut [i16],
-        luma: Source<u16>,
+        luma: &[u16],
+        stride: usize,
         target: Target,
         block: &CflBlock,
-        depth: u8,
     ) -> u32 {
-        tilg_cfl_ac_16(
+        tilg_cfl_ac_tested_16(
             differences,
-            luma.samples,
-            luma.stride,
+            luma,
+            stride,
             target.area.x,
             target.area.y,
             block,
-            usize::from(depth),
         )
     }
 }

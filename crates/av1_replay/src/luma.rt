@@ -6,7 +6,7 @@ ghost use Rattle.av1_replay.specs.Fields.{unread};
 ghost use Rattle.av1_replay.specs.Rows.{depth_of};
 
 use crate::answer::Answer;
-use crate::called::{Called, Source};
+use crate::called::Called;
 use crate::drawn::Numbers;
 use crate::error::CallFault;
 use crate::fields::Fields;
@@ -96,11 +96,13 @@ impl DrawnLuma {
         let target = self.margins.round(columns, rows);
         let mut numbers = Numbers::new(self.seed);
         let samples = numbers.samples::<T>(alloc, target.count, depth, self.way)?;
-        let luma = Source {
-            samples: &samples,
-            stride: target.stride,
-        };
-        let status = T::put_differences(&mut differences, luma, target, &self.block(), depth);
+        let status = T::put_differences(
+            &mut differences,
+            &samples,
+            target.stride,
+            target,
+            &self.block(),
+        );
         Ok(Answer::of_shorts(alloc, status, &differences))
     }
 }

@@ -29,7 +29,7 @@
 #define MOTION_CALL(name) tilg_##name##_8tap_8
 #define DEPTH 8
 #define DEPTH_ARG
-#define ANY_DEPTH_ARG
+#define LUMA_CALL tilg_cfl_ac_8
 #define REGION tilg_region_8
 #define READ_REGION tilg_read_region_8
 #else
@@ -37,7 +37,7 @@
 #define MOTION_CALL(name) tilg_##name##_tested_16
 #define DEPTH ((uint8_t) bitdepth_from_max(bitdepth_max))
 #define DEPTH_ARG , DEPTH
-#define ANY_DEPTH_ARG , 12
+#define LUMA_CALL tilg_cfl_ac_tested_16
 #define REGION tilg_region_16
 #define READ_REGION tilg_read_region_16
 #endif
@@ -45,7 +45,7 @@
 /* The buffers that calls work in: dav1d's functions get none, so each thread has its own. */
 #define BLOCK_LEN (128 * 128)
 #define WINDOW_LEN (135 * 135)
-static _Thread_local tilg_transform_scratch ALIGN(scratch, 64);
+static _Thread_local tilg_context ALIGN(context, 64);
 static _Thread_local pixel ALIGN(block_copy[BLOCK_LEN], 64);
 static _Thread_local pixel ALIGN(window[WINDOW_LEN], 64);
 
@@ -281,7 +281,7 @@ static decl_angular_ipred_fn(library_z3) {
     predict(dst, stride, &b, left, width + height, *topleft, topleft + 1, 0, width, height);
 }
 
-/* cfl_ac[]: as it is. At 16 bits dav1d doesn't pass the depth; at 12 the values are the same. */
+/* cfl_ac[]: as it is. dav1d's samples are within their depth, so they are below 4096. */
 static ALWAYS_INLINE void cfl_ac(int16_t *const ac, const pixel *luma, const ptrdiff_t luma_stride, const int w_pad,
                                  const int h_pad, const int w, const int h, const int xdec, const int ydec)
 {
@@ -296,7 +296,7 @@ static ALWAYS_INLINE void cfl_ac(int16_t *const ac, const pixel *luma, const ptr
         stride = columns;
     }
     count_as("cfl_ac", w, h, xdec | ydec << 1, w_pad, h_pad);
-    check(CALL(cfl_ac)(ac, (size_t) (w * h), luma, (size_t) (stride * luma_rows), (size_t) stride, 0, 0, &b ANY_DEPTH_ARG));
+    check(LUMA_CALL(ac, (size_t) (w * h), luma, (size_t) (stride * luma_rows), (size_t) stride, 0, 0, &b));
 }
 
 #define CFL_AC(layout, xdec, ydec) \
@@ -332,7 +332,7 @@ static NOINLINE void itx(pixel *const dst, const ptrdiff_t dst_stride, coef *con
     const size_t n = tilg_coefficients_len((uint8_t) tx, (uint8_t) type, (size_t) eob + 1);
     if (needs_copy(stride)) load(block_copy, BLOCK_LEN, dst, stride, w, h);
     count_as("itx", w, h, type, eob, 0);
-    finish(CALL(inverse_transform_add)(to.at, to.len, to.stride, 0, 0, &scratch, coeff, n, (uint8_t) tx,
+    finish(CALL(inverse_transform_add)(to.at, to.len, to.stride, 0, 0, &context, coeff, n, (uint8_t) tx,
                                        (uint8_t) type DEPTH_ARG), dst, stride, w, h);
     memset(coeff, 0, n * sizeof(*coeff));
 }

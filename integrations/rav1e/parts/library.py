@@ -27,7 +27,7 @@ class Cut(Edit):
 
 LUMA = ("  let leaf = crate::library::Luma {\n    block: bsize,\n    transform: tx_size,\n    xdec,\n    ydec,\n"
         "    cells: (fi.w_in_b - frame_bo.0.x, fi.h_in_b - frame_bo.0.y),\n  };\n"
-        "  crate::library::luma_differences(ac, luma, leaf, fi.sequence.bit_depth);\n")
+        "  crate::library::luma_differences(ac, luma, leaf);\n")
 
 # What `library.rs` has otherwise in 0.8.1: the type of a count, and a buffer that the caller of `get_intra_edges` has.
 OWN = [

@@ -17,8 +17,8 @@ use crate::transform::{TxSize, TxType};
 use crate::util::{Pixel, PixelType};
 
 use tilgwaren::{
-  BlockRoom, EdgeBlock, EdgePlane, Error, Filter, IntraEdge, LumaBlock, MotionPlane, MotionWindow, MovedBlock, Place, Region,
-  RegionMut, Sampling, Tested, TransformBlock, TransformScratch,
+  BlockRoom, Context, EdgeBlock, EdgePlane, Error, Filter, IntraEdge, LumaBlock, MotionPlane, MovedBlock, Place, Region,
+  RegionMut, Sampling, Tested, TransformBlock,
 };
 
 use std::cell::RefCell;
@@ -77,9 +77,7 @@ macro_rules! call {
 
 thread_local! {
   // FITTED: rav1e has no place for what a call works in, so each thread keeps it.
-  static SCRATCH: RefCell<TransformScratch> = RefCell::new(TransformScratch::new());
-  static WINDOW_8: RefCell<MotionWindow<u8>> = RefCell::new(MotionWindow::new());
-  static WINDOW_16: RefCell<MotionWindow<u16>> = RefCell::new(MotionWindow::new());
+  static CONTEXT: RefCell<Context> = RefCell::new(Context::new());
   static ROOM_8: RefCell<BlockRoom<u8>> = RefCell::new(BlockRoom::new());
   static ROOM_16: RefCell<BlockRoom<u16>> = RefCell::new(BlockRoom::new());
 }
@@ -228,26 +226,26 @@ pub fn inverse_transform_add<T: Pixel>(
   let sides = (tx_size.width(), tx_size.height());
   let input = &input[..tilgwaren::coefficients_len(named(tx_size as usize), named(tx_type as usize), eob as usize)];
   let block = |at: Place| TransformBlock { tx_size: named(tx_size as usize), tx_type: named(tx_type as usize), x: at.x, y: at.y };
-  SCRATCH.with(|scratch| {
-    let scratch = &mut scratch.borrow_mut();
+  CONTEXT.with(|context| {
+    let context = &mut context.borrow_mut();
     // SAFETY: coefficients are whole numbers of 16 bits beside samples of 8, and of 32 beside those of 16.
     match T::type_enum() {
       PixelType::U8 => call!(
         "inverse_transform_add_8",
         change(output, sides, |samples: &mut [u8], at| {
-          tilgwaren::inverse_transform_add_8(scratch, unsafe { same(input) }, samples, at.stride, block(at))
+          tilgwaren::inverse_transform_add_8(context, unsafe { same(input) }, samples, at.stride, block(at))
         })
       ),
       PixelType::U16 if identities_wrap() => call!(
         "inverse_transform_add_rav1e_16",
         change(output, sides, |samples: &mut [u16], at| {
-          tilgwaren::inverse_transform_add_rav1e_16(scratch, unsafe { same(input) }, samples, at.stride, block(at), named(bd))
+          tilgwaren::inverse_transform_add_rav1e_16(context, unsafe { same(input) }, samples, at.stride, block(at), named(bd))
         })
       ),
       PixelType::U16 => call!(
         "inverse_transform_add_16",
         change(output, sides, |samples: &mut [u16], at| {
-          tilgwaren::inverse_transform_add_16(scratch, unsafe { same(input) }, samples, at.stride, block(at), named(bd))
+          tilgwaren::inverse_transform_add_16(context, unsafe { same(input) }, samples, at.stride, block(at), named(bd))
         })
       ),
     }
@@ -441,7 +439,7 @@ pub struct Luma {
 }
 
 /// The differences of luma from its mean, in place of rav1e's loops in `luma_ac`.  Luma begins at the region's first sample.
-pub fn luma_differences<T: Pixel>(ac: &mut [i16], luma: &PlaneRegion<'_, T>, leaf: Luma, bit_depth: usize) {
+pub fn luma_differences<T: Pixel>(ac: &mut [i16], luma: &PlaneRegion<'_, T>, leaf: Luma) {
   let block = call!(cfl_block_of(&LumaBlock {
     block_size: named(leaf.block as usize),
     tx_size: named(leaf.transform as usize),
@@ -459,7 +457,7 @@ pub fn luma_differences<T: Pixel>(ac: &mut [i16], luma: &PlaneRegion<'_, T>, lea
       call!("cfl_ac_8", read(luma, sides, |samples: &[u8], at| tilgwaren::cfl_ac_8(ac, samples, at, &block)))
     }
     PixelType::U16 => {
-      call!("cfl_ac_16", read(luma, sides, |samples: &[u16], at| tilgwaren::cfl_ac_16(ac, samples, at, &block, named(bit_depth))))
+      call!("cfl_ac_16", read(luma, sides, |samples: &[u16], at| tilgwaren::cfl_ac_16(ac, samples, at, &block)))
     }
   }
 }
@@ -538,21 +536,21 @@ pub fn put<T: Pixel>(reference: &ReferenceFrame<T>, p: usize, dst: &mut PlaneReg
   let (plane, block) = (visible(&from.cfg), moved.block());
   let sides = (moved.width, moved.height);
   match T::type_enum() {
-    PixelType::U8 => WINDOW_8.with(|window| {
-      let window = &mut window.borrow_mut();
+    PixelType::U8 => CONTEXT.with(|context| {
+      let context = &mut context.borrow_mut();
       // SAFETY: samples are whole numbers of 8 bits.
       let from = unsafe { same(&from.data) };
       call!(
         "put_moved_8",
-        write(dst, sides, |samples, at| tilgwaren::put_moved_8(samples, at, from, &plane, &block, window))
+        write(dst, sides, |samples, at| tilgwaren::put_moved_8(samples, at, from, &plane, &block, context))
       )
     }),
-    PixelType::U16 => WINDOW_16.with(|window| {
-      let window = &mut window.borrow_mut();
+    PixelType::U16 => CONTEXT.with(|context| {
+      let context = &mut context.borrow_mut();
       let tested = reference.tested.planes[p].as_ref().expect("a plane with samples");
       call!(
         "put_moved_16",
-        write(dst, sides, |samples, at| tilgwaren::put_moved_16(samples, at, tested, &plane, &block, window))
+        write(dst, sides, |samples, at| tilgwaren::put_moved_16(samples, at, tested, &plane, &block, context))
       )
     }),
   }
@@ -563,14 +561,14 @@ pub fn prepare<T: Pixel>(reference: &ReferenceFrame<T>, p: usize, values: &mut [
   let from = &reference.frame.planes[p];
   let (plane, block) = (visible(&from.cfg), moved.block());
   match T::type_enum() {
-    PixelType::U8 => WINDOW_8.with(|window| {
+    PixelType::U8 => CONTEXT.with(|context| {
       // SAFETY: samples are whole numbers of 8 bits.
       let samples = unsafe { same(&from.data) };
-      call!(prep_moved_8(values, samples, &plane, &block, &mut window.borrow_mut()))
+      call!(prep_moved_8(values, samples, &plane, &block, &mut context.borrow_mut()))
     }),
-    PixelType::U16 => WINDOW_16.with(|window| {
+    PixelType::U16 => CONTEXT.with(|context| {
       let tested = reference.tested.planes[p].as_ref().expect("a plane with samples");
-      call!(prep_moved_16(values, tested, &plane, &block, &mut window.borrow_mut()))
+      call!(prep_moved_16(values, tested, &plane, &block, &mut context.borrow_mut()))
     }),
   }
 }

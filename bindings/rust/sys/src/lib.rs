@@ -59,11 +59,11 @@ pub const FIELD_SECOND: u32 = 8;
 pub const FIELD_COEFFICIENTS: u32 = 9;
 pub const VERSION: u32 = 1024;
 
-/// `tilg_transform_scratch`.
+/// `tilg_context`.
 #[repr(C, align(64))]
 #[derive(Clone, Debug)]
-pub struct TransformScratch {
-    pub words: [i32; 6144],
+pub struct Context {
+    pub words: [i32; 19813],
 }
 
 /// `tilg_luma_block`.
@@ -361,9 +361,18 @@ extern "C" {
         room: *mut Difference,
         room_len: usize,
         found: *mut usize,
-        refusal: *mut PartRefusal,
+        refusal: *mut Refusal,
         bytes: *const u8,
         bytes_len: usize,
+        y: *const u8,
+        y_len: usize,
+        y_stride: usize,
+        u: *const u8,
+        u_len: usize,
+        u_stride: usize,
+        v: *const u8,
+        v_len: usize,
+        v_stride: usize,
     ) -> u32;
 
     #[link_name = "tilg_predict_intra_8"]
@@ -486,8 +495,8 @@ extern "C" {
         block: *const CflBlock,
     ) -> u32;
 
-    #[link_name = "tilg_cfl_ac_16"]
-    pub fn cfl_ac_16(
+    #[link_name = "tilg_cfl_ac_tested_16"]
+    pub fn cfl_ac_tested_16(
         ac: *mut i16,
         ac_len: usize,
         luma: *const u16,
@@ -496,7 +505,6 @@ extern "C" {
         x: usize,
         y: usize,
         block: *const CflBlock,
-        bit_depth: u8,
     ) -> u32;
 
     #[link_name = "tilg_cfl_block_of"]
@@ -567,8 +575,7 @@ extern "C" {
         dst_stride: usize,
         dst_x: usize,
         dst_y: usize,
-        window: *mut u8,
-        window_len: usize,
+        context: *mut Context,
         src: *const u8,
         src_len: usize,
         plane: *const MotionPlane,
@@ -582,8 +589,7 @@ extern "C" {
         dst_stride: usize,
         dst_x: usize,
         dst_y: usize,
-        window: *mut u16,
-        window_len: usize,
+        context: *mut Context,
         src: *const u16,
         src_len: usize,
         plane: *const MotionPlane,
@@ -595,8 +601,7 @@ extern "C" {
     pub fn prep_moved_8(
         values: *mut i16,
         values_len: usize,
-        window: *mut u8,
-        window_len: usize,
+        context: *mut Context,
         src: *const u8,
         src_len: usize,
         plane: *const MotionPlane,
@@ -607,8 +612,7 @@ extern "C" {
     pub fn prep_moved_16(
         values: *mut i16,
         values_len: usize,
-        window: *mut u16,
-        window_len: usize,
+        context: *mut Context,
         src: *const u16,
         src_len: usize,
         plane: *const MotionPlane,
@@ -702,7 +706,7 @@ extern "C" {
         stride: usize,
         x: usize,
         y: usize,
-        scratch: *mut TransformScratch,
+        context: *mut Context,
         coefficients: *const i16,
         coefficients_len: usize,
         tx_size: u8,
@@ -716,7 +720,7 @@ extern "C" {
         stride: usize,
         x: usize,
         y: usize,
-        scratch: *mut TransformScratch,
+        context: *mut Context,
         coefficients: *const i32,
         coefficients_len: usize,
         tx_size: u8,
@@ -731,7 +735,7 @@ extern "C" {
         stride: usize,
         x: usize,
         y: usize,
-        scratch: *mut TransformScratch,
+        context: *mut Context,
         coefficients: *const i32,
         coefficients_len: usize,
         tx_size: u8,

@@ -13,7 +13,7 @@ pub gather-requires-clause-rows : goal.gather-requires-clause-rows
 gather-requires-clause-rows g c =
     let m = c.args.moved in
     subst (λ (s : StoredArea). AreRows (m.block.width + 7) s (length c.args.window.now)) (sym c.gathered_area-area.ensures)
-    (part_rows m.block m.place.col_frac m.place.row_frac (length c.args.window.now) c.requires.long)
+    (part_rows m.block m.place.col_frac m.place.row_frac (length c.args.window.now) c.requires.sides c.requires.whole)
 
 pub gather-requires-clause-left : goal.gather-requires-clause-left
 gather-requires-clause-left g c =
@@ -51,7 +51,7 @@ returns-clause-lies g c =
     c.gather.ensures ∙ ap (λ (s : StoredArea). paint (b.width + 7) s (λ r q v. get_or a.src.now (nearest_place m.plane (x +ℤ pos q) (y +ℤ pos r)) v)
     a.window.now) c.gathered_area-area.ensures in
     let lies = gathered_rows g.T.Pixel.num a.src.now a.window.now c.gather.new.window m.plane b at x y r.found x_is y_is
-    (part_rows b at.col_frac at.row_frac (length a.window.now) r.long) r.source.source r.source.near.some_columns r.source.near.some_rows is in
+    (part_rows b at.col_frac at.row_frac (length a.window.now) r.sides r.whole) r.source.source r.source.near.some_columns r.source.near.some_rows is in
     subst (λ (n : ℕ). IsSource (place (b.width + 7) n c.read_before-2.result) (motion_at b at.col_frac at.row_frac) (length c.gather.new.window))
     (sym c.read_before.ensures.value)
     (subst (λ (n : ℕ). IsSource (place (b.width + 7) (read_before at.col_frac) n) (motion_at b at.col_frac at.row_frac) (length c.gather.new.window))
@@ -76,7 +76,7 @@ returns-clause-same g c =
     c.gather.ensures ∙ ap (λ (s : StoredArea). paint (b.width + 7) s (λ r q v. get_or a.src.now (nearest_place m.plane (x +ℤ pos q) (y +ℤ pos r)) v)
     a.window.now) c.gathered_area-area.ensures in
     let same = gathered_source num a.src.now a.window.now c.gather.new.window m.plane b at x y r.found x_is y_is
-    (part_rows b at.col_frac at.row_frac (length a.window.now) r.long) r.source.source r.source.near.some_columns r.source.near.some_rows is in
+    (part_rows b at.col_frac at.row_frac (length a.window.now) r.sides r.whole) r.source.source r.source.near.some_columns r.source.near.some_rows is in
     subst (λ (n : ℕ). IsReadFrom at.col_frac at.row_frac b.width b.height (read_at (place (b.width + 7) n c.read_before-2.result)
     (motion_at b at.col_frac at.row_frac) (map num c.gather.new.window)) (moved_source m.plane b (map num a.src.now))) (sym c.read_before.ensures.value)
     (subst (λ (n : ℕ). IsReadFrom at.col_frac at.row_frac b.width b.height (read_at (place (b.width + 7) (read_before at.col_frac) n)

@@ -9,7 +9,7 @@ prep-requires-clause-asked g c =
     let m = a.moved in
     let r = c.requires in
     prep_asked (length a.values.now) c.gathered-from.result (length c.gathered-from.new.window) m.block m.place.col_frac m.place.row_frac _
-    c.motion_at-block.ensures r.asked.sides r.asked.filters r.found.few_columns r.found.few_rows c.gathered-from.ensures.lies r.asked.roomy.values
+    c.motion_at-block.ensures r.asked.sides r.asked.filters r.found.few_columns r.found.few_rows c.gathered-from.ensures.lies r.asked.long
 
 pub prep-requires-clause-deep : goal.prep-requires-clause-deep
 prep-requires-clause-deep g c =
