@@ -66,6 +66,11 @@ four_products outer halves value x y v w z two none ex ey ev ew e =
 pub few_within : (k : ℕ) (z : ℤ) → k ≤ 4 → IsWithin (k * 2 ^ 23) z → IsWithin (2 ^ 25) z
 few_within k z h f = record { low = omega (arith, ints, f.low, h); high = omega (arith, ints, f.high, h) }
 
+-- so 26 bits hold the sums of pairs
+pub held : {lanes n zeros pairs : ℕ} {halves : List ℤ} {value : ℕ → ℕ → ℤ} {sums : List ℤ} → ArePairs lanes n zeros pairs halves value sums → pairs ≤ 4 →
+    (c : ℕ) → c < lanes → IsWithin (2 ^ 25) (entry sums c)
+held known few c inside = few_within _ _ few (known.within c inside)
+
 -- a sample's place, counted otherwise
 pub sample_below : (samples : List ℕ) (n start step c t i : ℕ) → ((c t : ℕ) → c < n → t < 8 → slice_index samples (start + c + t * step) < 32768) → c < n →
     t < 8 → i ≡ start + c + t * step → slice_index samples i < 32768

@@ -8,6 +8,7 @@ use Rattle.std.proofs.lemmas.Bool.Decides.{nat_tests}
 use Rattle.av1_frame.specs.declared.plane_region.StoredArea.{StoredArea}
 use Rattle.av1_frame.specs.Arithmetic.{clip, round_shift}
 use Rattle.av1_frame.specs.Samples.{corner, paint, painted_at}
+use Rattle.av1_frame.proofs.Paint.{paint_empty}
 use Rattle.av1_frame.proofs.Update.{get_or-update, length-update, update_is}
 use Rattle.av1_inter.specs.Motion.{bias, intermediate_bits, prepared, single, unbiased}
 use Rattle.av1_inter.specs.declared.strip.Strip.{Strip}
@@ -87,6 +88,10 @@ module _ (depth : ℕ) (across down : List ℤ) (w h r c : ℕ) (s around : ℕ 
   pub prepared_read : (fx fy : ℕ) → IsReadFrom fx fy w h s around →
       prepared depth fx fy across down (near fx fy r c s) r c ≡ prepared depth fx fy across down around r c
   prepared_read fx fy same = ap (λ z. z -ℤ bias depth) (unbiased_read fx fy same)
+
+-- no column of a rectangle is painted yet
+pub paint_no_column : {X : Type 0} (stride : ℕ) (a : StoredArea) (h : ℕ) (f : ℕ → ℕ → X → X) (s : List X) → s ≡ paint stride (corner a 0 h) f s
+paint_no_column stride a h f s = sym (paint_empty stride (corner a 0 h) f s (inl refl))
 
 -- a sample that is painted in the first w columns, or in the n columns after them
 strip_at : {X : Type 0} (a : StoredArea) (w n h p q : ℕ) (f g : ℕ → ℕ → X → X) (v : X) → ((r c : ℕ) (v : X) → r < h → c < n → g r c v ≡ f r (w + c) v) →

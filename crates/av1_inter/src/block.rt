@@ -2,7 +2,7 @@
 //!
 //! AV1 specification: block inter prediction process.
 
-ghost use Rattle.std.specs.Prelude.{◌≡◌, ◌≢◌, ◌⊎◌, ◌<◌, length, unsigned_abs};
+ghost use Rattle.std.specs.Prelude.{◌≡◌, ◌≢◌, ◌⊎◌, ◌<◌, ◌≤ℤ◌, ◌<ℤ◌, pos, length, unsigned_abs};
 ghost use Rattle.av1_frame.specs.Areas.{AreRows};
 ghost use Rattle.av1_frame.specs.Samples.{paint};
 ghost use Rattle.av1_inter.specs.Filters.{filter_of};
@@ -38,6 +38,9 @@ pub(crate) fn moved_by(
     mode_x: FilterMode,
     mode_y: FilterMode,
 ) -> Moved
+    requires col_frac { (pos 0 ≤ℤ col_frac) × (col_frac <ℤ pos 16) }
+    requires row_frac { (pos 0 ≤ℤ row_frac) × (row_frac <ℤ pos 16) }
+    ensures small { (result.col_frac < 16) × (result.row_frac < 16) }
     ensures col_frac { result.col_frac ≡ unsigned_abs col_frac }
     ensures row_frac { result.row_frac ≡ unsigned_abs row_frac }
     ensures mode_x { result.mode_x ≡ mode_x }

@@ -30,6 +30,7 @@ fn filter_line<T: Pixel, const N: usize, const ZEROS: usize>(
     requires zeros { AreZero ZEROS taps.now.halves }
     requires rounding { IsRounding taps.now.rounding }
     requires kind { IsStripWidth N }
+    requires short { N ≤ 128 }
     requires reach { start + N + 7 * taps.now.step ≤ length source.now }
     requires small { (c t : ℕ) → c < N → t < 8 → slice_index (map T.num source.now) (start + c + t * taps.now.step) < 32768 }
     ensures { (c : ℕ) → c < N →
@@ -77,6 +78,7 @@ fn filter_row<T: Pixel, E: Copy, W: Writer<E>, const N: usize, const ZEROS: usiz
     requires rows { AreRows stride strip.now.area (length target.old) }
     requires width { strip.now.area.width ≡ N }
     requires kind { IsStripWidth N }
+    requires short { N ≤ 128 }
     requires few { ZEROS ≤ 2 }
     requires zeros { AreZero ZEROS taps.now.halves }
     requires laid { IsLaid T.num strip.now taps.now }
@@ -205,6 +207,7 @@ fn filter_columns<T: Pixel, E: Copy, W: Writer<E>>(
 /// Filters a block, strip by strip. A block of 4x4 bytes with four weights is filtered in place: the compiler unrolls
 /// its four rows.
 #[inline(always)]
+#[tactic(auto, using(crate::proofs::Strips::paint_no_column))]
 pub(crate) fn filter_once<T: Pixel, E: Copy, W: Writer<E>>(
     target: &mut [E],
     stride: usize,

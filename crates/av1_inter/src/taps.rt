@@ -12,9 +12,9 @@ use av1_frame::{Pixel, PlaneSlice};
 /// The position 3 columns to the left of a block and 3 rows above it.
 #[inline(always)]
 pub(crate) fn taps_of_block<T: Pixel>(src: PlaneSlice<'_, T>) -> PlaneSlice<'_, T>
-    requires { (columns : ℕ) × (rows : ℕ) × IsStoredFrom (corner_of src) columns rows }
+    requires { (columns : ℕ) × (rows : ℕ) × IsStoredFrom (corner_of src) (columns + 7) (rows + 7) }
     ensures place { result ≡ corner_of src.entry }
-    ensures stored { (columns rows : ℕ) → IsStoredFrom (corner_of src.entry) columns rows → IsStoredFrom result columns rows }
+    ensures stored { (columns : ℕ) × (rows : ℕ) × IsStoredFrom result (columns + 7) (rows + 7) }
 {
     src.go_left(3).go_up(3)
 }

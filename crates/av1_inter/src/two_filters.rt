@@ -113,6 +113,7 @@ fn filter_part_of<T: Pixel, E: Copy, W: Writer<E>>(
 }
 
 /// Writes the entries of a strip of 16, 8, 4 or 1 columns, part by part.
+#[tactic(auto, using(av1_frame::proofs::Paint::paint_none))]
 fn filter_parts<T: Pixel, E: Copy, W: Writer<E>>(
     target: &mut [E],
     stride: usize,
@@ -138,6 +139,7 @@ fn filter_parts<T: Pixel, E: Copy, W: Writer<E>>(
 
 /// Writes the entries of a block, strip by strip.
 #[inline(always)]
+#[tactic(auto, using(crate::proofs::Strips::paint_no_column))]
 pub(crate) fn filter_twice<T: Pixel, E: Copy, W: Writer<E>>(
     target: &mut [E],
     stride: usize,

@@ -38,7 +38,8 @@ pub(crate) trait Writer<E: Copy> {
 pub(crate) fn depth_of<T: Pixel>(bit_depth: usize) -> usize
     requires depths { IsDepth bit_depth }
     requires fits { bit_depth ≤ T.BITS }
-    ensures { result ≡ bit_depth }
+    ensures value { result ≡ bit_depth }
+    ensures depths { IsDepth result }
 {
     if T::BITS == 8 { 8 } else { bit_depth }
 }

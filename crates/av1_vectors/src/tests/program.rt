@@ -32,12 +32,13 @@ fn writes(rt: &impl Abort, alloc: Global, line: &str, wanted: &str) {
     same(rt, out.bytes(), wanted.as_bytes(), line);
 }
 
-/// The sums that rav1e has of the plans of four numbers.
-const SUMS: [(&str, &str); 4] = [
+/// The sums that rav1e has of the plans of five numbers.
+const SUMS: [(&str, &str); 5] = [
     ("sum 1", "leaves 304\nY 137004277\nU 33980014\nV 33804601\n"),
     ("sum 2", "leaves 254\nY 131820650\nU 33717348\nV 33925496\n"),
     ("sum 3", "leaves 326\nY 135339078\nU 34688813\nV 35063627\n"),
     ("sum 4", "leaves 323\nY 127568554\nU 33566697\nV 34317898\n"),
+    ("sum 5", "leaves 370\nY 130878882\nU 31162854\nV 31869318\n"),
 ];
 
 #[test]

@@ -9,6 +9,7 @@ use av1_frame::Pixel;
 use av1_plan::Plan;
 use av1_recon::{
     MemSink, SliceSource, TileState, plane_sum, read_plan, reconstruct_tile, write_made,
+    write_planes,
 };
 use std::alloc::Global;
 use std::process::Abort;
@@ -74,22 +75,16 @@ fn five(alloc: Global) -> Option<Plan>
     }
 }
 
-/// The sums that rav1e has of the plan of the number 5.
-const SUMS: [u64; 3] = [130_878_882, 31_162_854, 31_869_318];
-
-/// Stops the test if the plan of the number 5 has other sums where every stored sample was `value`.
-fn has_its_sums(rt: &impl Abort, alloc: Global, plan: &Plan, value: u16)
+/// Appends the planes of a plan to the sink. Every stored sample was `value` before.
+fn write_over(rt: &impl Abort, alloc: Global, plan: &Plan, value: u16, sink: &mut MemSink)
     requires valid { first_fault (plan_value plan.now) ≡ None }
     requires depth { (plan_value plan.now).header.depth ≡ 10 }
     requires within { value < 1024 }
 {
-    let (sums, _) = reconstructed::<u16>(alloc, plan, value).expect(rt, "memory");
-    same(
-        rt,
-        (value, sums),
-        (value, SUMS),
-        "the value before, and the sums",
-    );
+    let mut state = TileState::<u16>::new(alloc, plan).expect(rt, "memory");
+    state.fill_with(value);
+    reconstruct_tile(&mut state, plan);
+    write_planes(&state, sink).expect(rt, "room");
 }
 
 #[test]
@@ -100,7 +95,16 @@ fn what_the_planes_held_before_does_not_show(rt: HostRuntime) -> Result<(), Fail
     if plan.header().depth != 10 {
         return Err(Fail::new("its depth is 10"));
     }
-    has_its_sums(&rt, rt.alloc(), &plan, 0);
-    has_its_sums(&rt, rt.alloc(), &plan, 1023);
+    let mut after_zeros = MemSink::new(rt.alloc(), 786_432, 65536, &[]).expect(&rt, "memory");
+    write_over(&rt, rt.alloc(), &plan, 0, &mut after_zeros);
+    let mut after_ones = MemSink::new(rt.alloc(), 786_432, 65536, &[]).expect(&rt, "memory");
+    write_over(&rt, rt.alloc(), &plan, 1023, &mut after_ones);
+    let same_planes = after_zeros.bytes() == after_ones.bytes();
+    same(
+        &rt,
+        (after_zeros.bytes().len(), same_planes),
+        (786_432, true),
+        "the planes",
+    );
     Ok(())
 }

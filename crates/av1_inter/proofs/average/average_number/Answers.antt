@@ -1,15 +1,8 @@
-use Rattle.std.proofs.Common.{ℕ, rules, ap, pos, subst, sym, ◌-◌, ◌*ℤ◌, ◌+ℤ◌, ◌∙◌, ◌^◌, w16, FitsSigned}
+use Rattle.std.proofs.Common.{ℕ, rules, ap, pos, ◌-◌, ◌*ℤ◌, ◌+ℤ◌, ◌∙◌, ◌^◌, w16, FitsSigned}
 use Rattle.std.proofs.lemmas.Int.{to_z-of_z}
-use Rattle.av1_blocks.specs.Depths.{IsDepth}
 use Rattle.av1_inter.specs.Motion.{bias, intermediate_bits}
 use Rattle.av1_inter.proofs.HeldSums.{average_is}
 use Rattle.av1_inter.proofs.average.average_number.Goals as goal
-
-pub rise-requires : goal.rise-requires
-rise-requires g c = subst IsDepth (sym c.depth_of-known.ensures) c.requires.depths
-
-pub greatest-requires : goal.greatest-requires
-greatest-requires g c = subst IsDepth (sym c.depth_of-known.ensures) c.requires.depths
 
 pub returns : goal.returns
 returns g c =
@@ -19,7 +12,7 @@ returns g c =
     let x : FitsSigned w16 c.max.result = search rules in
     let t : FitsSigned w16 c.greatest.result = search rules in
     let r : FitsSigned w16 c.min.result = search rules in
-    let same = c.depth_of-known.ensures in
+    let same = c.depth_of-known.ensures.value in
     to_z-of_z w16 _ r
     ∙ average_is c.args.bit_depth c.intermediate_bits.result c.args.first c.args.second c.rise.result c.greatest.result c.held_sum.result
     c.raised-sum.result c.max.result c.min.result _ _ _ _ _ _ c.requires.depths c.intermediate_bits.ensures.value

@@ -5,9 +5,7 @@ use Rattle.av1_inter.specs.Motion.{averaged, entry}
 use Rattle.av1_inter.proofs.average.mc_avg.Goals as goal
 
 pub mc_avg_to-requires-clause-rows : goal.mc_avg_to-requires-clause-rows
-mc_avg_to-requires-clause-rows g c =
-    lent_rows c.args.dst.now c.args.width c.args.height _ _ c.requires.fits c.requires.columns c.requires.rows c.corner-area.ensures
-    c.rows_mut.ensures.value
+mc_avg_to-requires-clause-rows g c = search lent_rows
 
 pub mc_avg_to-requires-clause-first_long : goal.mc_avg_to-requires-clause-first_long
 mc_avg_to-requires-clause-first_long g c =

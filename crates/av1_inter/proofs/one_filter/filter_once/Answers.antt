@@ -1,17 +1,8 @@
-use Rattle.std.proofs.Common.{arith, ap, inl, refl, subst, sym, ◌≡◌, ◌+◌, ◌∙◌}
+use Rattle.std.proofs.Common.{arith, ap, subst, sym, ◌≡◌, ◌+◌, ◌∙◌}
 use Rattle.av1_blocks.specs.Depths.{IsDepth}
-use Rattle.av1_frame.specs.Samples.{corner}
-use Rattle.av1_frame.proofs.Paint.{paint_empty}
 use Rattle.av1_inter.proofs.Strips.{paint_next, part_filtered, part_laid}
 use Rattle.av1_inter.specs.Scaffolding.{filtered}
 use Rattle.av1_inter.proofs.one_filter.filter_once.Goals as goal
-
-pub loop-start-init : goal.loop-start-init
-loop-start-init g c =
-    record {
-      room = omega arith;
-      painted = sym (paint_empty c.args.stride (corner c.args.block.now.area 0 c.args.block.now.area.height) _ c.args.target.now (inl refl));
-    }
 
 pub part_at-strip-requires-clause-start : goal.part_at-strip-requires-clause-start
 part_at-strip-requires-clause-start g c =

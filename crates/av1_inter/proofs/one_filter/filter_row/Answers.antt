@@ -1,14 +1,13 @@
-use Rattle.std.proofs.Common.{arith, rules, ap, length, sym, ℕ, ◌+◌, ◌*◌, ◌<◌, ◌≤◌, ◌∙◌}
+use Rattle.std.proofs.Common.{arith, ap, length, sym, ℕ, ◌+◌, ◌*◌, ◌<◌, ◌≤◌, ◌∙◌}
 use Rattle.av1_frame.specs.Samples.{paint_row}
 use Rattle.av1_frame.proofs.Paint.{row_painted_rest, paint_row_same}
 use Rattle.av1_inter.specs.Scaffolding.{filtered}
-use Rattle.av1_inter.proofs.Table.{strip_short}
 use Rattle.av1_inter.proofs.one_filter.filter_row.Goals as goal
 
 pub filter_line-values-requires : goal.filter_line-values-requires
 filter_line-values-requires g c =
     let laid = c.requires.laid in
-    let size : g.row.N * 2 < 9223372036854775808 = omega (arith, strip_short g.row.N c.requires.kind) in
+    let size : g.row.N * 2 < 9223372036854775808 = omega (arith, c.requires.short) in
     let start : ℕ = c.args.taps.now.start + c.args.r * c.args.strip.now.source_stride in
     let reach : start + g.row.N + 7 * c.args.taps.now.step ≤ length c.args.strip.now.source.now =
     omega (arith, c.requires.width, laid.reach c.args.r c.requires.inside) in (
@@ -23,16 +22,13 @@ filter_line-values-requires g c =
               laid.rounding,
               (
                 c.requires.kind,
-                (reach, (λ q t h b. laid.small c.args.r q t c.requires.inside (omega (arith, h, c.requires.width)) b)),
+                (c.requires.short, (reach, (λ q t h b. laid.small c.args.r q t c.requires.inside (omega (arith, h, c.requires.width)) b))),
               ),
             ),
           ),
         ),
       ),
     )
-
-pub write_row-requires : goal.write_row-requires
-write_row-requires g c = let short : g.row.N ≤ 128 = omega (arith, strip_short g.row.N c.requires.kind) in search (rules, short)
 
 pub returns : goal.returns
 returns g c = λ s whole before.

@@ -5,19 +5,7 @@ use Rattle.av1_inter.specs.Filters.{filter_of}
 use Rattle.av1_inter.specs.Motion.{prepared}
 use Rattle.av1_inter.specs.Places.{corner_of, samples_from}
 use Rattle.av1_inter.proofs.Sources.{slice_long, slice_same, slice_within}
-use Rattle.av1_inter.proofs.Table.{fraction_small}
 use Rattle.av1_inter.proofs.prepare.prep_8tap.Goals as goal
-
-pub read_from-source-requires : goal.read_from-source-requires
-read_from-source-requires g c = (c.args.width, c.args.height, c.taps_of_block-corner.ensures.stored _ _ c.requires.stored)
-
-pub prep_8tap_from-requires-clause-col_frac : goal.prep_8tap_from-requires-clause-col_frac
-prep_8tap_from-requires-clause-col_frac g c =
-    fraction_small c.args.col_frac _ (c.moved_by-moved.ensures.col_frac ∙ ap unsigned_abs (to_z-of_z w32 c.args.col_frac c.ranges.col_frac)) c.requires.col_frac
-
-pub prep_8tap_from-requires-clause-row_frac : goal.prep_8tap_from-requires-clause-row_frac
-prep_8tap_from-requires-clause-row_frac g c =
-    fraction_small c.args.row_frac _ (c.moved_by-moved.ensures.row_frac ∙ ap unsigned_abs (to_z-of_z w32 c.args.row_frac c.ranges.row_frac)) c.requires.row_frac
 
 pub prep_8tap_from-requires-clause-reach : goal.prep_8tap_from-requires-clause-reach
 prep_8tap_from-requires-clause-reach g c =

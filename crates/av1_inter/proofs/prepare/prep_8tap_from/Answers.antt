@@ -1,9 +1,8 @@
-use Rattle.std.proofs.Common.{arith, inl, inr, pos, refl, ◌≢◌, ◌⊎◌, ◌∙◌}
+use Rattle.std.proofs.Common.{arith, pos, refl, ◌≢◌, ◌⊎◌, ◌∙◌}
 use Rattle.av1_inter.specs.Places.{sample_in}
 use Rattle.av1_inter.proofs.Blocks.{made_block, read_alone}
 use Rattle.av1_inter.proofs.Rows.{packed_at, packed_rest}
 use Rattle.av1_inter.proofs.Values.{prepared_copied, prepared_here}
-use Rattle.av1_inter.proofs.prepare.prep_8tap_from.Goals.{else-moved-eq0-via-then-moved-eq0+else-moved-eq0-2, else-moved-eq0-via-else-moved-eq0}
 use Rattle.av1_inter.proofs.prepare.prep_8tap_from.Goals as goal
 
 pub prepare_copy-requires-clause-block : goal.prepare_copy-requires-clause-block
@@ -19,10 +18,7 @@ filter_block-requires-clause-block g c =
     c.requires.reach c.requires.within
 
 pub filter_block-requires-clause-some : goal.filter_block-requires-clause-some
-filter_block-requires-clause-some g c = elim c.else-moved-eq0.branch [
-  | else-moved-eq0-via-then-moved-eq0+else-moved-eq0-2 w ↦ inr w.if-moved-eq0-2.false
-  | else-moved-eq0-via-else-moved-eq0 w ↦ inl w.if-moved-eq0.false
-]
+filter_block-requires-clause-some g c = grind (arith, c.else-moved-eq0.branch)
 
 pub returns-then-width-eq0-clause-value : goal.returns-then-width-eq0-clause-value
 returns-then-width-eq0-clause-value g c = λ around same r q k l. absurd (omega (arith, l, c.if-width-eq0.true))
@@ -47,10 +43,7 @@ pub returns-else-moved-eq0-clause-value : goal.returns-else-moved-eq0-clause-val
 returns-else-moved-eq0-clause-value g c = λ around same r q k l.
     let a = c.args in
     let m = a.moved in
-    let some : (m.col_frac ≢ 0) ⊎ (m.row_frac ≢ 0) = elim c.else-moved-eq0.branch [
-      | else-moved-eq0-via-then-moved-eq0+else-moved-eq0-2 w ↦ inr w.if-moved-eq0-2.false
-      | else-moved-eq0-via-else-moved-eq0 w ↦ inl w.if-moved-eq0.false
-    ] in
+    let some : (m.col_frac ≢ 0) ⊎ (m.row_frac ≢ 0) = grind (arith, c.else-moved-eq0.branch) in
     packed_at _ a.width a.height _ a.tmp.now c.filter_block.new.target refl c.filter_block.ensures (omega (arith, l)) c.requires.tmp_long r q (pos 0) k l
     ∙ prepared_here a.bit_depth c.requires.depths m.mode_x m.mode_y a.width a.height m.col_frac m.row_frac
     (sample_in g.T.Pixel.num a.source.now a.source_stride) around same c.requires.within r q k l c.requires.col_frac c.requires.row_frac some

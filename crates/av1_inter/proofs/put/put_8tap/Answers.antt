@@ -7,24 +7,10 @@ use Rattle.av1_inter.specs.Filters.{filter_of}
 use Rattle.av1_inter.specs.Motion.{single}
 use Rattle.av1_inter.specs.Places.{AreWithinDepth, corner_of, HoldRows, IsReadFrom, read_beside, sample_in, samples_from}
 use Rattle.av1_inter.proofs.Sources.{slice_long, slice_same, slice_within}
-use Rattle.av1_inter.proofs.Table.{fraction_small}
 use Rattle.av1_inter.proofs.put.put_8tap.Goals as goal
 
-pub read_from-requires : goal.read_from-requires
-read_from-requires g c = (c.args.width, c.args.height, c.taps_of_block-corner.ensures.stored _ _ c.requires.stored)
-
 pub put_8tap_to-requires-clause-rows : goal.put_8tap_to-requires-clause-rows
-put_8tap_to-requires-clause-rows g c =
-    lent_rows c.args.dst.now c.args.width c.args.height _ _ c.requires.fits c.requires.columns c.requires.rows c.corner-area.ensures
-    c.rows_mut.ensures.value
-
-pub put_8tap_to-requires-clause-col_frac : goal.put_8tap_to-requires-clause-col_frac
-put_8tap_to-requires-clause-col_frac g c =
-    fraction_small c.args.col_frac _ (c.moved_by-moved.ensures.col_frac ∙ ap unsigned_abs (to_z-of_z w32 c.args.col_frac c.ranges.col_frac)) c.requires.col_frac
-
-pub put_8tap_to-requires-clause-row_frac : goal.put_8tap_to-requires-clause-row_frac
-put_8tap_to-requires-clause-row_frac g c =
-    fraction_small c.args.row_frac _ (c.moved_by-moved.ensures.row_frac ∙ ap unsigned_abs (to_z-of_z w32 c.args.row_frac c.ranges.row_frac)) c.requires.row_frac
+put_8tap_to-requires-clause-rows g c = search lent_rows
 
 pub put_8tap_to-requires-clause-reach : goal.put_8tap_to-requires-clause-reach
 put_8tap_to-requires-clause-reach g c =

@@ -1,11 +1,10 @@
-use Rattle.std.proofs.Common.{ap, inl, inr, sym, ◌≢◌, ◌⊎◌, ◌∙◌}
+use Rattle.std.proofs.Common.{arith, ap, inr, sym, ◌≢◌, ◌⊎◌, ◌∙◌}
 use Rattle.av1_frame.proofs.Paint.{paint_empty, paint_same}
 use Rattle.av1_inter.specs.Filters.{filter_of}
 use Rattle.av1_inter.specs.Motion.{single}
 use Rattle.av1_inter.specs.Places.{sample_in}
 use Rattle.av1_inter.proofs.Blocks.{made_block, read_alone}
 use Rattle.av1_inter.proofs.Values.{put_copied, put_here}
-use Rattle.av1_inter.proofs.put.put_8tap_to.Goals.{else-moved-eq0-via-then-moved-eq0+else-moved-eq0-2, else-moved-eq0-via-else-moved-eq0}
 use Rattle.av1_inter.proofs.put.put_8tap_to.Goals as goal
 
 pub put_copy-requires-clause-block : goal.put_copy-requires-clause-block
@@ -21,10 +20,7 @@ filter_block-requires-clause-block g c =
     c.requires.reach c.requires.within
 
 pub filter_block-requires-clause-some : goal.filter_block-requires-clause-some
-filter_block-requires-clause-some g c = elim c.else-moved-eq0.branch [
-  | else-moved-eq0-via-then-moved-eq0+else-moved-eq0-2 w ↦ inr w.if-moved-eq0-2.false
-  | else-moved-eq0-via-else-moved-eq0 w ↦ inl w.if-moved-eq0.false
-]
+filter_block-requires-clause-some g c = grind (arith, c.else-moved-eq0.branch)
 
 pub returns-then-area-eq0 : goal.returns-then-area-eq0
 returns-then-area-eq0 g c = λ around same. sym (paint_empty c.args.stride c.args.area _ c.args.samples.now (inr c.if-area-eq0.true))
@@ -43,10 +39,7 @@ pub returns-else-moved-eq0 : goal.returns-else-moved-eq0
 returns-else-moved-eq0 g c = λ around same.
     let a = c.args in
     let m = a.moved in
-    let some : (m.col_frac ≢ 0) ⊎ (m.row_frac ≢ 0) = elim c.else-moved-eq0.branch [
-      | else-moved-eq0-via-then-moved-eq0+else-moved-eq0-2 w ↦ inr w.if-moved-eq0-2.false
-      | else-moved-eq0-via-else-moved-eq0 w ↦ inl w.if-moved-eq0.false
-    ] in
+    let some : (m.col_frac ≢ 0) ⊎ (m.row_frac ≢ 0) = grind (arith, c.else-moved-eq0.branch) in
     c.filter_block.ensures
     ∙ paint_same a.stride a.area _ (λ r q _. g.T.Pixel.pixel (single a.bit_depth m.col_frac m.row_frac (filter_of m.mode_x m.col_frac a.area.width)
     (filter_of m.mode_y m.row_frac a.area.height) around r q)) a.samples.now

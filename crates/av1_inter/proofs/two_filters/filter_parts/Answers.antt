@@ -1,17 +1,8 @@
-use Rattle.std.proofs.Common.{arith, ap, inr, refl, sym, ◌≡◌, ◌+◌, ◌∙◌}
-use Rattle.av1_frame.specs.Samples.{corner}
-use Rattle.av1_frame.proofs.Paint.{paint_empty}
+use Rattle.std.proofs.Common.{arith, ap, ◌≡◌, ◌+◌, ◌∙◌}
 use Rattle.av1_inter.specs.Scaffolding.{both_ways, sample_of}
 use Rattle.av1_inter.proofs.Parts.{both_moved}
 use Rattle.av1_inter.proofs.Strips.{paint_below, part_is_block}
 use Rattle.av1_inter.proofs.two_filters.filter_parts.Goals as goal
-
-pub loop-first-init : goal.loop-first-init
-loop-first-init g c =
-    record {
-      room = omega arith;
-      painted = sym (paint_empty c.args.stride (corner c.args.strip.now.area c.args.strip.now.area.width 0) _ c.args.target.now (inr refl));
-    }
 
 pub part_at-part-requires-clause-start : goal.part_at-part-requires-clause-start
 part_at-part-requires-clause-start g c =

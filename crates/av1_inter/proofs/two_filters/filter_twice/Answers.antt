@@ -1,17 +1,8 @@
-use Rattle.std.proofs.Common.{arith, ap, inl, refl, sym, ◌≡◌, ◌+◌, ◌∙◌}
-use Rattle.av1_frame.specs.Samples.{corner}
-use Rattle.av1_frame.proofs.Paint.{paint_empty}
+use Rattle.std.proofs.Common.{arith, ap, ◌≡◌, ◌+◌, ◌∙◌}
 use Rattle.av1_inter.specs.Scaffolding.{both_ways, sample_of}
 use Rattle.av1_inter.proofs.Parts.{both_moved}
 use Rattle.av1_inter.proofs.Strips.{paint_next, part_is_block}
 use Rattle.av1_inter.proofs.two_filters.filter_twice.Goals as goal
-
-pub loop-start-init : goal.loop-start-init
-loop-start-init g c =
-    record {
-      room = omega arith;
-      painted = sym (paint_empty c.args.stride (corner c.args.block.now.area 0 c.args.block.now.area.height) _ c.args.target.now (inl refl));
-    }
 
 pub part_at-strip-requires-clause-start : goal.part_at-strip-requires-clause-start
 part_at-strip-requires-clause-start g c =

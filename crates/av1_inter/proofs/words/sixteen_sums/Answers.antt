@@ -2,7 +2,7 @@ use Rattle.std.proofs.Common.{arith, rules, ◌≡◌, ◌+◌, ◌-◌, ◌*◌
 use Rattle.av1_inter.specs.Motion.{entry, sum_to}
 use Rattle.av1_inter.specs.Scaffolding.{crossed, IsWithin}
 use Rattle.av1_inter.proofs.Sums.{sum_ends}
-use Rattle.av1_inter.proofs.EightSums.{few_within, next_within, no_pairs, pair_next, pair_wide}
+use Rattle.av1_inter.proofs.EightSums.{held, next_within, no_pairs, pair_next, pair_wide}
 use Rattle.av1_inter.proofs.words.sixteen_sums.Goals as goal
 
 pub loop-pair-init : goal.loop-pair-init
@@ -12,8 +12,7 @@ loop-pair-init g c =
 
 pub add_products-requires : goal.add_products-requires
 add_products-requires g c =
-    let sums : (k : ℕ) → k < 16 → IsWithin (2 ^ 25) (entry c.loop-pair.sums k) = λ k h.
-    few_within c.loop-pair.pair _ (omega (arith, c.loop-pair-test.true)) (c.loop-pair.invariant.within k h) in
+    let sums = held c.loop-pair.invariant (omega (arith, c.loop-pair-test.true)) in
     let products : (k : ℕ) → k < 16 → IsWithin (2 ^ 25) (entry c.wide_pair_from-products.result k) =
     λ k h. pair_wide _ (c.wide_pair_from-products.ensures.within k h) in
     search (rules, sums, products)
@@ -40,4 +39,4 @@ returns-clause-value g c = λ k h.
     (c.loop-pair.invariant.known k h h ∙ ap (λ (n : ℕ). sum_to n (λ t. entry c.args.halves.now t *ℤ value t)) e)
 
 pub returns-clause-within : goal.returns-clause-within
-returns-clause-within g c = λ k h. few_within c.loop-pair.pair _ (omega (arith, c.loop-pair.auto.pair-end)) (c.loop-pair.invariant.within k h)
+returns-clause-within g c = held c.loop-pair.invariant (omega arith)
