@@ -14,7 +14,7 @@ pub enum Error {
         /// How many elements it needs.
         needed: usize,
     },
-    /// The input is longer than any plan (2^26 bytes) or any trace (2^27).
+    /// The input is longer than any plan (2^26 bytes).
     TooLong,
     /// The input is not a well-formed plan. Its first bad field is truncated, not valid, or left
     /// over after the end.
