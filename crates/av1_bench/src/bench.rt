@@ -1,4 +1,4 @@
-//! Reconstructs a plan many times, and sums its samples.
+//! Reads a plan from a source, reconstructs it many times, and writes four lines of sums to a sink. Allocates.
 ghost use Rattle.av1_recon.specs.Lines.{sum_lines};
 ghost use Rattle.av1_recon.specs.Outcomes.{Converts};
 

@@ -1,4 +1,4 @@
-//! Reads the command line's arguments.
+//! Parses the arguments: a number of rounds, or the number of a plan to write. Does no I/O.
 ghost use Rattle.std.specs.Prelude.{◌≡◌, ℕ, None, IfSome, map, string_bytes};
 ghost use Rattle.std.specs.NonZero.{non_zero_u32_get};
 ghost use Rattle.av1_bench.specs.Count.{IsCount, made_of};

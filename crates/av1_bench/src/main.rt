@@ -1,5 +1,5 @@
-//! Reconstructs the plan on standard input N times, where N is the only argument. Then it prints the number of the
-//! plan's leaves and the sums of the visible samples of its planes.
+//! Reconstructs the plan on standard input N times, where N is the only argument, and prints its sums.
+//! The sums are of the visible samples of each plane. It also prints the number of leaves. `make N` writes plan N.
 //!
 //! The plan is read, parsed and checked once, and one state serves all reconstructions. So the difference in time
 //! between two values of N is only the time of reconstruction. [`program::run`] is all that the program does. This file

@@ -1,4 +1,4 @@
-//! All that the program does.
+//! Runs `av1_bench`: reads a plan and writes its sums, or writes a made plan; an error goes to `err`. Allocates.
 ghost use Rattle.std.specs.Prelude.{◌≡◌, ℕ, Some, None, map, string_bytes};
 ghost use Rattle.av1_recon.specs.Answers.{HasLine, status_of, line_of};
 ghost use Rattle.av1_recon.specs.Lines.{sum_lines};

@@ -1,4 +1,4 @@
-//! Appends the fields of a leaf to the bytes of a plan, in the caller's buffer.
+//! Appends the fields of a leaf to the bytes of a plan, in the caller's buffer. Does not allocate.
 
 ghost use Rattle.std.specs.Prelude.{◌≡◌, ◌<◌, ◌≤◌, ◌+◌, ◌*◌, ◌++◌, ◌^◌, true, length, map, take, is_some, if◌then◌else◌, IfErr, IfOk, OnErr, OnOk};
 ghost use Rattle.std.specs.List.{All};

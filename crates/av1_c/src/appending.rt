@@ -1,4 +1,4 @@
-//! Appends fields to the bytes of a plan, in the caller's buffer.
+//! Appends bytes and planes to the bytes of a plan, in the caller's buffer. Does not allocate.
 
 ghost use Rattle.std.specs.Prelude.{◌≡◌, ◌<◌, ◌≤◌, ◌+◌, ◌++◌, ◌^◌, length, IfErr, IfOk, OnErr};
 ghost use Rattle.av1_planwrite.specs.Text.{plane_text};

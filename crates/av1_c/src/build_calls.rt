@@ -1,4 +1,4 @@
-//! The calls of a builder that append a header, planes and marks.
+//! C calls that append a header, planes or a mark. Write the caller's builder and buffer; do not allocate.
 
 ghost use Rattle.std.specs.Prelude.{◌≡◌, ◌≢◌, true, length, OnErr, OnOk};
 ghost use Rattle.av1_plan.specs.Plan.{PlanValue};

@@ -1,4 +1,4 @@
-//! Why a builder's call fails, and its status.
+//! The faults of a builder's call, and the status of each. Writes nothing.
 
 ghost use Rattle.std.specs.Prelude.{◌≡◌};
 ghost use Rattle.av1_c.specs.BuildFaults.{answered, build_status};

@@ -1,4 +1,4 @@
-//! The call of a builder on leaves.
+//! The C call that appends a leaf. Writes the caller's builder, buffer and `field`; does not allocate.
 
 ghost use Rattle.std.specs.Prelude.{◌≡◌, ◌≢◌, ◌<◌, ◌&&◌, ◌^◌, true, [], Some, length, IfErr, OnErr, OnOk};
 ghost use Rattle.av1_plan.specs.Plan.{PlanValue};

@@ -1,4 +1,4 @@
-//! The call of a builder that says what the plan needs next.
+//! The C call that says what a plan needs next. Writes only the caller's `next`; does not allocate.
 
 ghost use Rattle.std.specs.Prelude.{◌≡◌, ◌≢◌, ℕ, List, true, [], take, if◌then◌else◌};
 ghost use Rattle.av1_plan.specs.Grammar.{plan};

@@ -1,4 +1,4 @@
-//! A builder of plans in the caller's memory.
+//! A builder of plans as numbers in the caller's memory, and its conversion to `Progress` and back. Never allocates.
 
 ghost use Rattle.std.specs.Prelude.{◌≡◌, true, map};
 ghost use Rattle.std.specs.List.{list_all};

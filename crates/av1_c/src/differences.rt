@@ -1,4 +1,4 @@
-//! Lists the differences between a plan and planes in another encoder's memory, in the caller's buffer.
+//! The C call that lists where planes differ from a plan. Writes `room`, `found` and `refusal`, and allocates.
 ghost use Rattle.std.specs.Prelude.{◌≡◌, true, ◌++◌, ◌<◌, ◌≤◌, IfOk, None, OnOk, length, map, slice_index_or};
 ghost use Rattle.av1_c.specs.TraceCalls.{AreGiven, IsGiven, ListsDifferences, ListsOf, difference_numbers, given, given_differences, given_of};
 ghost use Rattle.av1_c.specs.TraceCalls.{given_plane, listed, planes_in, rows_in, visible_rows};

@@ -1,4 +1,4 @@
-//! Why a call on a plan fails, its status, and what the caller learns about the plan.
+//! Why a call on a plan fails: its status, and what it writes to the caller's `refusal` and length.
 ghost use Rattle.std.specs.Prelude.{◌≡◌};
 ghost use Rattle.av1_c.specs.Faults.{kind_number, invalid_fault, plan_fault, plan_length_told, status_of, told};
 ghost use Rattle.av1_c.specs.declared.fault.PlanCallFault.TheVariants as faults;

@@ -1,4 +1,4 @@
-//! A sink that collects bytes in memory.
+//! A sink that collects bytes in memory. Each write may allocate.
 ghost use Rattle.std.specs.Prelude.{◌≡◌, ◌<◌, [], length, IfOk};
 ghost use Rattle.std.specs.Io.{WritesAtMost};
 ghost use Rattle.std.specs.Io.KnownBytes.{WriteAppends};

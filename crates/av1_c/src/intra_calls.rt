@@ -1,5 +1,5 @@
-//! Intra prediction for C: the calls on blocks, edges, chroma from luma and their arguments. Each call is the call of
-//! `av1_calls` with the same name. Its documentation is there.
+//! C calls for intra prediction. Each passes its arguments to the call of `av1_calls` with its name. None allocates.
+//! The documentation is in `av1_calls`. The calls are on blocks, edges, chroma from luma and their arguments.
 ghost use Rattle.av1_blocks.specs.declared.predict.PredictionMode.TheVariants as modes;
 ghost use Rattle.av1_calls.specs.CflPads.{FindsChroma};
 ghost use Rattle.av1_calls.specs.IntraBlocks.{Predicts, PredictsBy};

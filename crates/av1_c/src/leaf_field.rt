@@ -1,4 +1,4 @@
-//! Which field of a leaf a builder rejects.
+//! Finds which field of a leaf a builder rejected, and writes the field's number to the caller's `field`.
 
 ghost use Rattle.std.specs.Prelude.{◌≡◌};
 ghost use Rattle.av1_planwrite.specs.Building.{is_named};

@@ -1,4 +1,4 @@
-//! The fields of a leaf as numbers, for C.
+//! The fields of a leaf as numbers for C, and their conversion to the types of plans. Does not allocate.
 
 ghost use Rattle.std.specs.Prelude.{◌≡◌};
 ghost use Rattle.av1_c.specs.Leaves.{are_numbers, chroma_of, kind_of, mode_of, reference_of, triple_of, tx_size_of, tx_type_of, uv_type_of, vector_of};

@@ -1,4 +1,4 @@
-//! Block reconstruction for C: the calls that the static library exports, over the caller's memory.
+//! Block reconstruction for C: exported calls over the caller's memory. Only calls that reconstruct plans allocate.
 //!
 //! - [`tilg_planes_len`] gives the length of a plan's planes in bytes. [`tilg_reconstruct_plan`] writes the planes to
 //!   the caller's buffer.
@@ -10,15 +10,15 @@
 //!   `av1_calls`. They do not allocate either.
 //! - [`tilg_version_0_4`] gives the version of the library that is linked.
 //!
-//! Each call tests all of its arguments and returns a status of `src/status.rt` or of `av1_calls`. A test can't check
-//! pointers. So the caller has to ensure two things:
+//! Each call tests its arguments and returns a status of `src/status.rt` or of `av1_calls`. No test can check pointers,
+//! and five calls don't test samples (see `av1_calls`). So the caller has to ensure three things:
 //!
 //! - Each pointer leads to as many elements as the length beside it says.
 //! - Memory that a call writes overlaps no other memory that the call uses.
+//! - The samples that these five calls read fit the depth.
 //!
-//! This crate uses `av1_plan` for the grammar and the check of plans, and `av1_recon` for the planes of a plan. It uses
-//! `av1_tiles` and `av1_sequence` for grids and sequences, and `av1_trace` for the length of planes and for traces. It
-//! uses `av1_planwrite` for the fields that a plan needs next and their bytes, and `av1_calls` for single blocks.
+//! This crate uses `av1_plan` and `av1_recon` for plans, `av1_tiles` for grids and `av1_sequence` for sequences. It
+//! uses `av1_trace` for traces and the length of planes, `av1_planwrite` to build plans, and `av1_calls` for blocks.
 //!
 //! What the calls promise:
 //!

@@ -1,5 +1,5 @@
-//! Prediction from references for C. Each call is the call of `av1_calls` with the same name. Its documentation is
-//! there.
+//! C calls for motion. Each passes its arguments to the call of `av1_calls` with its name. None allocates.
+//! The documentation is in `av1_calls`.
 ghost use Rattle.std.specs.Prelude.{false, true};
 ghost use Rattle.av1_calls.specs.Motions.{Averages, IsReadWithin, Prepares, Puts, place};
 ghost use Rattle.av1_calls.specs.MovedBlocks.{AreMovedWithin, PreparesMoved, PutsMoved};

@@ -1,4 +1,4 @@
-//! Why a call on tiles or a sequence fails, its status, and what the caller learns about the bytes.
+//! Why a call on tiles or a sequence fails: its status, and what it writes to `refusal` and the length.
 ghost use Rattle.std.specs.Prelude.{◌≡◌};
 ghost use Rattle.av1_c.specs.PartFaults.{field_of, frame_fault, in_part, length_told, part_status, part_told, sequence_fault, tiles_fault};
 

@@ -1,4 +1,4 @@
-//! Writes planes to the front of the caller's buffer.
+//! Copies planes to the front of the caller's buffer, if they fit. Does not allocate.
 ghost use Rattle.std.specs.Prelude.{◌≡◌, ◌<◌, IfOk, IfErr, OnErr, length};
 ghost use Rattle.av1_c.specs.Plans.{AreWritten};
 ghost use Rattle.av1_c.specs.declared.part_fault.PartFault.TheVariants.{RoomTooSmall};

@@ -1,4 +1,4 @@
-//! The header of a plan as numbers, for C.
+//! The header of a plan as numbers for C, and its conversion to `Header`. Does not allocate.
 
 ghost use Rattle.std.specs.Prelude.{◌≡◌};
 ghost use Rattle.av1_c.specs.Builders.{header_of};

@@ -1,4 +1,4 @@
-//! Computes the length of a plan's planes in bytes.
+//! The C call that gives the length of a plan's planes. Writes `len` or `refusal`; does not allocate.
 ghost use Rattle.std.specs.Prelude.{◌≡◌, ◌≢◌, ◌⊎◌, ◌↔◌, ℕ, ◌<◌, ◌≤◌, length, Err, IfOk, IfErr, IsOkAnd, IsErrOf};
 ghost use Rattle.av1_plan.specs.Plan.{PlanValue};
 ghost use Rattle.av1_plan.specs.declared.header.Header.{Header};

@@ -1,4 +1,4 @@
-//! Reconstructs a plan and writes its planes to the caller's memory.
+//! Reconstructs a plan, and writes its planes to the caller's memory. Also writes `written`, `refusal`; allocates.
 ghost use Rattle.std.specs.Prelude.{◌≡◌, ◌≢◌, ◌⊎◌, ◌↔◌, ℕ, ◌<◌, ◌≤◌, None, length, Err, IfOk, IfErr, OnErr};
 ghost use Rattle.av1_plan.specs.Values.{plan_value};
 ghost use Rattle.av1_plan.specs.Validity.{first_fault};

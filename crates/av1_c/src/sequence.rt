@@ -1,4 +1,4 @@
-//! Reconstructs a sequence of frames and writes the planes of shown frames to the caller's memory.
+//! Reconstructs a sequence, and writes shown planes to the caller's memory, `written` and `refusal`. Allocates.
 ghost use Rattle.std.specs.Prelude.{ℕ, List, Ok, IfOk, IfErr, OnErr, ◌≡◌, length};
 ghost use Rattle.av1_c.specs.Parts.{IsPartCause, PutsPlanes};
 ghost use Rattle.av1_c.specs.Plans.{AreWritten};

@@ -1,5 +1,5 @@
-//! The statuses that only calls on plans return. The other statuses are in `av1_calls`. C's header and the Rust crate
-//! use the same numbers and names.
+//! The statuses that only calls on plans return: only constants. The other statuses are in `av1_calls`.
+//! C's header and the Rust crate use the same numbers and names.
 
 /// Memory ran out.
 pub const OUT_OF_MEMORY: u32 = 1;

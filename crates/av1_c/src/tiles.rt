@@ -1,4 +1,4 @@
-//! Reconstructs a grid of tiles and writes the planes of its frame to the caller's memory.
+//! Reconstructs a grid of tiles, and writes its planes to the caller's memory, `written` and `refusal`. Allocates.
 ghost use Rattle.std.specs.Prelude.{ℕ, List, Ok, IfOk, IfErr, OnErr, ◌≡◌, length};
 ghost use Rattle.av1_c.specs.Parts.{IsPartCause, PutsPlanes};
 ghost use Rattle.av1_c.specs.Plans.{AreWritten};

@@ -1,4 +1,4 @@
-//! Residuals of blocks for C. Each call is the call of `av1_calls` with the same name. Its documentation is there.
+//! C calls that add residuals. Each passes its arguments to the call of `av1_calls` with its name. None allocates.
 ghost use Rattle.std.specs.Prelude.{false, true};
 ghost use Rattle.av1_calls.specs.Transforms.{AddsResidue};
 

@@ -1,4 +1,4 @@
-//! The version of the static library.
+//! The version of the static library: a constant, and the C call that returns it.
 ghost use Rattle.std.specs.Prelude.{◌≡◌};
 
 /// The version: major times 65,536, minor times 256, patch. It is `TILG_VERSION` in C's header and `VERSION` in the

@@ -1,4 +1,4 @@
-//! The arguments that calls on a block share, and why a call rejects one.
+//! Why calls on a block reject their arguments, and the tests that several calls share. Writes nothing.
 ghost use Rattle.std.specs.Prelude.{◌≡◌, true, ◌*◌, ◌≤◌};
 ghost use Rattle.av1_blocks.specs.Depths.{IsDepth};
 ghost use Rattle.av1_frame.specs.Areas.{AreRows};

@@ -1,4 +1,4 @@
-//! Finds the block of chroma that is predicted from a block's luma, and how much of it has no luma of its own.
+//! Tests its arguments, then computes the chroma block that is predicted from a block's luma. Writes only the result.
 //!
 //! AV1 specification: predict chroma from luma process.
 ghost use Rattle.std.specs.Prelude.{◌≡◌, true, ◌*◌, ◌<◌, ◌≤◌, None, IfOk, IfErr, IfSome};
@@ -119,7 +119,7 @@ fn padded(luma: LumaLeafBlock, sizes: Sizes) -> CflBlock
     }
 }
 
-/// The block of chroma of a block in numbers.
+/// The chroma block of a block that numbers describe.
 ///
 /// # Errors
 ///

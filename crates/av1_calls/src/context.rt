@@ -1,4 +1,4 @@
-//! Scratch memory that a caller makes once, for all calls that need some.
+//! The type `Context`: scratch memory that a caller makes once, for all calls that need some. Does not allocate.
 use av1_itx::TxRoom;
 
 /// How many samples a block of 128 by 128 samples reads at most, with 7 columns and 7 rows more.

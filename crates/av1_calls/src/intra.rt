@@ -1,4 +1,4 @@
-//! Intra prediction of a block in the caller's samples, from the edge that the caller passes.
+//! Tests its arguments, then predicts a block from the caller's edge. Writes the block's rectangle of the samples.
 //!
 //! AV1 specification: intra prediction process.
 ghost use Rattle.std.specs.Prelude.{◌≡◌, ◌+◌, ◌*◌, ◌≤◌, IfOk, IfErr, IfSome, IsTrue, None, true, unsigned_abs};

@@ -1,4 +1,4 @@
-//! Prepares the edge of a transform, from which an intra mode predicts the transform, from the samples of its plane.
+//! Tests its arguments, then writes a transform's edge to the caller's buffer. Only reads the plane's samples.
 //!
 //! AV1 specification: intra prediction process: general.
 ghost use Rattle.std.specs.Prelude.{◌≡◌, ◌+◌, ◌*◌, ◌^◌, ◌<◌, ◌≤◌, Option, IfOk, IfErr, true, length, pos};

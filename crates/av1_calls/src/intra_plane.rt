@@ -1,4 +1,4 @@
-//! Predicts a transform in the samples of its plane, from the edge that is prepared there.
+//! Tests its arguments, then predicts a transform from its neighbours. Writes its rectangle of the plane's samples.
 //!
 //! AV1 specification: intra prediction process.
 ghost use Rattle.std.specs.Prelude.{◌≡◌, ◌<◌, length, take, drop};

@@ -1,4 +1,4 @@
-//! Calls on one block of samples. Each call tests all of its arguments.
+//! Calls on one block: each tests its arguments, writes the caller's buffers, returns a status. No allocation, no I/O.
 //!
 //! - Residual: [`tilg_inverse_transform_add_8`] and [`tilg_inverse_transform_add_16`] add the residual of a block to
 //!   samples, by AV1's rule. [`tilg_inverse_transform_add_rav1e_16`] adds the residual by rav1e's rule.
@@ -15,8 +15,8 @@
 //! - Arguments: [`tilg_cfl_block_of`] computes numbers that [`tilg_cfl_ac_8`] and [`tilg_cfl_ac_tested_16`] require.
 //!
 //! [`tilg_put_tested_16`], [`tilg_prep_tested_16`], [`tilg_put_moved_16`], [`tilg_prep_moved_16`] and
-//! [`tilg_cfl_ac_tested_16`] do not test the samples that they read. For these calls, [`tilg_test_samples_16`] tests
-//! samples once.
+//! [`tilg_cfl_ac_tested_16`] require that samples fit the depth, but do not test this. For these calls,
+//! [`tilg_test_samples_16`] tests samples once.
 //!
 //! This crate uses `av1_itx` for transforms and `av1_inter` for motion, and `av1_edges` and `av1_intra` for intra
 //! prediction. `av1_c` exports the calls for C.
@@ -24,7 +24,7 @@
 //! What the calls promise:
 //!
 //! - No call allocates, and each call returns. The result is one of the statuses of `src/status.rt`.
-//! - Only the five calls that don't test samples have a requirement: no sample that they read is past the depth.
+//! - Only those five calls require something: samples within the depth, or ([`tilg_cfl_ac_tested_16`]) below 4096.
 //! - Valid arguments give [`DONE`], and [`DONE`] says that the arguments are valid.
 //! - After [`DONE`] the contract says what was written: samples (`specs/Transforms.antt`, `specs/Motions.antt`,
 //!   `specs/MovedBlocks.antt`, `specs/IntraBlocks.antt`, `specs/IntraEdges.antt`, `specs/IntraPlanes.antt`),

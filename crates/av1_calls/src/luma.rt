@@ -1,4 +1,4 @@
-//! Computes how far luma is from its mean over each sample of a block of chroma.
+//! Tests its arguments, then writes how far luma over a chroma block is from its mean to the caller's list.
 //!
 //! AV1 specification: predict chroma from luma process.
 ghost use Rattle.std.specs.Prelude.{true, ◌≡◌, ℕ, ◌+◌, ◌-◌, ◌*◌, ◌^◌, ◌<◌, ◌≤◌, min, map, IfOk, IfErr, IfSome, None, length};

@@ -1,4 +1,4 @@
-//! Averages two prepared blocks.
+//! Tests its arguments, then averages two prepared blocks. Writes a rectangle of the caller's samples.
 //!
 //! AV1 specification: block inter prediction process, and the average of its two predictions.
 ghost use Rattle.std.specs.Prelude.{true, false, IfOk, IfErr};

@@ -1,4 +1,4 @@
-//! Blocks of references: which arguments are valid, and which samples a block reads.
+//! Tests the arguments of motion calls, and computes which samples a block reads. Writes nothing.
 ghost use Rattle.std.specs.Prelude.{◌≡◌, true, ◌≤◌, IfOk, IfErr, length, drop};
 ghost use Rattle.av1_frame.specs.Samples.{row_start};
 ghost use Rattle.av1_inter.specs.Places.{read_before, read_beside};

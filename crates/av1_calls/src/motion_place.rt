@@ -1,4 +1,4 @@
-//! Finds where a block that a vector moves is read in its reference.
+//! Computes where a block that a vector moves is read in its reference. Writes nothing.
 //!
 //! AV1 specification: motion vector scaling process at a scale of one, block inter prediction process.
 ghost use Rattle.std.specs.Prelude.{◌≡◌, true, ◌+◌, ◌<◌, ◌≤◌, ◌-ℤ◌, ◌≤ℤ◌, pos};

@@ -1,4 +1,4 @@
-//! Blocks that vectors move in planes without margins: where a block is read, and which samples are gathered for it.
+//! Tests what a moved block reads in a plane without margins, and gathers it. Writes only the scratch window.
 ghost use Rattle.std.specs.Prelude.{◌≡◌, true, ◌+◌, ◌≤◌, ◌-ℤ◌, ◌≤ℤ◌, length, map, pos};
 ghost use Rattle.av1_calls.specs.MotionPlaces.{IsPlaceOf};
 ghost use Rattle.av1_calls.specs.Motions.{AreSides, IsSource, read_at};

@@ -1,4 +1,4 @@
-//! Prepares a block for the average with another block.
+//! Tests its arguments, then prepares a block for the average with another block. Writes the caller's values.
 //!
 //! AV1 specification: block inter prediction process, with the rounding of compound prediction.
 ghost use Rattle.std.specs.Prelude.{true, false, ℕ, IfOk, IfErr, map, length};
@@ -13,8 +13,8 @@ use crate::status::DONE;
 use av1_frame::Pixel;
 use av1_inter::prep_8tap_from;
 
-/// Writes the prepared values of the block to the front of `values`. It is the block of any samples that have, round
-/// it, what is read.
+/// Writes the prepared values of the block to the front of `values`. They depend only on the samples that are read for
+/// the block.
 #[inline(always)]
 pub(crate) fn prep<T: Pixel>(
     values: &mut [i16],

@@ -1,4 +1,4 @@
-//! Prepares a block that a vector moves, from a plane without margins, for the average with another block.
+//! Tests its arguments, then prepares a block that a vector moves. Writes the caller's values and scratch memory.
 //!
 //! AV1 specification: block inter prediction process, with the rounding of compound prediction.
 ghost use Rattle.std.specs.Prelude.{true, false, ◌≡◌, ◌*◌, ◌≤◌, IfOk, IfErr, map, length};

@@ -1,4 +1,4 @@
-//! Predicts a block from one reference.
+//! Tests its arguments, then predicts a block from one reference. Writes its rectangle of the caller's samples.
 //!
 //! AV1 specification: block inter prediction process.
 ghost use Rattle.std.specs.Prelude.{true, false, ◌≡◌, ℕ, ◌≤◌, IfOk, IfErr, map, length};
@@ -14,7 +14,7 @@ use crate::status::DONE;
 use av1_frame::Pixel;
 use av1_inter::put_8tap_to;
 
-/// Writes the block to its rectangle. It is the block of any samples that have, round it, what is read.
+/// Writes the block to its rectangle. It depends only on the samples that are read for it.
 #[inline(always)]
 pub(crate) fn put<T: Pixel>(
     dst: &mut [T],

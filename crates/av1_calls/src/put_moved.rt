@@ -1,4 +1,4 @@
-//! Predicts a block that a vector moves, from a plane without margins.
+//! Tests its arguments, then predicts a block that a vector moves. Writes its rectangle and scratch memory.
 //!
 //! AV1 specification: block inter prediction process.
 ghost use Rattle.std.specs.Prelude.{true, false, ◌≡◌, ◌≤◌, IfOk, IfErr, map, length};

@@ -1,4 +1,4 @@
-//! Tests whether the caller's samples fit a depth.
+//! Tests whether the caller's samples fit a depth, and whether a rectangle lies in them. Writes nothing.
 ghost use Rattle.std.specs.Prelude.{◌≡◌, true, ℕ, ◌+◌, ◌*◌, ◌^◌, ◌<◌, ◌≤◌, length, slice_index};
 ghost use Rattle.av1_blocks.specs.Depths.{IsDepth};
 ghost use Rattle.av1_calls.specs.Samples.{AreBelow, AreHeld, AreLanesBelow, IsGreatest, TakesIn, TakesInRows, rectangle_of};

@@ -1,4 +1,4 @@
-//! The statuses that calls return. C's header and the Rust crate use the same numbers and names.
+//! The statuses that calls return: only constants. C's header and the Rust crate use the same numbers and names.
 
 /// Success.
 pub const DONE: u32 = 0;

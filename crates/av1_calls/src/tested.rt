@@ -1,4 +1,4 @@
-//! Tests samples for a depth once, so that calls need not test them again.
+//! Tests samples for a depth once, so that calls need not test them again. Writes nothing.
 ghost use Rattle.std.specs.Prelude.{IfOk, IfErr};
 ghost use Rattle.av1_calls.specs.Samples.{rectangle_of};
 ghost use Rattle.av1_calls.specs.TestedSamples.{AreTested, IsTestFault, TestsSamples};
@@ -34,9 +34,9 @@ fn test_area(
     Ok(())
 }
 
-/// Tests that no sample of a rectangle is past a depth of 8, 10 or 12. `tilg_put_tested_16` and `tilg_prep_tested_16`
-/// require this of the samples that they read. The rectangle begins at column `x` of row `y`, and rows are `stride`
-/// samples apart. The last row may end with its samples.
+/// Tests that no sample of a rectangle is past a depth of 8, 10 or 12. `tilg_put_tested_16`, `tilg_prep_tested_16`,
+/// `tilg_put_moved_16` and `tilg_prep_moved_16` require this of the samples that they read. The rectangle begins at
+/// column `x` of row `y`, and rows are `stride` samples apart. The last row may end with its samples.
 ///
 /// `DONE`: no sample is past the depth. `BAD_AREA`: the rectangle does not lie in the samples. `BAD_DEPTH`: samples
 /// have no such depth. `BAD_SAMPLE`: a sample of the rectangle is past the depth.

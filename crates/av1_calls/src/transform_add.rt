@@ -1,4 +1,4 @@
-//! Adds the residual of a block to the caller's samples.
+//! Tests its arguments, then adds a block's residual to the caller's samples. Also writes scratch memory.
 ghost use Rattle.std.specs.Prelude.{true, false, ◌≡◌, ◌⊎◌, ℕ, ◌+◌, ◌<◌, ◌≤◌, IfOk, IfErr, length, pos, ◌+ℤ◌, ◌≤ℤ◌};
 ghost use Rattle.av1_blocks.specs.Depths.{IsDepth};
 ghost use Rattle.av1_dct.specs.Arithmetic.{at, FitsBits};

@@ -1,6 +1,6 @@
-//! Gathers the samples round a block that reads outside its plane to a window. Each sample of the window is the nearest
-//! visible one.
+//! Copies the samples that a block reads from its plane to a window. Writes only the window.
 //!
+//! Outside the plane, a sample of the window is the nearest visible sample.
 //! AV1 specification: block inter prediction process.
 ghost use Rattle.std.specs.Prelude.{◌≡◌, ◌+◌, ◌-ℤ◌, ◌+ℤ◌, ◌<◌, ◌≤◌, ◌≤ℤ◌, length, pos, slice_index_or};
 ghost use Rattle.av1_calls.specs.MovedBlocks.{AreParts, gathered_column, nearest_place, visible_of};
@@ -39,8 +39,8 @@ fn nearest_behind(first: isize, steps: usize, visible: usize) -> usize
     nearest(place, visible)
 }
 
-/// How the columns of a window's row lie in a plane: the first `before` before the first visible column, then `inside`
-/// visible ones from column `start` on, and the others after the last visible column.
+/// How the columns of a window's row lie in a plane. The first `before` columns precede the first visible one. Then
+/// come `inside` visible ones from column `start` on, and the others follow the last visible one.
 #[derive(Clone, Copy)]
 struct Parts {
     before: usize,

@@ -1,4 +1,4 @@
-//! The parts of a plan.
+//! Lends the header, leaves, triples and reference planes of a plan. Changes nothing and does not allocate.
 
 use crate::header::Header;
 use crate::leaf::{Leaf, Triple};
@@ -27,8 +27,8 @@ impl Plan {
     /// The leaves, in coding order: the leaves of one tree of marks for each superblock.
     pub fn leaves(&self) -> &[Leaf]
         ensures items { result.now ≡ stored_leaves self.now }
-        // Each lies on its grid. It has a chroma type exactly if it carries chroma, and so for the chroma mode if it is
-        // intra.
+        // Each lies on its grid. It has a chroma type exactly if it carries chroma. An intra leaf has a chroma mode
+        // exactly if it carries chroma.
         ensures read { All (IsReadLeaf (plan_value self.now).header) (plan_value self.now).leaves }
         ensures order { ∥ AreInCodingOrder (plan_value self.now).header (λ l. l) (plan_value self.now).leaves ∥₁ }
     {

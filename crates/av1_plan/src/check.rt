@@ -1,4 +1,4 @@
-//! Which plans are valid.
+//! Decides whether a plan is valid, and finds its first faulty leaf. Changes nothing and does not allocate.
 
 ghost use Rattle.std.specs.Prelude.{◌≡◌, ◌+◌, ◌^◌, ◌<◌, ◌≤◌, OnOk, IfErr, IfSome, true, Some, None, slice_get, ◌&&◌, not, pos, neg_ℤ, int_lt, nat_lt, ◌≤ℤ◌};
 ghost use Rattle.av1_blocks.specs.Transforms.{coded_area};
@@ -104,7 +104,7 @@ fn is_chroma_mode(size: BlockSize, chroma: ChromaMode) -> bool
     }
 }
 
-/// Whether a leaf of this size may be predicted from references in each version: no side is under 8.
+/// Whether every version allows references in a leaf of this size: at least 8x8.
 #[tactic(auto, unfolding(crate::specs::Validity::is_inter_size))]
 pub fn is_inter_size(size: BlockSize) -> bool
     ensures { result ≡ is_inter_size size }
@@ -112,8 +112,8 @@ pub fn is_inter_size(size: BlockSize) -> bool
     8 <= size.width() && 8 <= size.height()
 }
 
-/// Whether a leaf of this size may be predicted from references: in the third version any leaf, before it a leaf
-/// without a side under 8.
+/// Whether the header's version allows references in a leaf of this size. Version 3 allows them in every leaf, versions
+/// 1 and 2 only from 8x8 on.
 #[tactic(auto, unfolding(crate::specs::Validity::admits_references))]
 pub fn admits_references(header: &Header, size: BlockSize) -> bool
     ensures { result ≡ admits_references header.now size }
@@ -235,7 +235,7 @@ fn is_of_block(last: Option<Triple>, triple: &Triple) -> bool
 }
 
 /// Whether the area has the block of a triple, and the block begins in the coded plane `p`. The block of the last
-/// triple, if there is one, is such a block.
+/// triple (if there is one) was tested before.
 #[tactic(auto, unfolding(crate::specs::Geometry::transform_block))]
 fn has_block(
     header: &Header,
@@ -273,8 +273,8 @@ fn follows(last: Option<Triple>, triple: &Triple) -> bool
     }
 }
 
-/// Whether a triple may follow the last one, and names a block of the area that begins in the coded plane `p`, a place
-/// in the block and a value in range. The block of the last triple, if there is one, is such a block.
+/// Whether a triple may follow the last one. It has to name a block of the area that begins in the coded plane `p`, a
+/// place in the block and a value in range. The block of the last triple (if there is one) was tested before.
 fn is_next(
     header: &Header,
     p: usize,

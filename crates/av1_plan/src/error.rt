@@ -1,4 +1,4 @@
-//! Why bytes are not the text of a plan, and why a plan is not valid.
+//! The errors of reading a plan (a malformed field, no memory) and of checking it (an invalid leaf).
 
 ghost use Rattle.std.specs.Prelude.{◌≡◌};
 ghost use Rattle.av1_plan.specs.declared.error.PlanError.TheVariants.{Memory};

@@ -1,4 +1,4 @@
-//! A large plan from a number, for measurements and trials.
+//! Makes a large plan from a number, for measurements and trials. Allocates the plan's bytes; does no I/O.
 //!
 //! `make_plan` draws a plan of 512 by 512 luma samples: every mark, every kind of leaf and the coefficients. The
 //! numbers come from a linear congruential generator, whose seed is the number. `make_plan_in` draws a plan of any

@@ -1,6 +1,6 @@
-//! The part of each plane that a leaf covers.
+//! Computes which part of each plane a leaf covers, and where its transform blocks begin. Changes nothing.
 //!
-//! Plane 0 is Y, 1 is U and 2 is V. The check and the reconstruction both take the geometry of a leaf from here.
+//! Plane 0 is Y, 1 is U, 2 is V. The check and the walk take rectangles from here. The walk places transform blocks.
 
 ghost use Rattle.std.specs.Prelude.{◌≡◌, ◌≤◌, ◌<◌};
 ghost use Rattle.av1_plan.specs.Geometry.{coded_side, carries_chroma, covers_plane, plane_place, plane_size, plane_tx_size, plane_area};
@@ -156,7 +156,7 @@ impl Header {
 }
 
 /// Whether a leaf of this size, at column `x` and row `y` of luma, carries chroma. In a halved direction a leaf of side
-/// 4 at an even cell does not. The leaf after it carries the chroma of both.
+/// 4 at an even cell does not. Up to four leaves share a chroma block, and the last in coding order carries it.
 #[tactic(auto, unfolding(crate::specs::Geometry::carries_chroma))]
 pub fn carries_chroma(header: &Header, x: u16, y: u16, size: BlockSize) -> bool
     ensures { result ≡ carries_chroma header.now x y size }
@@ -223,7 +223,7 @@ impl Leaf {
         p == 0 || self.carries_chroma(header)
     }
 
-    /// The leaf's rectangle in plane `p`, if it covers a part of the plane.
+    /// The leaf's rectangle in plane `p`. Call it only if the leaf covers a part of the plane.
     #[inline(always)]
     #[tactic(auto, unfolding(crate::specs::Geometry::plane_area))]
     pub fn plane_area(&self, header: &Header, p: usize) -> PlaneArea

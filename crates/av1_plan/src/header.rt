@@ -1,4 +1,4 @@
-//! The header of a plan.
+//! The type `Header`: a plan's version, dimensions, depth, sampling, filters and reference slots.
 
 use av1_blocks::FilterMode;
 

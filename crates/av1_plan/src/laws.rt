@@ -19,8 +19,8 @@ pub fn the_second_version_keeps_the_first()
     ensures { SecondKeepsFirst }
 {}
 
-/// A plan of the second version is also one of the first, with the letters `RPL1`, if no side of a leaf is more than
-/// twice the other.
+/// A plan of the second version is, with the letters `RPL1`, also one of the first. The condition is that no side of a
+/// leaf is more than twice the other.
 pub fn the_first_version_has_the_rest()
     ensures { FirstHasRest }
 {}

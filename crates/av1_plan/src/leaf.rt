@@ -1,4 +1,4 @@
-//! The leaves of a plan: the blocks that are predicted, and to which residuals are added.
+//! The types of a leaf: its position and size, prediction, transforms, and where its coefficients are.
 
 ghost use Rattle.std.specs.Prelude.{◌≡◌, ◌+◌, ◌<◌, sum, take, slice_index};
 

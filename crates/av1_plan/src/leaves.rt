@@ -1,4 +1,4 @@
-//! Leaves in memory, apart from their frame.
+//! The type `Leaves`: all leaves of a plan and their coefficients, in two lists that it lends to readers.
 
 ghost use Rattle.std.specs.Prelude.{◌≤◌, ◌^◌, length, vec_len};
 ghost use Rattle.av1_plan.specs.Plan.{Follow};

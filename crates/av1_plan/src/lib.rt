@@ -1,4 +1,4 @@
-//! Plans: the block decisions of a frame, as bytes, and which of them are valid.
+//! Plans, the block decisions of a frame: reads them from bytes, checks and generates them. Allocates; does no I/O.
 //!
 //! A plan says how a frame is cut into leaves, how each leaf is predicted, and which coefficients are added. The crate
 //! reads plans from bytes, checks them, and computes the part of each plane that a leaf covers. It takes the types of
@@ -8,7 +8,7 @@
 //!   names the first field that is cut, not valid or left over (`Malformed`). It takes time linear in the bytes. It
 //!   does not allocate for each leaf: leaves lie in one list, and their coefficients in another.
 //! - A `TreeWalk` gives the parts of a frame in coding order: the nodes of the partition tree, each before its own
-//!   parts, and the leaves. The caller says how a node is cut. The parser walks so, and so does the writer in
+//!   parts, and the leaves. The caller says how a node is cut. The parser uses it, and so does the writer in
 //!   `av1_planwrite`.
 //! - `parse_leaves` reads only the leaves, into a type of their own, `Leaves`. It is for callers that keep the header
 //!   and the references of a plan in another form. `check_leaves` checks them against the header that it is given.
@@ -30,7 +30,7 @@
 //!   first of its reasons (`specs/Validity.antt`): sizes, transforms, modes, vectors, references, and coefficients that
 //!   are strictly sorted by block and place.
 //! - A leaf's rectangle in a plane, the size of its transforms there and the blocks that begin in the frame are
-//!   computed only here (`specs/Geometry.antt`), for the check and for the reconstruction.
+//!   defined only here (`specs/Geometry.antt`). The check and the walk both compute them by this definition.
 //! - `make_plan` gives a large plan from a number, for measurements and trials. Its bytes are those of the definition
 //!   (`specs/Generator.antt`), and they are the text of a valid plan.
 #![tactic(auto)]

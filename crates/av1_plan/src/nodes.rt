@@ -1,4 +1,4 @@
-//! Nodes of the partition tree: their parts, the sizes of the parts, and the cut that a mark names.
+//! Tables of the partition tree: the cut that a mark names, and the sizes of the parts of a node.
 
 ghost use Rattle.std.specs.Prelude.{◌≡◌, ◌*◌, ◌≤◌};
 ghost use Rattle.av1_plan.specs.Grammar.{half_side, whole_size, part_size, cut_by};

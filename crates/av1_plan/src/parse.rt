@@ -1,4 +1,4 @@
-//! Reading a plan from bytes.
+//! Parses a slice of bytes into a `Plan`, or only into its `Leaves`. Allocates the result; does no I/O.
 
 ghost use Rattle.std.specs.Prelude.{◌≡◌, ◌≤◌, ◌^◌, List, length, IfOk, MatchResult, vec_len};
 ghost use Rattle.av1_plan.specs.declared.error.PlanError.TheVariants.{Memory};
@@ -41,8 +41,8 @@ fn read_plan(alloc: Global, bytes: &[u8]) -> Result<Plan, PlanError>
 ///
 /// # Errors
 ///
-/// `Malformed` names the start of the first field at which the bytes stop being a valid plan: a field that is cut, has
-/// a value that is not valid after the fields before it, or is left over. `Memory` if memory runs out.
+/// `Malformed` names the start of the first field at which the bytes stop being a valid plan. That field is cut, has a
+/// value that is not valid after the fields before it, or is left over. `Memory` if memory runs out.
 pub fn parse_plan(alloc: Global, bytes: &[u8]) -> Result<Plan, PlanError>
     requires { length bytes.now ≤ 2 ^ 26 }
     // The bytes are exactly the fields of a complete proper list, which spells the plan.

@@ -1,4 +1,4 @@
-//! Reading the leaves of a plan, part by part.
+//! Parses the leaves of a plan in coding order. Takes bytes from a `Reader`; allocates lists of leaves and triples.
 
 use crate::error::PlanError;
 use crate::header::Header;

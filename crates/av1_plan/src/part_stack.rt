@@ -1,4 +1,4 @@
-//! The parts of a superblock that remain to be coded, on a stack of fixed size.
+//! A stack of fixed size: the parts of a superblock that remain to be coded. Changes only itself, never allocates.
 
 ghost use Rattle.std.specs.Prelude.{◌≡◌, ◌<◌, ◌≤◌, true, List, length};
 ghost use Rattle.av1_plan.specs.declared.nodes.Part.{Part};
@@ -20,7 +20,7 @@ pub struct Stacked {
     pub count: usize,
 }
 
-/// Whether the stack has room for the parts of this one in its place, on top of `below` others.
+/// Whether the stack has room for this part, or for its own parts in its place, on top of `below` others.
 #[tactic(auto, unfolding(crate::specs::Stacks::has_room))]
 fn has_room(part: Part, below: usize) -> bool
     requires { below < 13 }
@@ -38,7 +38,7 @@ fn has_room(part: Part, below: usize) -> bool
     }
 }
 
-/// Whether the stack has that room for each of the first `count` parts.
+/// Whether the stack has this room for each of the first `count` parts.
 #[tactic(auto, using(crate::proofs::Stacks::room_below))]
 fn have_room(parts: &[Part], count: usize) -> bool
     requires most { count ≤ 13 }
@@ -157,8 +157,8 @@ impl PartStack {
         }
     }
 
-    /// Puts the part of side `4 << level` at column `x` and row `y` before the others, if it begins in the frame: a
-    /// leaf at level 0, else a node.
+    /// Puts the part of side `4 << level` at column `x` and row `y` before the others, if it begins in the frame. The
+    /// part is a leaf at level 0, else a node.
     #[tactic(auto, using(crate::proofs::Stacks::blocks), unfolding(crate::specs::Stacks::has_room))]
     fn block(&mut self, header: &Header, level: u8, x: u16, y: u16)
         requires level { level ≤ 4 }

@@ -1,4 +1,4 @@
-//! Plans in memory.
+//! The type `Plan`: header, reference samples and leaves, with a proof that a list of fields spells them.
 
 ghost use Rattle.std.specs.Prelude.{◌≡◌, vec_len};
 ghost use Rattle.av1_plan.specs.Grammar.{plan};

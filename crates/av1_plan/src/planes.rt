@@ -1,4 +1,4 @@
-//! The reference planes of a plan.
+//! The type `SlotPlanes`: the samples of the three reference planes in a slot.
 
 /// The planes of a slot, row by row, without padding.
 #[derive(Debug, Drop)]

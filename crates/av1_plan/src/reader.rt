@@ -1,4 +1,4 @@
-//! Reading fields from the front of the bytes.
+//! Reads numbers from the front of a slice, and counts the position. Changes only itself, never allocates.
 
 ghost use Rattle.std.specs.Prelude.{◌+◌, ◌≤◌, ◌^◌, length};
 

@@ -1,4 +1,4 @@
-//! The superblocks of a frame that remain.
+//! Counts through a frame's superblocks in raster order: the first that remains, and those after it. Changes nothing.
 
 ghost use Rattle.std.specs.Prelude.{◌≡◌, ◌≤◌};
 ghost use Rattle.av1_plan.specs.Remaining.{across, down};
@@ -6,8 +6,8 @@ ghost use Rattle.av1_plan.specs.Remaining.{across, down};
 use crate::header::Header;
 use crate::nodes::Part;
 
-/// The superblocks from one on, in raster order: its row and its column, counted in superblocks. After the last
-/// superblock the column is past the last one, in the last row.
+/// The superblocks that remain, in raster order: the row and the column of the first, counted in superblocks. If none
+/// remains, the column is past the last one, in the last row.
 #[derive(Copy, Clone, Debug, PartialEq, Eq)]
 pub struct Superblocks {
     pub row: u16,

@@ -1,4 +1,4 @@
-//! The walk over the partition tree of a frame: superblocks, nodes and leaves in coding order.
+//! Walks over a frame's partition tree in coding order. Changes only itself, and does not allocate.
 
 ghost use Rattle.std.specs.Prelude.{◌≡◌, ◌+◌, ◌<◌, ◌≤◌};
 ghost use Rattle.av1_plan.specs.Remaining.{across, down};
@@ -17,7 +17,7 @@ use av1_blocks::PartitionType;
 #[derive(Drop)]
 pub struct TreeWalk {
     header: Header,
-    // The parts of the superblock that is begun.
+    // The parts of the current superblock that remain.
     parts: PartStack,
     // The superblocks after that one.
     left: Superblocks,
@@ -77,7 +77,7 @@ impl TreeWalk {
         &self.header
     }
 
-    /// The parts of the superblock that is begun, as plain data.
+    /// The parts of the current superblock that remain, as plain data.
     pub fn stacked(&self) -> Stacked
         ensures stack { stopped_at self.now.header result self.now.left ≡ remaining self.now }
         ensures stopped { is_stopped self.now.header result self.now.left ≡ true }
@@ -85,7 +85,7 @@ impl TreeWalk {
         self.parts.stacked()
     }
 
-    /// The superblocks after the one that is begun.
+    /// The superblocks after the current one.
     pub fn superblocks_left(&self) -> Superblocks
         ensures { result ≡ self.now.left }
     {

@@ -1,4 +1,4 @@
-//! Tests which arguments the calls of a builder accept.
+//! Tests which headers, planes and leaves a builder accepts. Changes nothing.
 
 ghost use Rattle.std.specs.Prelude.{◌≡◌, ◌<◌, ◌≤◌, ◌^◌, ◌==◌, true, nat_le, length};
 ghost use Rattle.std.specs.List.{list_all};

@@ -1,4 +1,4 @@
-//! Reads the bytes of a plan and writes the plan without its coefficients.
+//! Reads a plan from a source, and writes the plan without its coefficients to a sink. Allocates.
 
 ghost use Rattle.av1_plan.specs.Values.{plan_value};
 ghost use Rattle.av1_planwrite.specs.Bare.{bare_text};

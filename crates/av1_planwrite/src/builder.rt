@@ -1,4 +1,4 @@
-//! Builds plans field by field, in the order in which an encoder decides the fields.
+//! Builds a plan's bytes, one call for each field; a rejected call changes nothing. Allocates as the bytes grow.
 
 ghost use Rattle.av1_planwrite.specs.Builder.{built, TellsSome};
 

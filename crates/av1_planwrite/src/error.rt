@@ -1,4 +1,4 @@
-//! Why a builder rejects a call.
+//! The errors of a builder: a field at the wrong time, a bad value, too many bytes, or no memory.
 
 ghost use Rattle.std.specs.Prelude.{◌≡◌};
 ghost use Rattle.av1_planwrite.specs.declared.error.BuildError.TheVariants.{Memory};

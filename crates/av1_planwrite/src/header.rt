@@ -1,4 +1,4 @@
-//! Writes the fields of a header.
+//! Writes the fields of a header: as an array of 20 bytes, or at the end of a text, which may allocate.
 
 ghost use Rattle.std.specs.Prelude.{◌≡◌};
 ghost use Rattle.av1_planwrite.specs.Text.{header_text, letters};

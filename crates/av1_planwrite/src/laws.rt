@@ -1,4 +1,4 @@
-//! Laws of texts.
+//! Theorems about the texts of plans. Each function does nothing: its contract is the theorem.
 
 ghost use Rattle.std.specs.Prelude.{◌≡◌, ℕ, List, None};
 ghost use Rattle.av1_plan.specs.Grammar.{plan};

@@ -1,4 +1,4 @@
-//! Writes the fields of a leaf.
+//! Writes the fields of a leaf: to a slice without allocating, or at the end of a text, which may allocate.
 
 ghost use Rattle.std.specs.Prelude.{◌≡◌, ◌+◌, ◌++◌, ◌≤◌, length, take, drop};
 ghost use Rattle.av1_planwrite.specs.Given.{FitsTriple};

@@ -1,4 +1,4 @@
-//! Writes plans as bytes: the reverse of the plan grammar.
+//! Writes plans as bytes: the reverse of the plan grammar. Allocates; only `bare_plan` does input and output.
 //!
 //! [`write_plan`] returns the text of a plan. [`write_bare`] returns the text of the same plan without its
 //! coefficients. [`bare_plan`] reads a plan from a source and appends its text without coefficients to a sink. So a

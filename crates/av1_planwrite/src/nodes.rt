@@ -1,4 +1,4 @@
-//! Writes the leaves of a plan, part by part, with the marks that the sizes of the leaves decide.
+//! Appends a plan's leaves, and the marks that their sizes decide, to a text. May allocate.
 
 ghost use Rattle.std.specs.Prelude.{◌≡◌, ◌<◌, ◌≤◌, ◌^◌, length};
 ghost use Rattle.av1_plan.specs.Values.{plan_value, stored_leaves};

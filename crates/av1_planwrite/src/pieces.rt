@@ -1,4 +1,4 @@
-//! Writes pieces of a text into a slice, one after the other.
+//! Writes bytes and numbers to the caller's slice, one after the other. Does not allocate.
 
 ghost use Rattle.std.specs.Prelude.{◌≡◌, ◌+◌, ◌++◌, ◌≤◌, length, take, drop};
 ghost use Rattle.av1_planwrite.specs.Text.{byte, pair};

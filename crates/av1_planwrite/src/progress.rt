@@ -1,4 +1,4 @@
-//! The state of an unfinished plan, wherever its bytes are kept.
+//! Says what an unfinished plan needs next, and tests fields. Changes only itself, and never allocates.
 
 ghost use Rattle.std.specs.Prelude.{◌≡◌, ◌<◌, ◌≤◌, true, length};
 ghost use Rattle.av1_planwrite.specs.Building.{admits_header, next_slot};

@@ -1,4 +1,4 @@
-//! Writes the samples of references as bytes.
+//! Writes reference samples as bytes: to a slice without allocating, or at the end of a text, which may allocate.
 
 ghost use Rattle.std.specs.Prelude.{◌≡◌, ◌+◌, ◌++◌, ◌*◌, ◌^◌, ◌≤◌, length, take, drop};
 ghost use Rattle.std.specs.List.{flat_map};

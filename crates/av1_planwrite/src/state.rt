@@ -1,4 +1,4 @@
-//! The state of an unfinished plan, as plain data.
+//! The type `State`: what an unfinished plan needs next, as plain data.
 
 use av1_plan::{Stacked, Superblocks};
 

@@ -1,4 +1,4 @@
-//! A text to which fields are appended, one after the other.
+//! The type `Text`: bytes to which fields are appended, which may allocate, or from which they are removed again.
 
 use crate::error::BuildError;
 use av1_blocks::OutOfMemory;

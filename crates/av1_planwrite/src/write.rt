@@ -1,4 +1,4 @@
-//! Writes whole plans.
+//! Writes a whole plan as bytes, with its coefficients or without. Allocates the bytes; does no I/O.
 
 ghost use Rattle.std.specs.Prelude.{◌≡◌, ◌<◌, IfOk};
 ghost use Rattle.av1_plan.specs.Values.{plan_value};

@@ -1,4 +1,4 @@
-//! The exit status and the line of each result.
+//! Turns a result into an exit status and a line, and writes the line to the error sink. Does not allocate.
 ghost use Rattle.std.specs.Prelude.{◌≡◌, ◌≤◌, ◌++◌, length, codes};
 ghost use Rattle.av1_recon.specs.Answers.{status_of, line_of, error_line, kind_text, malformed_text, invalid_text, refusal_text, HasLine};
 

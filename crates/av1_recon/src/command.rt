@@ -1,4 +1,4 @@
-//! The command that the arguments after the program's name give.
+//! Parses the arguments after the program's name into a command. Changes nothing.
 ghost use Rattle.std.specs.Prelude.{◌≡◌, map, string_bytes};
 ghost use Rattle.av1_recon.specs.Commands.{named, command_of};
 

@@ -1,4 +1,4 @@
-//! Why a plan was not reconstructed.
+//! The errors of reconstructing a plan, and their conversion from the errors of the crates below.
 ghost use Rattle.std.specs.Prelude.{◌≡◌};
 ghost use Rattle.av1_recon.specs.Errors.{read_error, plan_error, invalid_error};
 ghost use Rattle.av1_recon.specs.declared.error.ReconError.TheVariants as variants;

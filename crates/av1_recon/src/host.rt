@@ -1,4 +1,4 @@
-//! The start and the end of a program on the system.
+//! Reads the program's arguments (allocates them), calls the program with them, and flushes standard output.
 
 use std::env;
 use std::io::{ErrorKind, Write};

@@ -1,6 +1,6 @@
-//! Plans read from a source, reconstructed, and their planes written to a sink; and the program around them.
+//! Reads a plan from a source, reconstructs it, writes its planes to a sink; and the program around this. Allocates.
 //!
-//! [`reconstruct_plan`] is the whole path: it reads a source to its end, parses the plan, checks it, reconstructs it
+//! [`reconstruct_plan`] is the whole path. It reads a source to its end, parses the plan, checks it, reconstructs it
 //! and writes its visible planes, Y, U and V row by row. [`run`] does what the program's command line says.
 //!
 //! Other programs use the parts:
@@ -10,7 +10,7 @@
 //!   residual is added.
 //! - [`write_sums`] reconstructs a plan and writes four lines on it: the number of its leaves, and the [`plane_sum`] of
 //!   each plane.
-//! - [`number_of`] is a number among the arguments.
+//! - [`number_of`] parses an argument that is a number.
 //! - [`report`] gives the line and the exit status of a result.
 //! - [`run_on_words`] does the rest of a `main`.
 //!
@@ -22,7 +22,7 @@
 //! exactly the planes of the slow definition were appended. The bytes are rejected only if that is their outcome, and
 //! then always, unless a read failed or memory ran out. The result is a fault exactly if the source or the sink counted
 //! one, up to the last value of a `u64`. Only running out of memory is not determined; it comes before the first
-//! written byte. All calls that read a plan and write of it promise the same, `Converts`, whatever they write.
+//! written byte. All calls that read a plan and then write promise the same, `Converts`, whatever they write.
 #![tactic(auto)]
 
 mod answer;

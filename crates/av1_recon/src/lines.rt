@@ -1,4 +1,4 @@
-//! Four lines on a plan: the number of its leaves, and the sums of its planes.
+//! Reconstructs a plan some number of times, and writes four lines of sums to a sink. Allocates.
 ghost use Rattle.std.specs.Prelude.{◌≡◌, ◌≤◌, None, IfOk};
 ghost use Rattle.av1_plan.specs.Values.{plan_value};
 ghost use Rattle.av1_plan.specs.Validity.{first_fault};
@@ -15,8 +15,8 @@ use av1_streams::{Line, write_bytes};
 use std::alloc::Global;
 use std::num::NonZeroU32;
 
-/// Reconstructs a valid plan `rounds` times, in one state, and appends four lines to the sink: the number of its
-/// leaves, and the sum of the visible samples of each plane.
+/// Reconstructs a valid plan `rounds` times in one state, and appends four lines to the sink. They have the number of
+/// its leaves, and the sum of the visible samples of each plane.
 ///
 /// # Errors
 ///

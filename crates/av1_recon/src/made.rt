@@ -1,4 +1,4 @@
-//! The plan of a number: its bytes, and four lines on it.
+//! Makes the plan of a number, and writes its bytes, or four lines on it, to a sink. Allocates.
 ghost use Rattle.std.specs.Prelude.{◌≡◌, ◌≤◌, None, IfOk, IfErr, ℕ, List};
 ghost use Rattle.av1_plan.specs.Generator.{plan_bytes, plan_bytes_in};
 ghost use Rattle.av1_plan.specs.Values.{plan_value};
@@ -45,8 +45,8 @@ pub fn write_made_in<W: Sink>(
     Ok(())
 }
 
-/// Reconstructs the plan of a number once, and appends four lines to the sink: the number of its leaves, and the sum of
-/// the visible samples of each plane.
+/// Reconstructs the plan of a number once, and appends four lines to the sink. They have the number of its leaves, and
+/// the sum of the visible samples of each plane.
 ///
 /// # Errors
 ///

@@ -1,4 +1,4 @@
-//! A number among the arguments after a program's name.
+//! Parses an argument into a number. Changes nothing.
 ghost use Rattle.std.specs.Prelude.{◌≡◌};
 ghost use Rattle.av1_recon.specs.Numbers.{number_of};
 

@@ -1,4 +1,4 @@
-//! The visible planes of a frame, written row by row.
+//! Writes the visible planes of a frame to a sink, row by row, through a fixed buffer. Does not allocate.
 ghost use Rattle.std.specs.Prelude.{◌≡◌, ◌*◌, ◌≤◌, map, OnOk};
 ghost use Rattle.std.specs.List.{flat_map};
 ghost use Rattle.std.specs.Io.KnownBytes.{Appends};

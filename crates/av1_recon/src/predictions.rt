@@ -1,4 +1,4 @@
-//! The planes of a plan and its predictions, written row by row after one reconstruction.
+//! Reconstructs a plan once, and writes its planes to one sink and its predictions to another. Allocates.
 ghost use Rattle.std.specs.Prelude.{◌≡◌, ◌≤◌, None, OnOk, IfErr};
 ghost use Rattle.std.specs.Io.KnownBytes.{Appends};
 ghost use Rattle.av1_plan.specs.Values.{plan_value};

@@ -1,4 +1,4 @@
-//! All that the program does.
+//! Runs a command: reads a plan or makes one, and writes planes, a plan or sums; errors go to `err`. Allocates.
 ghost use Rattle.std.specs.Prelude.{◌≡◌, ◌↔◌, Some, None, List, ℕ, map, string_bytes};
 ghost use Rattle.av1_recon.specs.Answers.{HasLine, status_of, line_of, usage};
 ghost use Rattle.av1_recon.specs.Commands.{command_of, IsMade, ReadsNothing};

@@ -1,4 +1,4 @@
-//! From the bytes of a source to a valid plan.
+//! Reads a source to its end, and returns the valid plan that its bytes spell. Allocates the plan; writes nothing.
 ghost use Rattle.std.specs.Prelude.{◌≡◌, ◌≢◌, ◌≤◌, None, IfOk, IfErr, length};
 ghost use Rattle.av1_plan.specs.Values.{plan_value};
 ghost use Rattle.av1_plan.specs.Validity.{first_fault};

@@ -1,4 +1,4 @@
-//! From the bytes of a plan to the bytes of its planes.
+//! Reads a plan from a source, reconstructs it, and writes its planes to a sink. Allocates.
 ghost use Rattle.std.specs.Prelude.{◌≡◌, ◌≤◌, None};
 ghost use Rattle.av1_plan.specs.Values.{plan_value};
 ghost use Rattle.av1_plan.specs.Validity.{first_fault};

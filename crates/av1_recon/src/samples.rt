@@ -1,4 +1,4 @@
-//! Samples as bytes: one byte a sample, or two, the low one first.
+//! Writes samples to a slice of bytes: one byte a sample, or two, the low one first. Does not allocate.
 ghost use Rattle.std.specs.Prelude.{◌≡◌, ◌*◌, ◌≤◌, ◌==◌, length, map, take};
 ghost use Rattle.std.specs.List.{flat_map};
 ghost use Rattle.av1_tile.specs.Output.{sample_bytes};

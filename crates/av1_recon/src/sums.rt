@@ -1,4 +1,4 @@
-//! Sums of the visible samples of a picture.
+//! Sums the visible samples of a plane. Changes nothing.
 ghost use Rattle.std.specs.Prelude.{◌≡◌, ◌<◌, sum};
 ghost use Rattle.av1_tile.specs.PlaneBlocks.{shown_of, component};
 ghost use Rattle.av1_tile.specs.State.{IsSound, state_header, shown};

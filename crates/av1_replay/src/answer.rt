@@ -1,4 +1,4 @@
-//! The answer of a call: what it returned and wrote.
+//! The answers of calls, made from what a call wrote or read from a row. Only `to_answer` allocates.
 
 ghost use Rattle.std.specs.Prelude.{◌≡◌, ◌↔◌, ◌≤◌, ℕ, List, [], length, min, IfOk, IfSome, IsTrue};
 ghost use Rattle.std.specs.List.{flat_map};

@@ -1,4 +1,4 @@
-//! Replays calls that ask whether the samples beside a transform are coded before it.
+//! Parses calls that ask which samples are coded before a transform, and replays them. Does not allocate.
 
 ghost use Rattle.std.specs.Prelude.{◌≡◌, ◌≤◌, [], IfSome, length};
 ghost use Rattle.av1_replay.specs.Answers.{Tells};

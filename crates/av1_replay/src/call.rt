@@ -1,4 +1,4 @@
-//! Calls on one block, by the kinds of rows.
+//! Parses a call on one block by its kind, and replays it. Replaying allocates; does no I/O.
 
 ghost use Rattle.std.specs.Prelude.{◌≡◌, ◌≤◌, length, IfErr, IfSome};
 ghost use Rattle.av1_replay.specs.Calls.{call_before, format_of, kind_of};

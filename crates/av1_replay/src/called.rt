@@ -1,4 +1,4 @@
-//! The calls on one block, by the type of samples.
+//! Passes samples of 8 or 16 bits to the calls of `av1_calls`, which write the given slices. Does not allocate.
 
 ghost use Rattle.std.specs.Prelude.{◌^◌, ◌<◌, All};
 

@@ -1,4 +1,4 @@
-//! A digest of bytes.
+//! Computes the CRC-32 of bytes that are added one after the other. Changes only itself.
 
 ghost use Rattle.std.specs.Prelude.{◌≡◌, ℕ, ◌-◌, ◌^◌, List, [], ◌∷◌, ◌++◌, length, min};
 ghost use Rattle.std.specs.Int.{to_le_bytes, w16, w32};

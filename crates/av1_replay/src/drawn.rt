@@ -1,4 +1,4 @@
-//! Draws numbers from a seed, so that rows are short.
+//! Draws samples and numbers from a seed, so that rows are short. Allocates the lists that it returns.
 
 ghost use Rattle.std.specs.Prelude.{◌≡◌, ◌+◌, ◌-◌, ◌^◌, ◌<◌, ◌≤◌, All, IfOk, length, map, pos};
 ghost use Rattle.av1_dct.specs.Arithmetic.{FitsBits};

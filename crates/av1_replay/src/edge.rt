@@ -1,4 +1,4 @@
-//! Replays calls that prepare edges of transforms, from drawn planes.
+//! Parses calls that prepare an edge, and replays them on drawn planes. Replaying allocates.
 
 ghost use Rattle.std.specs.Prelude.{◌≤◌};
 

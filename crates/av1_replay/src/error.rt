@@ -1,4 +1,4 @@
-//! Why a call was not replayed.
+//! The errors of replaying a call: arguments that are not valid, and running out of memory.
 
 ghost use Rattle.std.specs.Prelude.{◌≡◌};
 ghost use Rattle.av1_replay.specs.declared.error.CallFault.TheVariants.{Memory};

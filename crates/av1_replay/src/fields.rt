@@ -1,4 +1,4 @@
-//! Reads the fields of rows.
+//! Reads the fields of rows from a slice of bytes. Moves forward in the slice; does not allocate.
 
 /// The rest of the bytes, read field by field from the front. The low byte of a number comes first.
 ///

@@ -1,4 +1,4 @@
-//! Replays prediction by intra modes, from drawn edges.
+//! Parses calls that predict by an intra mode or from luma, and replays them on drawn edges. Replaying allocates.
 
 ghost use Rattle.std.specs.Prelude.{◌≡◌, ◌≤◌, IfErr, IfSome, length};
 ghost use Rattle.av1_replay.specs.Fields.{unread};

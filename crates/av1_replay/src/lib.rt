@@ -1,4 +1,4 @@
-//! Replays recorded calls on one block.
+//! Replays recorded calls on one block, and compares their answers. Reads a slice, allocates, does no I/O.
 //!
 //! A row is a call and the answer that it gave elsewhere. The crate reads the fields of a row ([`Fields`]) and replays
 //! the call ([`BlockCall`]). The answer ([`Answer`]) is a status and a digest of what was written ([`Digest`]). It is

@@ -1,4 +1,4 @@
-//! Replays calls that give how far drawn luma is from its mean.
+//! Parses calls that give how far luma is from its mean, and replays them on drawn luma. Replaying allocates.
 
 ghost use Rattle.std.specs.Prelude.{◌≡◌, ◌≤◌, length, IfErr, IfSome};
 ghost use Rattle.av1_replay.specs.Calls.{luma_before};

@@ -1,4 +1,4 @@
-//! Replays prediction from references.
+//! Parses calls that predict, prepare or average blocks, and replays them on drawn samples. Replaying allocates.
 
 ghost use Rattle.std.specs.Prelude.{◌≡◌, ◌+◌, ◌^◌, ◌<◌, ◌≤◌, All, IfErr, IfOk, IfSome, length};
 ghost use Rattle.av1_replay.specs.Fields.{unread};

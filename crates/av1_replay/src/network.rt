@@ -1,4 +1,4 @@
-//! Replays one-dimensional transforms.
+//! Parses calls of one-dimensional transforms, and replays them on drawn values. Replaying allocates.
 
 ghost use Rattle.std.specs.Prelude.{◌≡◌, ◌≤◌, All, IfErr, IfSome, length};
 ghost use Rattle.av1_dct.specs.Arithmetic.{FitsBits};

@@ -1,4 +1,4 @@
-//! The format of samples, and rectangles of them.
+//! Parses the format of a row's samples and the margins of a rectangle. Moves the fields forward; does not allocate.
 
 ghost use Rattle.std.specs.Prelude.{◌≡◌, ◌+◌, ◌*◌, ◌≤◌, ◌∷◌, length, IfSome};
 ghost use Rattle.av1_blocks.specs.Depths.{IsDepth};

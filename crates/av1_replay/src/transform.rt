@@ -1,4 +1,4 @@
-//! Replays inverse transforms of blocks.
+//! Parses calls of inverse transforms, and replays them on drawn coefficients. Replaying allocates.
 
 ghost use Rattle.std.specs.Prelude.{◌≡◌, true, ◌+◌, ◌≤◌, IfErr, IfSome, IsTrue, length};
 ghost use Rattle.av1_blocks.specs.Transforms.{valid_av1_transform};

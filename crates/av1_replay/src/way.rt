@@ -1,4 +1,4 @@
-//! The ways to draw numbers.
+//! Parses the ways to draw numbers. Moves the fields forward; does not allocate.
 
 ghost use Rattle.std.specs.Prelude.{◌≤◌};
 

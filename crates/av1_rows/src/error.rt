@@ -1,4 +1,4 @@
-//! Why rows were not replayed.
+//! The errors of replaying rows, and their conversion from the errors of the crates below.
 
 ghost use Rattle.std.specs.Prelude.{◌≡◌, ◌⊎◌};
 ghost use Rattle.av1_rows.specs.declared.error.RowsError.TheVariants as variants;

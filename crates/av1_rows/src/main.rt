@@ -1,5 +1,5 @@
-//! Replays recorded rows from standard input: calls and their answers, in the format of `tools/record_rows/README.md`.
-//! The program prints a line for each kind of row. For the first row that differs, it prints both answers.
+//! Replays recorded rows (calls and their answers) from standard input, and prints how many differ.
+//! Each kind of row has a line. Both answers of the first differing row follow. Format: `tools/record_rows/README.md`.
 //!
 //! [`program::replay_rows`] is all that the program does. This file connects it to the real source and sinks.
 //! `av1_recon::run_on_words` flushes the output and sets the exit status. The program ignores its arguments.

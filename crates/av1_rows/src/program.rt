@@ -1,4 +1,4 @@
-//! All that the program does.
+//! Runs `av1_rows`: reads rows, replays their calls, and writes a report to `out` or an error to `err`. Allocates.
 
 ghost use Rattle.std.specs.Prelude.{◌≡◌, ◌≢◌, ◌↔◌, ◌⊎◌, ◌≤◌, List, IsTrue, IsErrOf, IsNone, IfSome, IfOk, IfErr, OnOk};
 ghost use Rattle.std.specs.Io.KnownBytes.{Appends};

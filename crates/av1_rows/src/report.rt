@@ -1,4 +1,4 @@
-//! Writes the report on rows, and the lines of errors.
+//! Makes the report on rows, which allocates, and writes an error's line to the error sink.
 
 ghost use Rattle.std.specs.Prelude.{◌≡◌, ◌≤◌, ◌++◌, Some, codes, decimal, length, IfOk, OnOk};
 ghost use Rattle.av1_recon.specs.Answers.{HasLine};

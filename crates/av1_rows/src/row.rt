@@ -1,4 +1,4 @@
-//! Rows: a call, and the wanted answer.
+//! Parses rows (a call, and the wanted answer), and replays their calls. Replaying allocates.
 
 ghost use Rattle.std.specs.Prelude.{◌≡◌, ◌<◌, IfSome};
 ghost use Rattle.av1_replay.specs.Fields.{unread};

@@ -1,4 +1,4 @@
-//! Runs a program over memory.
+//! Parses runs of a program, and replays them over memory instead of standard input and output. Allocates.
 
 ghost use Rattle.std.specs.Prelude.{◌≡◌, ◌<◌, ◌≤◌, length, IfOk, IfSome};
 ghost use Rattle.av1_replay.specs.Answers.{Tells};

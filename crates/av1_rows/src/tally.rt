@@ -1,4 +1,4 @@
-//! Counts the rows of each kind, and the rows that differ.
+//! Counts rows and differing rows by kind. Keeps the first that differs, which allocates.
 
 ghost use Rattle.std.specs.Prelude.{◌≡◌, ◌<◌, IsNone, OnOk, IsTrue, ◌↔◌};
 ghost use Rattle.av1_rows.specs.Rows.{told_by, wanted_by};

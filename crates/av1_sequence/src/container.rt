@@ -1,4 +1,4 @@
-//! Reading a sequence of frames from bytes.
+//! Parses a sequence of frames from a slice of bytes. Allocates the list of entries.
 
 ghost use Rattle.std.specs.Prelude.{◌≡◌, ◌≤◌, ◌^◌, length, map, [], slice_index_or, IfOk, vec_len};
 ghost use Rattle.std.specs.List.{All};
@@ -135,8 +135,8 @@ fn again_head(reader: &mut Reader<'_>) -> Result<EntryHead, PlanError>
     Ok(EntryHead::Again { slot, refresh })
 }
 
-/// The kind of an entry, in a sequence with this version of plans: 0 for a frame that isn't shown, 1 for a frame that
-/// is shown, and 2 for a slot that is shown again.
+/// The kind of an entry, in a sequence with this version of plans. It is 0 for a frame that isn't shown, 1 for a frame
+/// that is shown, and 2 for a slot that is shown again.
 #[tactic(auto, unfolding(crate::specs::Grammar::kind))]
 fn kind(reader: &mut Reader<'_>, version: u8) -> Result<u8, PlanError>
     ensures read { Gives (λ x. (x, input reader.new)) result (read (kind version) (input reader.old)) }

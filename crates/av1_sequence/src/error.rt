@@ -1,4 +1,4 @@
-//! Why a frame or a sequence is rejected.
+//! Errors of frames and sequences: rejections, failed reads and writes, and running out of memory.
 
 ghost use Rattle.std.specs.Prelude.{◌≡◌};
 ghost use Rattle.av1_sequence.specs.Errors.{file_error, read_error};

@@ -1,4 +1,4 @@
-//! A sequence of frames in memory.
+//! The types of a parsed sequence: its settings and its entries. The leaves stay in the slice that was parsed.
 
 use crate::head::FrameHead;
 

@@ -1,4 +1,4 @@
-//! The fields of an entry of a sequence before its part.
+//! The types of an entry's fields before its part: filters, reference slots, and the slots that it replaces.
 
 use av1_blocks::FilterMode;
 

@@ -1,4 +1,4 @@
-//! Says where a sequence keeps the last accepted frame.
+//! The type `Last`: where a sequence keeps the last accepted frame.
 
 /// The place of the frame that was accepted last.
 #[derive(Clone, Copy, Debug, PartialEq, Eq)]

@@ -1,4 +1,4 @@
-//! Laws of sequences.
+//! Theorems about sequences. Each function does nothing: its contract is the theorem.
 
 ghost use Rattle.av1_sequence.specs.Calls.{AcceptedAloneCount};
 ghost use Rattle.av1_sequence.specs.Files.{BytesHaveAnOutcome, OutcomesAreOne};

@@ -1,4 +1,4 @@
-//! Reads the leaves that the part of a frame spells.
+//! Parses and checks the leaves of a frame, from the slice that is its part. Allocates the leaves.
 
 ghost use Rattle.std.specs.Prelude.{◌≡◌, ◌≤◌, ◌^◌, None, length, IfOk, IfErr};
 ghost use Rattle.av1_plan.specs.Values.{leaves_value};

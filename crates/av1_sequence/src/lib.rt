@@ -1,4 +1,4 @@
-//! A sequence of frames, each predicted from those before it.
+//! Sequences of frames, each predicted from earlier ones: reads a source, writes shown frames. Allocates.
 //!
 //! A [`Sequence`] keeps eight slots between frames. A frame comes as a head and a part. The head says how the frame is
 //! predicted, which slots its references name, and which slots the frame replaces. The part spells the leaves by the

@@ -1,4 +1,4 @@
-//! Writes the visible planes of a frame, row by row.
+//! Writes the visible planes of the last frame to a sink, row by row. Does not allocate.
 //!
 //! Rows of 8-bit samples are written directly. Rows of 16-bit samples are first put into a buffer, two bytes for each
 //! sample.

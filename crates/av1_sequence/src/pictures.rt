@@ -1,4 +1,4 @@
-//! The frames of slots.
+//! Keeps the padded frames of the eight slots, each frame once. Only `new` allocates.
 //!
 //! A frame that replaces several slots is kept once. `places` says at which of eight places the frame of each slot is
 //! kept. A place that no slot names is free for the next frame.

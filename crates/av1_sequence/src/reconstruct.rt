@@ -1,4 +1,4 @@
-//! Reads a sequence of frames from a source and writes its planes to a sink.
+//! Reads a sequence of frames from a source, and writes the planes of shown frames to a sink. Allocates.
 
 ghost use Rattle.std.specs.Prelude.{◌≡◌, ◌≢◌, ◌<◌, ◌≤◌, ℕ, List, Option, Err, IfOk, IfErr, IsErrAnd};
 ghost use Rattle.av1_streams.specs.Faults.{FaultCounted};

@@ -1,4 +1,4 @@
-//! A sequence of frames, and the slots that it keeps between frames.
+//! Reconstructs the next frame of a sequence, and keeps it in slots. Allocates planes and memory; does no I/O.
 
 ghost use Rattle.std.specs.Prelude.{◌≡◌, ℕ, ◌<◌, ◌≤◌, true, Some, None, is_some, IfOk, OnErr};
 ghost use Rattle.av1_plan.specs.ReadPlans.{IsReadFrame};

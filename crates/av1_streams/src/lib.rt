@@ -1,4 +1,4 @@
-//! Sources of the bytes of a plan, and sinks for the bytes of planes.
+//! Sources and sinks of bytes that count faults: over memory, or over any reader or writer. Does input and output.
 //!
 //! A [`Source`] gives bytes and a [`Sink`] takes them, in pieces of any size, and each counts its faults.
 //! [`read_bytes`] reads a source to its end, and [`read_plan_bytes`] reads one that has a plan. [`write_bytes`] writes

@@ -1,4 +1,4 @@
-//! A line of text in a fixed array.
+//! A line of text in a fixed array, to which text and numbers are appended. Changes only itself, never allocates.
 ghost use Rattle.std.specs.Prelude.{◌≡◌, ℕ, ◌+◌, ◌≤◌, List, [], ◌++◌, length, take, decimal};
 ghost use Rattle.av1_streams.specs.declared.line.TheConstants.{LINE_BYTES};
 

@@ -1,4 +1,4 @@
-//! The bytes of a source, read to their end.
+//! Reads a source to its end, up to a limit, and returns the bytes. Does input, and allocates the bytes.
 ghost use Rattle.std.specs.Prelude.{◌≡◌, ◌+◌, ◌<◌, ◌≤◌, ◌^◌, length, take, drop, IsErrOf, IfOk, IfSome, OnOk, OnErr, vec_len};
 ghost use Rattle.std.specs.Io.KnownBytes.{Consumes, Keeps, IsAtEnd};
 ghost use Rattle.av1_streams.specs.Faults.{HasCause, FaultCounted};

@@ -1,4 +1,4 @@
-//! Sinks of bytes.
+//! Sinks of bytes: the trait, one in memory, and one over any writer. Does output; only `MemSink::new` allocates.
 ghost use Rattle.std.specs.Prelude.{◌≡◌, ◌⊎◌, ◌↔◌, ℕ, ◌-◌, ◌<◌, ◌≤◌, min, List, [], length, Option, Some, Contains, IsErr, IfOk, vec_len, vec_capacity};
 ghost use Rattle.std.specs.Io.{WritesAtMost};
 ghost use Rattle.std.specs.Io.KnownBytes.{WriteAppends};
@@ -117,8 +117,8 @@ impl Sink for MemSink<'_> {
 
 /// A sink over any writer, such as standard output. It reports the bytes that the writer reports.
 ///
-/// Each write is one write to the writer. No clause can say so of a writer that reports nothing, nor of a write that
-/// failed, as for [`crate::ReadSource`].
+/// Each write is one write to the writer. No clause can say this of a writer that reports nothing, or of a write that
+/// failed. The reason is the same as for [`crate::ReadSource`].
 #[derive(Drop)]
 pub struct WriteSink<W> {
     inner: W,

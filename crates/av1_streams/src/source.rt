@@ -1,4 +1,4 @@
-//! Sources of bytes.
+//! Sources of bytes: the trait, one over a slice, and one over any reader. Does input; never allocates.
 ghost use Rattle.std.specs.Prelude.{◌≡◌, ◌↔◌, ℕ, ◌<◌, min, List, length, drop, Option, Some, Contains, MatchResult, IsErr, IfOk};
 ghost use Rattle.std.specs.Io.{ReadsAtMost};
 ghost use Rattle.std.specs.Io.KnownBytes.{ReadConsumes};
@@ -98,8 +98,8 @@ impl Source for SliceSource<'_> {
 
 /// A source over any reader, such as standard input. It reports the bytes that the reader reports.
 ///
-/// Each read is one read of the reader. No clause can say so of a reader that reports nothing, nor of a read that
-/// failed: std counts no reads, and doesn't promise that any succeeds.
+/// Each read is one read of the reader. No clause can say this of a reader that reports nothing, or of a read that
+/// failed. The reason is that std counts no reads and doesn't promise that any succeeds.
 #[derive(Drop)]
 pub struct ReadSource<R> {
     inner: R,

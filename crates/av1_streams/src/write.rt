@@ -1,4 +1,4 @@
-//! Writing all of some bytes.
+//! Writes all bytes of a slice to a sink, until a write fails. Does output; does not allocate.
 ghost use Rattle.std.specs.Prelude.{OnOk};
 ghost use Rattle.std.specs.Io.KnownBytes.{Appends};
 ghost use Rattle.av1_streams.specs.Faults.{HasCause};

@@ -1,4 +1,4 @@
-//! One transform block: the prediction from its neighbouring samples, and the addition of its residual.
+//! Predicts an intra transform block from its neighbours, and adds a residual. Writes the plane and the buffers.
 
 ghost use Rattle.std.specs.Prelude.{◌≡◌, ◌-◌, ◌^◌, ◌<◌, ◌≤◌, length, All, IsTrue, pos, map, reverse, [], ◌∷◌, option_map, unsigned_abs};
 ghost use Rattle.av1_blocks.specs.Depths.{IsDepth};

@@ -1,4 +1,4 @@
-//! The buffers of the walk: for one transform block, for one leaf, and for the predictions that a caller wants to see.
+//! The buffers of the walk, and the predictions that it keeps. Only `new` allocates; the walk writes them.
 
 ghost use Rattle.std.specs.Prelude.{◌≡◌, vec_len, IfOk};
 
@@ -26,8 +26,8 @@ pub struct ResidueRoom<T: Pixel> {
     pub(crate) ghost coefficients_len: { vec_len coefficients ≡ 1024 },
 }
 
-/// Buffers for one transform block, for the luma of one leaf and for the prediction of one leaf from two references;
-/// and the predictions that the walk keeps.
+/// Buffers for one transform block, for the luma of one leaf, and for the prediction of one leaf from two references.
+/// Also the predictions that the walk keeps.
 #[derive(Drop)]
 pub struct WalkBuffers<T: Pixel> {
     /// The edge of a transform block: its neighbouring samples.

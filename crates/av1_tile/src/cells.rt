@@ -1,4 +1,4 @@
-//! The modes and references of the leaves, kept for each luma cell of a frame for the leaves that follow.
+//! Stores each leaf's modes and references by luma cell, for the leaves that follow. Only `new` allocates.
 //!
 //! AV1 specification: intra filter type process, which looks up the blocks above and to the left of one.
 

@@ -1,4 +1,4 @@
-//! The coefficients of a transform block, from the triples of its leaf.
+//! Writes a transform block's coefficients to a slice, from the triples of its leaf. Does not allocate.
 
 ghost use Rattle.std.specs.Prelude.{◌≡◌, ℕ, ◌≤◌, ◌<◌, ◌-◌, length, map, pos, All, replicate, slice_set, if◌then◌else◌};
 ghost use Rattle.std.specs.List.{fold};

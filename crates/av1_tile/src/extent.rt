@@ -1,4 +1,4 @@
-//! Width, height and depth of a part of a plane.
+//! The type `PlaneExtent`: width, height and depth of a part of a plane.
 
 use av1_plan::Header;
 

@@ -1,4 +1,4 @@
-//! Fills slices and planes with one value.
+//! Sets all items of a slice, or all samples that a plane stores, to one value. Does not allocate.
 
 ghost use Rattle.std.specs.Prelude.{◌≡◌, ◌≤◌, length, replicate};
 ghost use Rattle.av1_frame.specs.Planes.{IsWhole};

@@ -1,4 +1,4 @@
-//! The inputs of the walk for one leaf: the header, the references and the leaves before it.
+//! The type `WalkedFrame`: what the walk reads for one leaf (header, references, earlier leaves).
 
 use crate::cells::CodedCells;
 use crate::references::TileReferences;

@@ -32,9 +32,9 @@ pub fn versions_agree_elsewhere()
 {}
 
 /// Each sample that the slow walk of a valid plan reads has been written before, so that no missing sample counts as 0.
-/// It reads the samples that an edge begins with, the luma that chroma is predicted from, each sample that a residual
-/// is added to, and at the end each sample of the output. Around a block exactly those samples have been written that
-/// the availability tables name.
+/// It reads the samples that an edge begins with, the luma that chroma is predicted from, and each sample that a
+/// residual is added to. At the end it reads each sample of the output. Exactly those samples around a block have been
+/// written that the availability tables name.
 pub fn look_ups_find_samples()
     ensures at_steps { StepsFindSamples }
     ensures at_end { OutputIsThere }

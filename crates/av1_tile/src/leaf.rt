@@ -1,4 +1,4 @@
-//! The reconstruction of a leaf in each of the planes that it covers.
+//! Reconstructs a leaf in Y, and in U and V if it carries chroma. Writes the planes and the buffers.
 
 ghost use Rattle.std.specs.Prelude.{◌≡◌, ℕ, ◌<◌, length, []};
 ghost use Rattle.std.specs.List.{fold};

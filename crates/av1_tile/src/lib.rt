@@ -1,4 +1,4 @@
-//! The walk over the leaves of a plan: from decisions on blocks to samples.
+//! Reconstructs the frame of a plan: walks over its leaves, predicts, adds residuals. Writes planes; does no I/O.
 //!
 //! A [`TileState`] holds the three planes of a frame and its references, and [`reconstruct_tile`] writes a valid plan
 //! to the planes. For each leaf, in coding order, and each plane that the leaf covers:
@@ -8,15 +8,15 @@
 //! - each transform block of an intra leaf is predicted from the samples above and left of it;
 //! - the residuals of the transform blocks are added in raster order.
 //!
-//! Positions and dimensions are in samples of the plane at hand. A block that begins in the frame is written whole,
-//! even if it ends outside. An edge that reaches outside the frame repeats its last sample inside; at the left and
-//! upper end of the frame it has a number close to mid-grey. A reference repeats its nearest visible sample on all
-//! sides.
+//! Positions and dimensions are in samples of the plane at hand. A block that begins in the frame is written whole. At
+//! the frame's right and lower ends, an edge repeats its last sample inside. At the left or upper end, a missing side
+//! repeats one written sample. At the first sample, the sides are mid-grey plus or minus 1. A reference repeats its
+//! nearest visible sample on all sides.
 //!
 //! [`frame_invariants`] makes the settings of a plan's frame and fills its slots with the plan's planes
 //! (`HoldsReferences` of `specs/Motion.antt`). Each plane is padded by 80 samples on every side, or by 40 in a
-//! direction in which it is halved, so that motion compensation serves blocks up to 64x64. [`stored_references`] does
-//! so for a frame without leaves. A caller may also keep the planes of earlier frames in slots of its own choice
+//! direction in which it is halved. That is enough for motion of blocks up to 64x64. [`stored_references`] does the
+//! same for a frame without leaves. A caller may also keep the planes of earlier frames in slots of its own choice
 //! (`ServesPlan`).
 //!
 //! AV1 specification: decode block syntax, compute prediction syntax, intra prediction process, inter prediction

@@ -1,4 +1,4 @@
-//! The memory of a walk, allocated once for many frames.
+//! The memory of a walk, allocated once for many frames. Reconstructs leaves: writes this memory and given planes.
 
 ghost use Rattle.std.specs.Prelude.{◌≡◌, length};
 
@@ -91,7 +91,7 @@ impl<T: Pixel> WalkMemory<T> {
         self.reconstruct_tile(planes, &TileReferences::whole(fi, header), header, leaves);
     }
 
-    /// Reconstructs the leaves of a tile as a frame of its own, with the header `header`, but predicts them from the
+    /// Reconstructs the leaves of a tile as a frame of its own, with the header `header`. But it predicts them from the
     /// references of the whole frame, at the tile's position there. The visible samples of the planes are then those of
     /// the slow definition, whatever the planes held before.
     ///

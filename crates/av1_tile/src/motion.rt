@@ -1,4 +1,4 @@
-//! The motion of an inter leaf (its references and vectors), and the prediction of a rectangle by a motion.
+//! Describes the motion of an inter leaf, and predicts a rectangle by it. Writes the plane and a buffer.
 //!
 //! AV1 specification: inter prediction process.
 
@@ -17,7 +17,7 @@ use av1_plan::LeafKind;
 /// How a rectangle is predicted from references: from one, or from the average of two. rav1e has the same form.
 #[derive(Clone, Copy)]
 pub struct Motion {
-    /// The inter mode.
+    /// The inter mode. Prediction does not depend on it; only contracts mention it.
     pub mode: PredictionMode,
     /// The references. With only one reference, the second is `NONE_FRAME`.
     pub references: [RefType; 2],

@@ -1,4 +1,4 @@
-//! The block of a leaf in one plane.
+//! Describes a leaf's block in one plane: rectangle, prediction and transforms. Writes nothing.
 //!
 //! AV1 specification: residual syntax, which goes over the planes of a block.
 
@@ -33,7 +33,7 @@ pub enum Prediction {
     Parts(MotionParts),
 }
 
-/// What the leaves before a leaf say about its block in a plane.
+/// What earlier leaves decide about a leaf's block: edge filter parameters and motions of shared chroma.
 #[derive(Clone, Copy)]
 pub struct Nearby {
     /// The neighbours' parameters for the edge filter, if the filter is on.
@@ -93,7 +93,7 @@ fn chroma_prediction(
     }
 }
 
-/// How a leaf predicts plane `p`; `near` is what the leaves before it say.
+/// How a leaf predicts plane `p`. `near` is what earlier leaves decide.
 #[inline(always)]
 fn prediction_of(kind: LeafKind, p: usize, near: Nearby) -> Prediction
     ensures { result ≡ prediction_in near (component p) kind }
@@ -139,8 +139,8 @@ impl PlaneBlock {
     ghost use Rattle.av1_tile.specs.PlaneBlocks.{block_told, component};
     ghost use Rattle.av1_tile.specs.Walk.{leaf_with};
 
-    /// The block of a leaf in plane `p`: `area` is the leaf's rectangle in the plane, and `near` is what the leaves
-    /// before it say.
+    /// The block of a leaf in plane `p`: `area` is the leaf's rectangle in the plane, and `near` is what earlier
+    /// leaves decide.
     #[inline(always)]
     pub fn of_leaf(leaf: &Leaf, p: usize, area: PlaneArea, near: Nearby) -> PlaneBlock
         requires { p < 3 }

@@ -1,4 +1,4 @@
-//! The three planes of a picture.
+//! The three planes of a picture. `Planes::new` allocates them, and `row` lends a visible row.
 
 ghost use Rattle.std.specs.Prelude.{◌≡◌, ◌/◌, ◌^◌, ◌<◌, ◌≤◌, All, IfOk, map};
 ghost use Rattle.av1_frame.specs.Planes.{sample_at};
@@ -32,8 +32,8 @@ fn pad_of(pad: usize, decimation: usize) -> usize
     pad >> decimation
 }
 
-/// A plane of zeros with the coded width and height of plane `p` (0 for Y, 1 for U and 2 for V) of a frame, and a pad
-/// of `pad` luma samples on every side: half as many samples in a direction in which the plane is halved.
+/// A plane of zeros with the coded width and height of plane `p` (0 for Y, 1 for U and 2 for V) of a frame. Its pad has
+/// `pad` samples on every side, or half as many in a direction in which the plane is halved.
 ///
 /// It has storage for whole superblocks. The only error is running out of memory.
 fn plane_of_frame<T: Pixel>(
@@ -85,8 +85,8 @@ impl<T: Pixel> Planes<T> {
     ghost use Rattle.av1_tile.specs.PlaneBlocks.{component};
     ghost use Rattle.av1_tile.specs.Walk.{AreFilledWith, AreFrame, HasPads, HasRoom, plane_of, StoresAll};
 
-    /// Planes of zeros for a frame, padded to whole superblocks, and with a pad of `pad` luma samples on every side:
-    /// half as many samples in a direction in which the plane is halved. The only error is running out of memory.
+    /// Planes of zeros for a frame, padded to whole superblocks. Each also has a pad of `pad` samples on every side, or
+    /// half as many in a direction in which the plane is halved. The only error is running out of memory.
     pub fn new(alloc: Global, header: &Header, pad: usize) -> Result<Planes<T>, OutOfMemory>
         requires frame { IsReadFrame header.now }
         requires pad { pad ≤ 256 }

@@ -1,4 +1,4 @@
-//! The predictions of a frame's visible samples, kept if a caller asks for them.
+//! Keeps the predictions of a frame's visible samples, if a caller asks for them. Only `new` allocates.
 
 ghost use Rattle.std.specs.Prelude.{◌≡◌, ◌+◌, ◌*◌, ◌<◌, length};
 ghost use Rattle.av1_frame.specs.Areas.{AreRows};

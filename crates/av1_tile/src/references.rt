@@ -1,4 +1,4 @@
-//! The references of a tile: those of its frame, and the position of the tile in that frame.
+//! The references of a tile: the planes of its frame, and the tile's position in them. Only reads them.
 
 ghost use Rattle.std.specs.Prelude.{◌≡◌};
 

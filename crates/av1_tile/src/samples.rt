@@ -1,4 +1,4 @@
-//! Copies samples from a list, row by row, into the visible part of a plane.
+//! Copies samples from a list, row by row, to the visible part of a plane. Does not allocate.
 
 ghost use Rattle.std.specs.Prelude.{◌≡◌, ◌+◌, ◌*◌, ◌^◌, ◌<◌, ◌≤◌, length, slice_index};
 ghost use Rattle.std.specs.List.{All};

@@ -1,4 +1,4 @@
-//! Chroma blocks that inter leaves with a side of 4 share: which motion predicts each part, and the prediction of all.
+//! Predicts chroma that small inter leaves share, each part by its leaf's motion. Writes the plane and a buffer.
 //!
 //! AV1 specification: compute prediction syntax, which predicts such a block by the leaf that covers each part's luma.
 
@@ -110,7 +110,7 @@ fn parts_at(earlier: &[Leaf], leaf: &Leaf, narrow: bool, low: bool) -> Option<Mo
     })
 }
 
-/// Whether a leaf's block in plane `p` is one that leaves share: a side of 4 that is halved there.
+/// Whether leaves share a leaf's block in plane `p`: the leaf has a side of 4 that is halved there.
 #[inline(always)]
 pub fn is_shared(header: &Header, leaf: &Leaf, p: usize) -> bool
     ensures { result ≡ (is_narrow leaf.now.size (xdec header.now p) || is_low leaf.now.size (ydec header.now p)) }

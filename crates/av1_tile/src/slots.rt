@@ -1,4 +1,4 @@
-//! The settings of a plan's frame, and the padded planes of its slots.
+//! Makes the settings of a plan's frame and the padded planes of its slots. Allocates them.
 
 ghost use Rattle.std.specs.Prelude.{◌≡◌, ◌/◌, ◌^◌, ◌<◌, ◌≤◌, IfOk, length};
 ghost use Rattle.av1_plan.specs.Values.{plan_value};
@@ -12,8 +12,8 @@ use av1_frame::{FrameInvariants, Pixel, Plane};
 use av1_plan::{Header, Plan, SlotPlanes};
 use std::alloc::Global;
 
-/// The pad of a reference on each side, in luma samples: a block of 64x64 reads 71 samples past a side (64 and the 7
-/// further taps of the filter).
+/// The pad of a reference on each side, in luma samples. It suffices, because a block of 64x64 reads 71 samples past a
+/// side (64 and the 7 further taps of the filter).
 const PAD: usize = 80;
 
 /// The number of slots.

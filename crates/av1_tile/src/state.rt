@@ -1,4 +1,4 @@
-//! The state of a reconstruction (planes, references and memory), and the reconstruction of a plan in it.
+//! Keeps planes, references and memory (`new` allocates them), and reconstructs plans: writes planes and memory.
 
 ghost use Rattle.std.specs.Prelude.{◌≡◌, ◌≤◌, None};
 ghost use Rattle.av1_plan.specs.Values.{plan_value};

@@ -1,4 +1,4 @@
-//! The walk over the leaves of a plan, in coding order.
+//! Walks over all leaves in coding order. Writes the planes, the cells and the buffers.
 
 ghost use Rattle.std.specs.Prelude.{◌≡◌, ◌<◌, All, length};
 ghost use Rattle.std.specs.List.{fold};

@@ -1,4 +1,4 @@
-//! The block of a leaf in one plane: predicted as a whole if it is inter, then transform block by transform block.
+//! Reconstructs a leaf's block in one plane. Writes that plane, the buffers and the kept predictions.
 
 ghost use Rattle.std.specs.Prelude.{◌≡◌, ◌≢◌, ℕ, ◌+◌, ◌*◌, ◌^◌, ◌<◌, ◌≤◌, ◌||◌, length, slice_index_or, [], IfSome, IfNone, Some, None, true, false};
 ghost use Rattle.std.specs.List.{fold};
@@ -293,8 +293,8 @@ fn predict_whole<T: Pixel>(
     }
 }
 
-/// Reconstructs a leaf's block in a plane: the prediction of the whole area if the leaf is inter, then its transform
-/// blocks.
+/// Reconstructs a leaf's block in a plane: predicts the whole area if the leaf is inter, then reconstructs each
+/// transform block.
 #[inline(always)]
 fn reconstruct_plane_block<T: Pixel>(
     plane: &mut Plane<T>,
@@ -332,7 +332,7 @@ fn is_inter(kind: LeafKind) -> bool
     }
 }
 
-/// The block of an inter leaf in plane `p`, if the leaves before it may share the block.
+/// Describes an inter leaf's block in plane `p` that earlier leaves may share.
 #[inline(never)]
 fn shared_block<T>(frame: &WalkedFrame<'_, '_, T>, leaf: &Leaf, p: usize) -> PlaneBlock
     requires plane { p < 3 }
@@ -346,7 +346,7 @@ fn shared_block<T>(frame: &WalkedFrame<'_, '_, T>, leaf: &Leaf, p: usize) -> Pla
     PlaneBlock::of_leaf(leaf, p, leaf.plane_area(frame.header, p), near)
 }
 
-/// The block of an inter leaf in plane `p`, if it shares the block with no other leaf.
+/// Describes an inter leaf's block in plane `p` that no other leaf shares.
 #[inline(always)]
 fn inter_block<T>(frame: &WalkedFrame<'_, '_, T>, leaf: &Leaf, p: usize) -> PlaneBlock
     requires plane { p < 3 }
@@ -361,7 +361,7 @@ fn inter_block<T>(frame: &WalkedFrame<'_, '_, T>, leaf: &Leaf, p: usize) -> Plan
     PlaneBlock::of_leaf(leaf, p, leaf.plane_area(frame.header, p), near)
 }
 
-/// The block of an intra leaf in plane `p`.
+/// Describes an intra leaf's block in plane `p`.
 #[inline(always)]
 fn intra_block<T>(frame: &WalkedFrame<'_, '_, T>, leaf: &Leaf, p: usize) -> PlaneBlock
     requires frame { IsReadFrame frame.now.header.now }

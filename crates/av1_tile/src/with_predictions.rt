@@ -1,4 +1,4 @@
-//! The reconstruction of a plan that also returns the prediction of each visible sample.
+//! Reconstructs a plan, and returns its planes and the prediction of each visible sample. Allocates them.
 
 ghost use Rattle.std.specs.Prelude.{◌≡◌, ◌≤◌, IfOk, None};
 ghost use Rattle.av1_plan.specs.Values.{plan_value};

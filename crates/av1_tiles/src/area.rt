@@ -1,4 +1,4 @@
-//! The rectangles of a frame that are its tiles.
+//! The type `TileArea`: a tile's rectangle of its frame, in samples of luma.
 
 /// A tile's rectangle of the frame, in samples of luma.
 #[derive(Clone, Copy, Debug, PartialEq, Eq)]

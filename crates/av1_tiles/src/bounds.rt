@@ -1,4 +1,4 @@
-//! Reads where the columns and the rows of tiles begin.
+//! Reads where the columns or rows of tiles begin. Moves the reader forward, and allocates the list.
 
 ghost use Rattle.av1_plan.specs.Format.{read_field, read, add};
 ghost use Rattle.av1_plan.specs.Reading.{Gives, input, Moves};

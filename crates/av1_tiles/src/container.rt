@@ -1,4 +1,4 @@
-//! Reads a grid of tiles from bytes.
+//! Parses a grid of tiles from a slice of bytes. Allocates lists, but the tiles' parts stay in the slice.
 
 ghost use Rattle.std.specs.Prelude.{◌≡◌, ◌≤◌, ◌^◌, length, map, [], IfOk, vec_len, All};
 ghost use Rattle.av1_plan.specs.Format.{four, read_field, read};

@@ -1,4 +1,4 @@
-//! Why a tile or a grid of tiles is rejected.
+//! The errors of a tile and of a grid, and their conversion from the errors of the crates below.
 
 ghost use Rattle.std.specs.Prelude.{◌≡◌};
 ghost use Rattle.av1_tiles.specs.Errors.{read_error, file_error};

@@ -1,4 +1,4 @@
-//! A grid of tiles in memory.
+//! The types of a parsed grid: settings, reference planes, where tiles begin, and a slice for each tile.
 
 use av1_plan::{Header, SlotPlanes};
 

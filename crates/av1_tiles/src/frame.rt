@@ -1,4 +1,4 @@
-//! Joins the planes of tiles to the planes of their frame.
+//! Reconstructs a tile, and copies it to the planes of its frame. Writes these planes; allocates the tile's own.
 
 ghost use Rattle.std.specs.Prelude.{◌≡◌, ◌<◌, ◌≤◌, length, slice_index, ◌≢◌, ℕ, None, OnOk, OnErr, IfOk, IfErr};
 ghost use Rattle.av1_frame.specs.Planes.{InPlane, painted_plane};

@@ -1,4 +1,4 @@
-//! Reconstructs the frame of a grid of tiles.
+//! Reconstructs all tiles of a grid, and returns the planes of their frame. Allocates them; does no I/O.
 
 ghost use Rattle.std.specs.Prelude.{◌≡◌, ◌≤◌, ◌<◌, IfOk, IfErr};
 ghost use Rattle.av1_tile.specs.Walk.{AreFrame, samples_of};

@@ -1,4 +1,4 @@
-//! Laws of grids of tiles.
+//! Theorems about grids of tiles. Each function does nothing: its contract is the theorem.
 
 ghost use Rattle.av1_tiles.specs.Joined.{PlansAreAll, TilesAreIsolated};
 ghost use Rattle.av1_tiles.specs.Outcomes.{OutcomesAreOne};

@@ -1,4 +1,4 @@
-//! Grids of tiles that don't read each other: the format, the plan of each tile, and the frame of all tiles.
+//! Grids of tiles that don't read each other: reads a source, reconstructs the tiles, writes their frame. Allocates.
 //!
 //! The format has the settings and the reference samples of a frame, where its tiles begin, and a part for each tile. A
 //! tile's plan has the tile's dimensions, the tile's rectangle of each reference, and the leaves that its part spells

@@ -1,4 +1,4 @@
-//! Reads a grid of tiles from a source and writes the planes of its frame to a sink.
+//! Reads a grid of tiles from a source, and writes the planes of its frame to a sink. Allocates.
 
 ghost use Rattle.std.specs.Prelude.{◌≢◌, ◌≤◌, Ok, IfOk, IfErr, OnOk, length};
 ghost use Rattle.std.specs.Io.KnownBytes.{Appends};

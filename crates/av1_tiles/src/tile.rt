@@ -1,4 +1,4 @@
-//! The plan of a tile.
+//! Makes the plan of a tile from its part and the frame's settings and references. Allocates the plan.
 
 ghost use Rattle.std.specs.Prelude.{◌≡◌, ◌+◌, ◌*◌, ◌<◌, ◌≤◌, length, IfOk, IfErr, MatchResult, option_map, vec_len};
 ghost use Rattle.av1_plan.specs.declared.error.PlanError.TheVariants.{Memory};

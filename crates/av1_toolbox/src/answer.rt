@@ -1,4 +1,4 @@
-//! The exit status and the line of each result.
+//! Turns a tool's result into an exit status and a line, and writes the line to the error sink.
 ghost use Rattle.std.specs.Prelude.{◌≡◌};
 ghost use Rattle.av1_recon.specs.Answers.{HasLine};
 ghost use Rattle.av1_recon.specs.Ends.{answer_line as line_of, answer_status as status_of, written};

@@ -1,4 +1,4 @@
-//! Tools for plans, each with a name, over any source and sinks:
+//! Tools for plans, each with a name. A tool reads a source, and writes a sink and an error line. Allocates. The tools:
 //!
 //! - `tiles` reconstructs a grid of tiles.
 //! - `trace` compares the planes of another encoder with a plan.
@@ -12,8 +12,8 @@
 //! This crate uses `av1_tiles`, `av1_trace`, `av1_sequence` and `av1_planwrite` for the tools, and `av1_recon` for the
 //! lines and statuses of programs.
 //!
-//! What it promises: each tool keeps the contract of its call, for the source, the output and the status, with the line
-//! of each result. And each status says something of the bytes and of the output (`specs/Ends.antt`,
+//! What it promises: each tool keeps the contract of its call, and the status and the line are those of the result.
+//! Each status also says something about the bytes and the output (`specs/Ends.antt`,
 //! `specs/EndsInTurn.antt`).
 #![tactic(auto)]
 

@@ -1,4 +1,4 @@
-//! All that the tools do.
+//! Runs the tool that the argument names: reads `source`, writes `out`, and an error's line to `err`. Allocates.
 ghost use Rattle.std.specs.Prelude.{◌≡◌, ◌↔◌, ℕ, Result, Some, None, map, string_bytes};
 ghost use Rattle.av1_planwrite.specs.Bare.{bare_text};
 ghost use Rattle.av1_recon.specs.Answers.{HasLine, line_of as plan_line_of, status_of as plan_status_of};

@@ -1,4 +1,4 @@
-//! The tools, and their names.
+//! Finds the tool that the argument names. Changes nothing.
 ghost use Rattle.std.specs.Prelude.{◌≡◌, map, string_bytes};
 ghost use Rattle.av1_toolbox.specs.Tools.{named, tool_of};
 

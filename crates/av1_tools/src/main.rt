@@ -1,6 +1,6 @@
-//! Tools for plans, each with a name: `tiles` reconstructs a grid of tiles, and `trace` compares the planes of another
-//! encoder with a plan. `sequence` reconstructs frames that are predicted from earlier frames, and `bare` writes a plan
-//! without its coefficients.
+//! Runs a tool for plans on standard input and output. The argument names the tool:
+//! `tiles` reconstructs a grid of tiles. `trace` compares another encoder's planes with a plan. `sequence` reconstructs
+//! frames that are predicted from earlier frames. `bare` writes a plan without its coefficients.
 //!
 //! `av1_toolbox::run_tools` is all that the program does. This file connects it to the real source and sinks.
 //! `av1_recon::run_on_words` reads the arguments, flushes the output and sets the exit status.

@@ -1,4 +1,4 @@
-//! The exit status and the line of each error.
+//! Turns an error into an exit status and a line, and writes the line to the error sink. Does not allocate.
 ghost use Rattle.std.specs.Prelude.{◌≡◌};
 ghost use Rattle.av1_recon.specs.Answers.{HasLine};
 ghost use Rattle.av1_recon.specs.Ends.{error_status};
@@ -34,9 +34,9 @@ fn error_line(error: TraceError) -> Line
     }
 }
 
-/// Writes the line of an error, and returns its exit status: 2 if the bytes are rejected, 3 if memory ran out, 4 if a
-/// read failed, 5 if a write failed. If a write to `err` fails, `err` has a prefix of the line, and the status is the
-/// same.
+/// Writes the line of an error, and returns its exit status. It is 2 if the bytes are rejected, 3 if memory ran out, 4
+/// if a read failed, 5 if a write failed. If a write to `err` fails, `err` has a prefix of the line, and the status is
+/// the same.
 pub fn report_error<E: Sink>(error: TraceError, err: &mut E) -> u8
     ensures status { result ≡ error_status (cause error) }
     ensures line { HasLine E.taken E.faults err.old err.new (error_line error) }

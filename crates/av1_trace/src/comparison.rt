@@ -1,4 +1,4 @@
-//! Compares the given samples of each leaf with the samples of the plan.
+//! Reconstructs a plan, and lists where another encoder's planes differ. Allocates the planes and the list.
 
 ghost use Rattle.std.specs.Prelude.{◌≡◌, ◌≢◌, ◌↔◌, ℕ, ◌+◌, ◌-◌, ◌*◌, ◌<◌, ◌≤◌, ◌++◌, [], None, IfOk, IfNone, IfSome, OnOk, Some, length, map};
 ghost use Rattle.std.specs.Prelude.{slice_index};

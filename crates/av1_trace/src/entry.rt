@@ -1,4 +1,4 @@
-//! An entry of the list of differences between a trace and its plan.
+//! The type `Difference`: a leaf's first sample in a plane that differs, with both values.
 
 /// The first sample of a leaf in a plane that differs from the sample of the plan.
 #[derive(Copy, Clone, Debug, PartialEq, Eq)]

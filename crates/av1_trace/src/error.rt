@@ -1,4 +1,4 @@
-//! Why a trace was not compared.
+//! The errors of comparing a trace, and their conversion from the errors of the crates below.
 ghost use Rattle.std.specs.Prelude.{◌≡◌};
 ghost use Rattle.av1_trace.specs.TraceErrors.{read_error, plan_error, invalid_error};
 ghost use Rattle.av1_trace.specs.declared.error.TraceError.TheVariants as variants;

@@ -1,4 +1,4 @@
-//! Laws of differences and of traces.
+//! Theorems about differences and traces. Each function does nothing: its contract is the theorem.
 
 ghost use Rattle.std.specs.Prelude.{◌≡◌, ℕ, ◌<◌, ◌^◌, All, List, None, count_by};
 ghost use Rattle.av1_order.specs.Neighbours.{in_area};

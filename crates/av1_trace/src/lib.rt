@@ -1,4 +1,4 @@
-//! Compares planes of another encoder with the planes of their plan.
+//! Compares planes of another encoder with their plan: reads a source, writes lines to a sink. Allocates.
 //!
 //! [`compare`] takes a valid plan and the bytes of its visible planes from another encoder. It lists each leaf and
 //! plane with a sample that differs from the slow definition, and the first such sample. So the list says at which

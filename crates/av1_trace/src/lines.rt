@@ -1,4 +1,4 @@
-//! Writes the lines on differences.
+//! Writes a line for each difference to a sink. Does not allocate.
 ghost use Rattle.std.specs.Prelude.{◌≡◌, OnOk};
 ghost use Rattle.std.specs.List.{flat_map};
 ghost use Rattle.std.specs.Io.KnownBytes.{Appends};

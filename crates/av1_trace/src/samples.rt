@@ -1,4 +1,4 @@
-//! Reads samples from the bytes of planes.
+//! Finds rows and samples in the bytes of planes. Changes nothing.
 
 ghost use Rattle.std.specs.Prelude.{◌≡◌, ℕ, ◌+◌, ◌*◌, ◌<◌, ◌≤◌, length};
 ghost use Rattle.av1_plan.specs.Geometry.{shown_rows, shown_columns};

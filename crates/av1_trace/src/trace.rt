@@ -1,4 +1,4 @@
-//! Traces: a plan, and its planes from another encoder.
+//! Reads a trace (a plan, and planes to compare) from a source, and writes its differences to a sink. Allocates.
 ghost use Rattle.std.specs.Prelude.{◌≡◌, ◌≢◌, ◌<◌, ◌≤◌, ◌^◌, ℕ, List, IfOk, IfErr, length};
 ghost use Rattle.av1_plan.specs.Values.{plan_value};
 ghost use Rattle.av1_plan.specs.Plan.{PlanValue};

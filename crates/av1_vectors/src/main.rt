@@ -1,6 +1,6 @@
-//! Reads a plan from standard input, reconstructs it and writes its planes to standard output.
+//! Reads a plan from standard input, reconstructs it, and writes its planes to standard output.
 //!
-//! `av1_recon::run` is all that the program does. This file connects it to the real source and sinks.
+//! `av1_recon::run` does this, and also the commands `make N` and `sum N`. This file connects it to the real streams.
 //! `av1_recon::run_on_words` reads the arguments, flushes the output and sets the exit status.
 #![tactic(auto)]
 

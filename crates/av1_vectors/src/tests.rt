@@ -1,6 +1,6 @@
-// What no recorded row can say: counts, planes that held something before, memory that runs out, readers and writers,
-// builders, printed text, frames of any sides, rules that are AV1's, chroma that leaves share. Then worked examples of
-// calls of the libraries, and of plans that are short enough to be read.
+// Tests, over memory, of what recorded rows can't show, and worked examples. `support` has what tests share.
+// Rows can't show counts, earlier contents of planes, readers and writers, builders, printed text and failing memory.
+// The examples are of library calls, and of plans that are short enough to be read.
 mod builder;
 mod chroma;
 mod compared;

@@ -1,4 +1,4 @@
-//! The exit status and the line of each result on a trace.
+//! Turns the result on a trace into an exit status and a line, and writes the line to the error sink.
 ghost use Rattle.std.specs.Prelude.{◌≡◌};
 ghost use Rattle.av1_recon.specs.Answers.{HasLine};
 ghost use Rattle.av1_view.specs.Answers.{trace_line, trace_status};

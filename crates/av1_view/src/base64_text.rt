@@ -1,4 +1,4 @@
-//! Writes bytes in base64, piece by piece.
+//! Writes bytes in base64 to a sink, piece by piece, through a fixed buffer. Does not allocate.
 ghost use Rattle.std.specs.Prelude.{◌≡◌, ℕ, ◌+◌, ◌*◌, ◌<◌, ◌≤◌, List, [], ◌++◌, OnOk, drop, length, take};
 ghost use Rattle.std.specs.Io.KnownBytes.{Appends};
 ghost use Rattle.av1_streams.specs.Faults.{HasCause};

@@ -1,4 +1,4 @@
-//! Reads the command line's arguments.
+//! Parses the arguments into a command: what kind of file the page shows. Changes nothing.
 ghost use Rattle.std.specs.Prelude.{◌≡◌, map, string_bytes};
 ghost use Rattle.av1_view.specs.Commands.{command_of, named};
 

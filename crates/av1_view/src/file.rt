@@ -1,4 +1,4 @@
-//! A file of frames or of tiles with its planes, and the page of the file.
+//! Writes the page of a file of frames or tiles, and of its planes, to a sink. Does not allocate.
 ghost use Rattle.std.specs.Prelude.{OnOk};
 ghost use Rattle.std.specs.Io.KnownBytes.{Appends};
 ghost use Rattle.av1_streams.specs.Faults.{HasCause};

@@ -1,4 +1,4 @@
-//! A sink that keeps all bytes in memory.
+//! A sink that keeps all bytes in memory. Each write may allocate.
 ghost use Rattle.std.specs.Prelude.{◌≡◌, ◌<◌, [], Some, length, IfOk};
 ghost use Rattle.std.specs.Io.{WritesAtMost};
 ghost use Rattle.std.specs.Io.KnownBytes.{WriteAppends};

@@ -1,4 +1,4 @@
-//! Laws of pages. They do nothing at run time.
+//! Theorems about pages. Each function does nothing: its contract is the theorem.
 ghost use Rattle.std.specs.Prelude.{◌≡◌, ℕ, ◌<◌, List, length};
 ghost use Rattle.av1_streams.specs.Streams.{AreBytes};
 ghost use Rattle.av1_view.specs.Packed.{packed, unpacked};

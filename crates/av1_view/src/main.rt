@@ -1,5 +1,5 @@
-//! Reads a plan from standard input, and writes a page that shows it to standard output. The page is one file for any
-//! browser. The program also shows other inputs:
+//! Reads a plan from standard input, and writes a page that shows it to standard output.
+//! The page is one file for any browser. The program also shows other inputs:
 //!
 //! - With the argument `trace` it reads a plan and its planes from another encoder. The page marks where these differ.
 //! - With the argument `sequence` it reads a sequence of frames.

@@ -1,4 +1,4 @@
-//! Packs predictions as differences from the planes.
+//! Packs predictions as differences from the planes. Allocates the packed bytes; does no I/O.
 ghost use Rattle.std.specs.Prelude.{◌≡◌, ◌+◌, ◌<◌, ◌≤◌, ◌^◌, ◌++◌, All, IfOk, drop, length, take};
 ghost use Rattle.av1_lists.specs.Lists.{by_index};
 ghost use Rattle.av1_view.specs.Packed.{bits_of, change, group_bytes, joined, less, numbers, packed, residue, sign_last};

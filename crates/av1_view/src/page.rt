@@ -1,4 +1,4 @@
-//! Writes the page from the bytes that it shows.
+//! Writes a page to a sink: constant parts, and between them the bytes that it shows. Does not allocate.
 ghost use Rattle.std.specs.Prelude.{OnOk};
 ghost use Rattle.std.specs.List.{flat_map};
 ghost use Rattle.std.specs.Io.KnownBytes.{Appends};

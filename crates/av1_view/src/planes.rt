@@ -1,4 +1,4 @@
-//! The planes of a plan in memory, and their predictions.
+//! Reconstructs a plan, and returns its planes and its predictions as bytes. Allocates them.
 ghost use Rattle.std.specs.Prelude.{◌≡◌, None, IfOk};
 ghost use Rattle.av1_plan.specs.Values.{plan_value};
 ghost use Rattle.av1_plan.specs.Validity.{first_fault};

@@ -1,4 +1,4 @@
-//! All that the program does.
+//! Runs `av1_view`: reads a plan, trace, sequence or grid; writes a page, and on failure one line. Allocates.
 ghost use Rattle.std.specs.Prelude.{◌≡◌, ◌↔◌, Some, None, map, string_bytes};
 ghost use Rattle.av1_recon.specs.Answers.{HasLine, line_of, status_of};
 ghost use Rattle.av1_recon.specs.Ends.{EndsWith, IsDone, answer_line, answer_status, written};

@@ -1,4 +1,4 @@
-//! Reads a sequence of frames from a source and writes a page that shows it to a sink.
+//! Reads a sequence of frames from a source, and writes a page that shows it to a sink. Allocates.
 ghost use Rattle.std.specs.Prelude.{◌≡◌, ◌≢◌, ◌≤◌, Ok, Err, IfOk, IfErr, length};
 ghost use Rattle.av1_sequence.specs.Tasks.{cause_of};
 ghost use Rattle.av1_sequence.specs.declared.error.SequenceError.TheVariants.{Memory};

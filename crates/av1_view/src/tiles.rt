@@ -1,4 +1,4 @@
-//! Reads a grid of tiles from a source and writes a page that shows it to a sink.
+//! Reads a grid of tiles from a source, and writes a page that shows it to a sink. Allocates.
 ghost use Rattle.std.specs.Prelude.{◌≡◌, ◌≢◌, ◌≤◌, Ok, Err, IfOk, IfErr, length};
 ghost use Rattle.av1_tiles.specs.Tasks.{cause_of};
 ghost use Rattle.av1_tiles.specs.declared.error.TilesError.TheVariants.{Memory};

@@ -1,4 +1,4 @@
-//! Reads a trace from a source and writes a page to a sink that shows where samples differ from the trace's plan.
+//! Reads a trace from a source, and writes a page that shows where samples differ to a sink. Allocates.
 ghost use Rattle.std.specs.Prelude.{◌≡◌, ◌≢◌, ◌≤◌, None, IfOk, IfErr, length};
 ghost use Rattle.av1_plan.specs.Values.{plan_value};
 ghost use Rattle.av1_plan.specs.Validity.{first_fault};

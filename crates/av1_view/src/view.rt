@@ -1,4 +1,4 @@
-//! Reads a plan from a source and writes a page that shows it to a sink.
+//! Reads a plan from a source, and writes a page that shows it to a sink. Allocates.
 ghost use Rattle.std.specs.Prelude.{◌≡◌, None, IfOk};
 ghost use Rattle.av1_plan.specs.Values.{plan_value};
 ghost use Rattle.av1_plan.specs.Validity.{first_fault};

@@ -1,4 +1,4 @@
-//! The prediction of leaves.
+//! Draws how a leaf is predicted. Appends these fields to the maker's bytes, which may allocate.
 
 ghost use Rattle.std.specs.Prelude.{◌≡◌, ◌≤◌};
 ghost use Rattle.av1_plan.specs.Generator.{chroma_modes};

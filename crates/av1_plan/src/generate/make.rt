@@ -1,4 +1,4 @@
-//! The plan of a number: its header, its reference and its leaves.
+//! Makes the plan of a number: header, reference samples and leaves. Allocates its bytes and returns them.
 
 ghost use Rattle.std.specs.Prelude.{◌≡◌, ◌≤◌, ◌^◌, IfOk, vec_len};
 ghost use Rattle.av1_plan.specs.Generator.{shown_side, frame, sample, plan_bytes_in, plan_bytes};

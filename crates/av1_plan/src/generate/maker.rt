@@ -1,4 +1,4 @@
-//! A plan in the making: fields are written one after the other, and numbers are drawn.
+//! Draws random numbers, and appends fields to the bytes of a plan. Appending may allocate.
 
 ghost use Rattle.std.specs.Prelude.{◌≡◌, ◌<◌, ◌%◌, [], OnOk};
 

@@ -1,4 +1,4 @@
-//! The nodes of superblocks, down to their leaves.
+//! Draws how superblocks are cut into leaves. Appends marks and leaves to the maker's bytes, which may allocate.
 
 use crate::generate::maker::Maker;
 use crate::nodes::{half_side, part_size, whole_size};

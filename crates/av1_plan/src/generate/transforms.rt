@@ -1,4 +1,4 @@
-//! The transforms of leaves, and their coefficients.
+//! Draws a whole leaf: prediction, transforms, coefficients. Appends it to the maker's bytes, which may allocate.
 
 use crate::Header;
 use crate::generate::maker::Maker;
@@ -11,8 +11,8 @@ impl Maker {
     ghost use Rattle.av1_plan.specs.Generator.{tx_type, luma_transforms, triple, triples, chroma_triples, leaf};
     ghost use Rattle.av1_plan.specs.Making.{work, run};
 
-    /// Writes a type that transforms of this size may have: only the cosine transform at 64, also the identity (9) at
-    /// 32, and any type except the Walsh-Hadamard transform below.
+    /// Writes a type that transforms of this size may have. At 64 it is the cosine transform, at 32 also the identity
+    /// (9). Below 32 it is any type except the Walsh-Hadamard transform.
     #[tactic(auto, unfolding(crate::specs::Generator::tx_type, crate::specs::Generator::type_within))]
     fn tx_type(&mut self, size: TxSize) -> Result<(), OutOfMemory>
         ensures { OnOk result (work self.new ≡ run (tx_type size) (work self.old)) }

@@ -1,4 +1,4 @@
-//! Reading the fields before the reference samples.
+//! Reads the fields of a header. Moves the reader forward; does not allocate.
 
 use crate::error::PlanError;
 use crate::header::Header;

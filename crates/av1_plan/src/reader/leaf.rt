@@ -1,4 +1,4 @@
-//! Reading a leaf.
+//! Reads the fields of a leaf. Moves the reader forward, and appends triples to a list, which may allocate.
 
 use crate::error::PlanError;
 use crate::geometry::carries_chroma;

@@ -1,4 +1,4 @@
-//! Reading the mark of a node.
+//! Tests which marks a node may have, and reads a mark. Moves the reader forward; does not allocate.
 
 use crate::error::PlanError;
 use crate::header::Header;
@@ -10,8 +10,8 @@ impl Header {
     ghost use Rattle.std.specs.Prelude.{◌≡◌, ◌≤◌, true};
     ghost use Rattle.av1_plan.specs.Grammar.{admits_stripes, is_mark};
 
-    /// Whether a node of side `4 << level` may be cut into four leaves that are a quarter as wide or as high: from the
-    /// second version on, with a side from 16 to 64, and if it lies wholly in the coded frame.
+    /// Whether a node of side `4 << level` may be cut into four leaves that are a quarter as wide or as high. It needs
+    /// the second version or a later one and a side from 16 to 64, and has to lie wholly in the coded frame.
     #[tactic(auto, unfolding(crate::specs::Grammar::admits_stripes))]
     fn admits_stripes(&self, level: u8, x: u16, y: u16) -> bool
         requires level { level ≤ 4 }
@@ -26,8 +26,8 @@ impl Header {
             && usize::from(y + side) <= self.coded_height()
     }
 
-    /// Whether a node of side `4 << level` luma samples, whose first sample is at column `x` and row `y`, may have this
-    /// mark: 0 to 3, or 8 or 9 for four leaves.
+    /// Whether a node may have this mark: 0 to 3, or 8 or 9 for four leaves. The node has side `4 << level` in luma
+    /// samples, and its first sample is at column `x` and row `y`.
     #[tactic(auto, unfolding(crate::specs::Grammar::is_mark))]
     pub fn is_mark(&self, level: u8, x: u16, y: u16, mark: u8) -> bool
         requires level { level ≤ 4 }

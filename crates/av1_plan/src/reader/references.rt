@@ -1,4 +1,4 @@
-//! Reading the reference samples.
+//! Reads the reference samples of all slots. Moves the reader forward; allocates the planes.
 
 ghost use Rattle.std.specs.Prelude.{◌≡◌, ◌≤◌, length, take, IfOk};
 

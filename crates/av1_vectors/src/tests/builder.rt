@@ -1,4 +1,4 @@
-// A plan that is built.
+// Tests that `PlanBuilder` builds a plan field by field, and takes planes only within the depth.
 use super::support::{WHOLE, same};
 use av1_blocks::{FilterMode, PredictionMode, TxSize, TxType};
 use av1_plan::{ChromaMode, Header, LeafKind};

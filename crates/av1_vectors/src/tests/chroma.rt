@@ -1,4 +1,4 @@
-// Chroma that is predicted from luma.
+// Tests chroma from luma on worked samples: luma's differences from its mean, and the prediction.
 use super::support::{four_rows, same};
 use av1_blocks::{BlockSize, FilterMode, PredictionMode, TxSize};
 use av1_edges::IntraEdge;

@@ -1,4 +1,4 @@
-// Planes that are compared with those of a plan.
+// Tests that `compare` finds no difference between a plan and its own planes.
 use super::support::WHOLE;
 use av1_recon::{SliceSource, read_plan};
 use av1_trace::{compare, planes_len};

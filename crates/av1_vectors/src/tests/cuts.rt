@@ -1,4 +1,4 @@
-// Input that is cut, and a first read that fails. Recorded rows let each read and each write fail.
+// Tests plans that are cut at each byte, and a first read that fails. Recorded rows let every read and write fail.
 use super::support::{PLAN, PLANES, WHOLE, same};
 use av1_recon::{MemSink, ReconError, SliceSource, reconstruct_plan};
 use std::alloc::Global;
@@ -9,7 +9,7 @@ const INSIDE: [usize; 21] = [
     1, 2, 3, 5, 7, 32, 35, 37, 38, 39, 41, 43, 52, 54, 56, 65, 67, 69, 78, 80, 82,
 ];
 
-/// What a plan comes to, byte by byte, if the reads with these numbers fail, and how many bytes are then written.
+/// Reconstructs a plan byte by byte while the reads with these numbers fail. Returns the result and the written length.
 fn bytewise(
     rt: &impl Abort,
     alloc: Global,

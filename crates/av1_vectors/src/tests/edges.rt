@@ -1,4 +1,4 @@
-// Sides that are smoothed and upsampled.
+// Tests that an edge is filtered and upsampled, on worked samples.
 use super::support::same;
 use av1_rav1e::rust::{filter_edge, upsample_edge};
 

@@ -1,11 +1,11 @@
-// Running out of memory.
+// Tests that nothing is written if memory runs out, and that buffers and bytes are made if it doesn't.
 use super::support::{PLAN, PLANES, are_planes, same};
 use av1_edges::IntraEdgeBuffer;
 use av1_inter::InterCompoundBuffers;
 use av1_recon::{MemSink, ReconError, SliceSource, read_plan_bytes, reconstruct_plan};
 
-// With ample memory the planes are written. Where an allocation fails, as in a run that lets each fail in turn, nothing
-// is.
+// With ample memory the planes are written. If an allocation fails, nothing is written. A run of the tests can let each
+// allocation fail in turn.
 #[test]
 fn running_out_of_memory_writes_nothing(rt: HostRuntime) {
     let Ok(mut sink) = MemSink::new(rt.alloc(), PLANES, PLANES, &[]) else {

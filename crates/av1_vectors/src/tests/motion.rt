@@ -1,4 +1,4 @@
-// Samples that are filtered from a reference.
+// Tests the sharp filter along four samples of a worked reference: it is the smooth one there.
 use super::support::same;
 use av1_blocks::FilterMode;
 use av1_frame::{Plane, PlaneOffset};
@@ -9,8 +9,8 @@ use std::test::Fail;
 /// How many columns and rows a block of 4 by 4 reads.
 const READ: usize = 11;
 
-/// The first sample of a block of 4 by 4 that is moved half a sample to the right by the sharp filter. In the reference
-/// `value` stands two columns to the right of that sample, and 0 everywhere else.
+/// The first sample of a block of 4 by 4 that is moved half a sample to the right by the sharp filter. The reference
+/// has `value` two columns to the right of that sample, and 0 everywhere else.
 fn first_of(alloc: Global, value: u8) -> Result<u8, Fail> {
     let mut samples = [0; READ * READ];
     samples[3 * READ + 5] = value;

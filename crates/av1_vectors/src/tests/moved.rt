@@ -1,4 +1,4 @@
-// Leaves that are moved from a reference.
+// Tests plans of one leaf that a vector moves, up to the greatest vectors.
 use super::support::rows;
 
 /// Frames of 8x8 at depth 8 with planes in slot 0, of one leaf from LAST: first in 4:4:4, the last in 4:2:0.

@@ -1,4 +1,4 @@
-// Whether the samples above right of a block are coded before it.
+// Tests whether tables and bits say that samples above right are coded before a block.
 use super::support::same;
 use av1_avail::{has_top_right, has_tr};
 use av1_blocks::{BlockSize, TxSize};
@@ -9,7 +9,7 @@ fn cell(x: usize, y: usize) -> TileBlockOffset {
     TileBlockOffset(BlockOffset { x, y })
 }
 
-/// Whether they are, of a block of 4x4 at this cell.
+/// Whether the samples above right of a 4x4 block at this cell are coded before the block.
 fn is_before(x: usize, y: usize) -> bool {
     has_tr(cell(x, y), BlockSize::BLOCK_4X4)
 }

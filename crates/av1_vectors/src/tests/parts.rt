@@ -1,7 +1,7 @@
-// Chroma that small leaves from references share.
+// Tests plans in which small inter leaves share their chroma.
 use super::support::rows;
 
-/// Frames of 8x8 at depth 8 in 4:2:0 of four leaves of 4x4. Those from LAST are moved by two samples of luma: to the
+/// Frames of 8x8 at depth 8 in 4:2:0 of four leaves of 4x4. Inter leaves move by two samples of luma: to the
 /// right, down, to the left and up. U of the reference is 16 times the column and the row.
 const PARTS: &str = "
 each leaf predicts the chroma over its luma:

@@ -1,4 +1,4 @@
-// What each kind of intra prediction makes of the samples beside a block of 4 by 4.
+// Tests each kind of intra prediction on a worked block of 4 by 4.
 ghost use Rattle.std.specs.Prelude.{◌≡◌, ◌≤◌};
 ghost use Rattle.av1_frame.specs.Regions.{InStorage};
 
@@ -16,7 +16,7 @@ const ABOVE: [u8; 8] = [33, 34, 35, 36, 37, 38, 39, 40];
 /// The samples on the left and below those, from the bottom up.
 const LEFT: [u8; 8] = [24, 25, 26, 27, 28, 29, 30, 31];
 
-/// The samples on the left alone, from the bottom up.
+/// Only the samples on the left, from the bottom up.
 const BESIDE: [u8; 4] = [28, 29, 30, 31];
 
 /// The corner.
@@ -60,7 +60,7 @@ fn predict(kind: Kind, block: &mut PlaneRegionMut<'_, u8>)
     }
 }
 
-/// The rows of a block so predicted.
+/// The rows of a block after this prediction.
 fn predicted(alloc: Global, kind: Kind) -> Option<[[u8; 4]; 4]> {
     let Ok(mut plane) = Plane::from_slice(alloc, &[0; 16], 4) else {
         return None;

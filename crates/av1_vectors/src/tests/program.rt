@@ -1,10 +1,10 @@
-// What the program does with its words.
+// Tests the program over memory: output of `make` and `sum`, failed reads, and error lines that don't fit.
 use super::support::{WHOLE, same};
 use av1_recon::{MemSink, SliceSource, run};
 use std::alloc::Global;
 use std::process::Abort;
 
-/// The words of a line.
+/// The arguments in a line.
 fn words_of(rt: &impl Abort, alloc: Global, line: &str) -> Vec<String> {
     let mut words = Vec::new(alloc);
     for word in line.split_whitespace() {
@@ -14,7 +14,7 @@ fn words_of(rt: &impl Abort, alloc: Global, line: &str) -> Vec<String> {
     words
 }
 
-/// The output of the program, of at most `room` bytes, on the words of a line and no input. Stops the test if the
+/// The output of the program, of at most `room` bytes, for the arguments in a line and no input. Stops the test if the
 /// status is not 0.
 fn output_of<'a>(rt: &impl Abort, alloc: Global, line: &str, room: usize) -> MemSink<'a> {
     let words = words_of(rt, alloc, line);
@@ -26,13 +26,13 @@ fn output_of<'a>(rt: &impl Abort, alloc: Global, line: &str, room: usize) -> Mem
     out
 }
 
-/// Stops the test if the program prints other lines.
+/// Stops the test if the program does not print the wanted lines.
 fn writes(rt: &impl Abort, alloc: Global, line: &str, wanted: &str) {
     let out = output_of(rt, alloc, line, 100);
     same(rt, out.bytes(), wanted.as_bytes(), line);
 }
 
-/// The sums that rav1e has of the plans of five numbers.
+/// The sums that rav1e gives for the plans of five numbers.
 const SUMS: [(&str, &str); 5] = [
     ("sum 1", "leaves 304\nY 137004277\nU 33980014\nV 33804601\n"),
     ("sum 2", "leaves 254\nY 131820650\nU 33717348\nV 33925496\n"),
@@ -48,7 +48,7 @@ fn the_sums_of_made_plans_are_those_of_rav1e(rt: HostRuntime) {
     }
 }
 
-/// What stands before the samples of the plan of the number 5, and the first three of them.
+/// The bytes before the samples of plan number 5, and the first three samples.
 const FIVE: [u8; 26] = [
     0x52, 0x50, 0x4C, 0x31, 0, 2, 0, 2, 10, 0, 1, 1, 0, 0, 0, 0, 0, 0, 0, 1, 5, 0, 12, 0, 19, 0,
 ];
@@ -61,8 +61,8 @@ fn a_made_plan_begins_with_its_samples(rt: HostRuntime) {
     same(&rt, out.bytes().get(786_452), Some(&0), "the first mark");
 }
 
-/// Runs the program on no words, and keeps `room` bytes of its line of an error. Stops the test if the status or the
-/// bytes that are kept are others, or if planes are written.
+/// Runs the program without arguments, and keeps `room` bytes of its error line. Stops the test if the status or these
+/// bytes are not the wanted ones, or if planes are written.
 fn ends_with(
     rt: &impl Abort,
     alloc: Global,

@@ -1,4 +1,4 @@
-// Plans that are refused.
+// Tests plans with one fault each: the error names the fault.
 use super::support::rows;
 
 /// Plans with one fault: a header, a mark for each node, and leaves.

@@ -1,4 +1,4 @@
-// Coefficients of a plan, and what they add.
+// Tests what the coefficients of worked plans add to their samples.
 use super::support::rows;
 
 /// Frames in 4:4:4 whose luma has coefficients.

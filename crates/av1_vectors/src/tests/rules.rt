@@ -1,8 +1,8 @@
-// What the third version takes from AV1 in place of rav1e.
+// Tests the rules that version 3 takes from AV1 and earlier versions from rav1e.
 use super::support::rows;
 
-/// Leaves from half a sample of chroma to the right in LAST, by the sharp filter; then blocks that take the identity
-/// both ways, with the least coefficient with which it passes 32 bits along rows.
+/// First, leaves that move by half a sample of chroma in LAST, with the sharp filter. Then blocks with identities in
+/// both directions, and with the least coefficient that exceeds 32 bits along rows.
 const RULES: &str = "
 the sharp filter is the regular one along four samples:
 RPL3 8,0 8,0 8,0,2,0 0*7 1 128*64 0,128,0,0*4 128*16 3,3,3,0 19,1 0,0 8,0 1 0*8

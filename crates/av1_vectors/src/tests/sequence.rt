@@ -1,4 +1,4 @@
-// A sequence that is given frame by frame.
+// Tests a sequence frame by frame: its slots, its last frame, and that a rejected frame changes nothing.
 ghost use Rattle.std.specs.Prelude.{◌<◌};
 ghost use Rattle.av1_sequence.specs.Frames.{IsHead};
 
@@ -36,7 +36,7 @@ fn head(refresh: u8) -> FrameHead
     }
 }
 
-/// Stops the test if a row of plane `p` of a slot is another.
+/// Stops the test if a row of plane `p` of a slot is not `row`.
 fn slot_has(rt: &impl Abort, frames: &Sequence, slot: usize, p: usize, row: Option<&[u16]>)
     requires slot { slot < 8 }
     requires plane { p < 3 }
@@ -52,7 +52,7 @@ fn slot_has(rt: &impl Abort, frames: &Sequence, slot: usize, p: usize, row: Opti
     }
 }
 
-/// Stops the test if slot 0 has another frame, or any other slot has one.
+/// Stops the test if slot 0 does not have the first frame, or if any other slot has a frame.
 fn slots_are_as_at_first(rt: &impl Abort, frames: &Sequence) {
     slot_has(rt, frames, 0, 0, Some(LUMA.as_slice()));
     slot_has(rt, frames, 0, 1, Some(CHROMA.as_slice()));
@@ -64,7 +64,7 @@ fn slots_are_as_at_first(rt: &impl Abort, frames: &Sequence) {
     }
 }
 
-/// Stops the test if a row of plane `p` of the last frame is another.
+/// Stops the test if a row of plane `p` of the last frame is not `row`.
 fn last_has(rt: &impl Abort, frames: &Sequence, p: usize, row: &[u16])
     requires plane { p < 3 }
 {
@@ -74,14 +74,14 @@ fn last_has(rt: &impl Abort, frames: &Sequence, p: usize, row: &[u16])
     }
 }
 
-/// Stops the test if the last frame is another.
+/// Stops the test if the last frame does not have the rows `LUMA` and `CHROMA`.
 fn last_is_the_frame(rt: &impl Abort, frames: &Sequence) {
     last_has(rt, frames, 0, &LUMA);
     last_has(rt, frames, 1, &CHROMA);
     last_has(rt, frames, 2, &CHROMA);
 }
 
-/// Stops the test if a frame that copies LAST from too far away is not refused.
+/// Stops the test if a frame that copies LAST from too far away is not rejected.
 fn is_too_far(rt: &impl Abort, frames: &mut Sequence) {
     let (leaf, kind) = (0, InvalidKind::Vector);
     let refused = Err(FrameError::Invalid { leaf, kind });

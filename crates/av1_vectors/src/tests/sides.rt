@@ -1,4 +1,4 @@
-// Frames of any sides.
+// Tests frames whose width or height is not a multiple of 8.
 use super::support::rows;
 
 /// A frame of one sample, and one of 9x8 whose leaf is moved by four samples.

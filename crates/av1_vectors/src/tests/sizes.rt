@@ -1,4 +1,4 @@
-// Sizes and vectors.
+// Tests which block sizes exist, the ratios of transform sizes, and the rounding of vectors.
 use super::support::same;
 use av1_blocks::{BlockSize, InvalidBlockSize, MotionVector, TxSize};
 

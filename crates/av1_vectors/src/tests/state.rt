@@ -1,4 +1,4 @@
-// States that frames are reconstructed in.
+// Tests that a state counts its edges, and that earlier contents of its planes have no effect.
 ghost use Rattle.std.specs.Prelude.{◌≡◌, ◌≤◌, ◌<◌, ◌^◌, None, IfSome};
 ghost use Rattle.av1_plan.specs.Values.{plan_value};
 ghost use Rattle.av1_tile.specs.State.{IsSound};

@@ -1,4 +1,4 @@
-// The whole path over a reader and a writer.
+// Tests the whole path over a reader and a writer in memory, and a writer that takes no more bytes.
 use super::support::{PLAN, PLANES, are_planes, same};
 use av1_recon::{ReadSource, ReconError, WriteSink, reconstruct_plan};
 use std::test::Fail;

@@ -1,4 +1,4 @@
-// Worked plans, tables of plans as text, what they come to, and the samples of a block.
+// What the tests share: worked plans, tables of plans as text, and comparisons that stop a test.
 ghost use Rattle.std.specs.Prelude.{◌≤◌};
 ghost use Rattle.av1_frame.specs.Regions.{InStorage};
 
@@ -41,7 +41,7 @@ pub fn same<T: PartialEq + Debug + Copy>(rt: &impl Abort, given: T, wanted: T, w
     assert_eq!(rt; given, wanted, "{what}");
 }
 
-/// As `same`, of a text and of what `Debug` prints of a value.
+/// As `same`, for a text and what `Debug` prints of a value.
 pub fn prints(rt: &impl Abort, alloc: Global, value: &impl Debug, wanted: &str, what: &str) {
     let text = format!(in alloc; "{value:?}").expect(rt, "memory");
     same(rt, text.as_str(), wanted, what);
@@ -59,7 +59,7 @@ fn push_items(rt: &impl Abort, bytes: &mut Vec<u8>, items: &str) {
     }
 }
 
-/// Adds the bytes of a word: a list, and how often it comes, as in `0,10,20*8`.
+/// Adds the bytes of a word: a list, and how often it is repeated, as in `0,10,20*8`.
 fn push_word(rt: &impl Abort, bytes: &mut Vec<u8>, word: &str) {
     let (items, times) = word.split_once('*').unwrap_or((word, "1"));
     for _ in 0..times.parse::<usize>().expect(rt, word) {
@@ -82,7 +82,7 @@ fn are_bytes(rt: &impl Abort, alloc: Global, given: &[u8], wanted: &str, what: &
     same(rt, given, wanted.as_slice(), what);
 }
 
-/// Stops the test if a plan does not come to these planes, or is not refused for this error.
+/// Stops the test if a plan does not give these planes, or is not rejected with this error.
 pub fn comes_to(rt: &impl Abort, alloc: Global, plan: &[u8], wanted: &str, what: &str) {
     let mut source = SliceSource::new(plan, 65536, &[]);
     let mut sink = MemSink::new(alloc, 2000, 65536, &[]).expect(rt, "memory");

@@ -1,11 +1,11 @@
-// What is printed of sizes.
+// Tests what `Display` and `Debug` print of block sizes and of an error.
 use super::support::{prints, same};
 use av1_blocks::{BlockSize, InvalidBlockSize};
 use std::alloc::Global;
 use std::fmt::Display;
 use std::process::Abort;
 
-/// The sides of all blocks, in the order of their numbers.
+/// The width and height of all blocks, in the order of their numbers.
 const SIDES: &str = "
 4x4 4x8 8x4 8x8 8x16 16x8 16x16 16x32 32x16 32x32 32x64 64x32 64x64 64x128 128x64 128x128
 4x16 16x4 8x32 32x8 16x64 64x16

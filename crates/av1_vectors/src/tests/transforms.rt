@@ -1,4 +1,4 @@
-// Inverse transforms of one line and of a block.
+// Tests inverse transforms of one line and of a block, and that columns go through the lanes by eights.
 ghost use Rattle.std.specs.Prelude.{◌≢◌, ◌≤◌, IsTrue};
 ghost use Rattle.av1_blocks.specs.Transforms.{tx_width, tx_height, valid_av1_transform};
 ghost use Rattle.av1_blocks.specs.declared.transform.TxType.TheVariants.{WHT_WHT};
@@ -51,7 +51,7 @@ fn coefficients_stand_column_by_column(rt: HostRuntime) {
     same(&rt, added(rt.alloc(), 0, 100), wanted, "the second place");
 }
 
-/// Two coefficients, all others being 0: a block of a first one alone takes a way of its own.
+/// Two coefficients. A block that has only its first coefficient is transformed in another way.
 const TWO: [i16; 2] = [8, 8];
 
 /// How many groups of eight columns a block with two coefficients puts through the lanes.

@@ -1,4 +1,4 @@
-// Plans that are written from memory.
+// Tests that a plan is written as it was read, and that a bare plan has no coefficients.
 use super::support::{PLAN, comes_to, same};
 use av1_plan::parse_plan;
 use av1_planwrite::{write_bare, write_plan};
