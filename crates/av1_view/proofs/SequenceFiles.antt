@@ -2,16 +2,12 @@
 use Rattle.std.proofs.Common.{◌≡◌, ◌≢◌, ℕ, ◌≤◌, List, [], length, Some, Result, Ok, Err, refl, sym, ap, subst, ◌∙◌, arith}
 use Rattle.av1_sequence.specs.declared.error.SequenceError.{SequenceError}
 use Rattle.av1_sequence.specs.declared.error.SequenceError.TheVariants.{ReadFault, TooLong, Malformed, Frame, EmptySlot, WriteFault, Memory}
-use Rattle.av1_sequence.specs.Errors.{read_error}
 use Rattle.av1_sequence.specs.Files.{Answer, HasOutcome}
 use Rattle.av1_sequence.specs.Tasks.{Answers, cause_of}
 use Rattle.av1_sequence.proofs.FileOutcomes.{one_outcome}
 use Rattle.av1_streams.specs.Streams.{max_plan_bytes}
 use Rattle.av1_streams.specs.Tasks.{refused}
-use Rattle.av1_streams.specs.declared.read.ReadError.{ReadError}
-use Rattle.av1_streams.specs.declared.read.ReadError.TheVariants as read_errors
 use Rattle.av1_streams.proofs.Performing.{IsSound}
-use Rattle.av1_streams.proofs.Reading.{read_cause}
 use Rattle.av1_view.specs.FilePages.{SequenceComesTo, sequence_in_memory, sequence_page_task}
 use Rattle.av1_view.proofs.FileAnswers.{AreOne, RefuseLong, page_task_sound}
 
@@ -50,12 +46,6 @@ short_sequence bytes (EmptySlot i) short r = refl
 short_sequence bytes ReadFault short (planes, r) = absurd r
 short_sequence bytes WriteFault short (planes, r) = absurd r
 short_sequence bytes Memory short (planes, r) = absurd r
-
--- an error of reading blames what it did
-pub sequence_blames : (e : ReadError) → cause_of (read_error e) ≡ read_cause e
-sequence_blames read_errors.ReadFault = refl
-sequence_blames read_errors.TooLong = refl
-sequence_blames read_errors.Memory = refl
 
 -- ---- in memory
 
