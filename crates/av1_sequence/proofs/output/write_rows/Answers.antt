@@ -1,4 +1,4 @@
-use Rattle.std.proofs.Common.{arith, subst, ◌≡◌, ◌∙◌}
+use Rattle.std.proofs.Common.{arith, rules, subst, ◌≡◌, ◌∙◌}
 use Rattle.std.specs.Io.KnownBytes.{Appends}
 use Rattle.av1_streams.specs.Streams.{AppendsPrefix}
 use Rattle.av1_recon.proofs.Rows.{Appends-row, AppendsPrefix-row, as_prefix, rows_are_plane}
@@ -35,11 +35,9 @@ loop-y-preserved g c =
       uncounted = c.in_ok-write_row.ensures.cause.uncounted ∙ c.loop-y.invariant.uncounted;
     }
 
-pub returns-clause-whole : goal.returns-clause-whole
-returns-clause-whole g c =
+pub returns : goal.returns
+returns g c =
     let end : c.loop-y.y ≡ c.shown_rows-y-end.result = omega (arith, c.loop-y.auto.y-end, c.loop-y-test.false) in
-    subst (Appends _ _) (rows_are_plane g.T.Pixel.num c.args.header.now c.args.plane.now c.args.p c.loop-y.y _ end c.shown_rows-y-end.ensures.value)
-    c.loop-y.invariant.so_far
-
-pub returns-clause-prefix : goal.returns-clause-prefix
-returns-clause-prefix g c = as_prefix _ _ (returns-clause-whole g c)
+    let all = rows_are_plane g.T.Pixel.num c.args.header.now c.args.plane.now c.args.p c.loop-y.y _ end c.shown_rows-y-end.ensures.value in
+    let whole = subst (Appends _ _) all c.loop-y.invariant.so_far in
+    record { whole = whole; prefix = as_prefix _ _ whole; cause = search rules }
