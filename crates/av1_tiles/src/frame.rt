@@ -243,7 +243,7 @@ fn reconstruct_picture<T: Pixel>(
 ) -> Result<TilePicture<T>, OutOfMemory>
     requires read { IsReadFile file.now }
     requires tile { index < count_tiles (front_value file.now.front) }
-    requires depth { file.now.front.header.depth ≤ T.BITS }
+    requires depth { (plan_value plan.now).header.depth ≤ T.BITS }
     requires plan { IsTile (file_value file.now) index (plan_value plan.now) }
     requires seen { SeesFront T.num file.now.front seen.now }
     requires room { HasRoomFor (plan_value plan.now).header memory.old }

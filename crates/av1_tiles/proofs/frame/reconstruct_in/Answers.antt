@@ -1,4 +1,4 @@
-use Rattle.std.proofs.Common.{ap, subst, sym, ◌∙◌, arith}
+use Rattle.std.proofs.Common.{◌≤◌, ap, subst, sym, ◌∙◌, arith}
 use Rattle.av1_plan.specs.declared.header.Header.{Header}
 use Rattle.av1_plan.specs.Values.{plan_value}
 use Rattle.av1_tile.specs.Memory.{HasRoomFor}
@@ -19,6 +19,11 @@ reconstruct_picture-requires-clause-room g c =
     (tile_header_is (file_value c.args.file.now) c.args.index (plan_value c.in_ok-plan.plan) c.in_ok-plan.ensures.found)
     (room_within front.header (tile_header front.header area) c.args.memory.now
     (omega (arith, is.columns)) (omega (arith, is.rows)) c.requires.room)
+
+pub reconstruct_picture-requires-clause-depth : goal.reconstruct_picture-requires-clause-depth
+reconstruct_picture-requires-clause-depth g c =
+    subst (λ (h : Header). h.depth ≤ g.T.Pixel.BITS)
+    (tile_header_is (file_value c.args.file.now) c.args.index (plan_value c.in_ok-plan.plan) c.in_ok-plan.ensures.found) c.requires.depth
 
 pub place_tile-requires-clause-made : goal.place_tile-requires-clause-made
 place_tile-requires-clause-made g c =

@@ -1,17 +1,10 @@
-use Rattle.std.proofs.Common.{◌≤◌, subst, refl}
-use Rattle.av1_plan.specs.declared.header.Header.{Header}
+use Rattle.std.proofs.Common.{subst, refl}
 use Rattle.av1_plan.specs.Values.{plan_value}
-use Rattle.av1_tiles.specs.File.{front_value, file_value}
+use Rattle.av1_tiles.specs.File.{front_value}
 use Rattle.av1_tiles.specs.Seen.{SeesFront}
 use Rattle.av1_tiles.specs.Tiles.{tile_scene}
-use Rattle.av1_tiles.proofs.Isolation.{tile_header_is}
 use Rattle.av1_tiles.proofs.Seen.{own_shown, seen_shown, tile_serves}
 use Rattle.av1_tiles.proofs.frame.reconstruct_picture.Goals as goal
-
-pub reconstruct_in_frame-requires-clause-depth : goal.reconstruct_in_frame-requires-clause-depth
-reconstruct_in_frame-requires-clause-depth g c =
-    subst (λ (h : Header). h.depth ≤ g.T.Pixel.BITS) (tile_header_is (file_value c.args.file.now) c.args.index (plan_value c.args.plan.now) c.requires.plan)
-    c.requires.depth
 
 pub reconstruct_in_frame-requires-clause-serves : goal.reconstruct_in_frame-requires-clause-serves
 reconstruct_in_frame-requires-clause-serves g c = (
@@ -24,11 +17,6 @@ reconstruct_in_frame-requires-clause-serves g c = (
     refl,
   ),
 )
-
-pub reconstruct_alone-requires-clause-depth : goal.reconstruct_alone-requires-clause-depth
-reconstruct_alone-requires-clause-depth g c =
-    subst (λ (h : Header). h.depth ≤ g.T.Pixel.BITS) (tile_header_is (file_value c.args.file.now) c.args.index (plan_value c.args.plan.now) c.requires.plan)
-    c.requires.depth
 
 pub returns-in-Some-clause-shown : goal.returns-in-Some-clause-shown
 returns-in-Some-clause-shown g c =
