@@ -19,8 +19,8 @@
 //!   `region_painting` (`proofs/Regions.antt`) proves a loop that writes row by row, and `row_painting`
 //!   (`proofs/Paint.antt`) a loop that writes a row.
 //! - A call that writes a slice says the same of it: `samples.new ≡ paint stride area f samples.old`. It requires
-//!   `AreRows` of the rectangle. `PlaneRegionMut` lends its samples to such a call. `rectangle_painting` and `row_painted_rest`
-//!   (`proofs/Paint.antt`) prove the loop, and `region_lending` (`proofs/Regions.antt`) the call that lends.
+//!   `AreRows` of the rectangle. `PlaneRegionMut` lends its samples to such a call, by `region_lending`
+//!   (`proofs/Regions.antt`). `rectangle_painting` and `row_painted_rest` (`proofs/Paint.antt`) prove the loop.
 //! - `Plane::pad` keeps every visible sample. After it, each other stored sample equals the nearest visible one.
 //! - A slot of `FrameInvariants` holds the planes that were put there last.
 //!
