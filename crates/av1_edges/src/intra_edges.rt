@@ -208,9 +208,9 @@ pub fn get_intra_edges_to<T: Pixel>(
 /// each sample to the left is half of it plus 1.
 ///
 /// At angles below 90 degrees the side above is longer by the transform's height. Past 180 degrees the left side is
-/// longer by its width. With no mode both are longer. Of the added samples, as many as the smaller dimension come from
-/// the region, if `has_top_right` or `has_bottom_left` says that they are coded before. Past the last available sample,
-/// this sample is repeated. In the first column the left side is empty for a mode that takes a mean.
+/// longer by its width. With no mode both are longer. As many of the added samples as the smaller dimension are read
+/// from the region, if `has_top_right` or `has_bottom_left` says that they are coded before. Past the last available
+/// sample, this sample is repeated. In the first column the left side is empty for a mode that takes a mean.
 ///
 /// The corner is half of the range if the mode does not need it, or at the region's first sample. If the edge filter is
 /// on, it is smoothed for angles between 90 and 180 degrees if width and height sum to 24 or more.
