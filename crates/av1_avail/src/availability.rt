@@ -1,4 +1,4 @@
-//! The answers from the tables.
+//! Looks up in tables whether samples above right and below left of a transform are coded before it. Pure.
 
 ghost use Rattle.std.specs.Prelude.{ℕ, ◌≡◌, ◌<◌, ◌≤◌, ◌+◌, ◌*◌, ◌^◌, ◌/◌, ◌&&◌, false, length};
 ghost use Rattle.av1_avail.specs.Agreement.{bottom_left_before, IsTile, IsWhole, IsNearSquare, run_length, top_right_before};
@@ -147,7 +147,7 @@ pub fn has_top_right(
     // for each unit of the run, so the run is coded as a whole or not at all
     ensures by_order { (i : ℕ) → IsTile bsize tx_size row_off col_off ss_x ss_y → i < run_length tx_size →
         result ≡ (top_available && right_available && top_right_before bsize partition_bo.0.x partition_bo.0.y tx_size row_off col_off ss_x ss_y i) }
-    // as `has_tr` answers
+    // as `has_tr` returns
     ensures by_bits { IsNearSquare bsize → IsWhole bsize tx_size row_off col_off ss_x ss_y →
         result ≡ (top_available && right_available && bits_top_right bsize partition_bo.0.x partition_bo.0.y) }
     ensures centre { block_columns bsize ≡ 32 → row_off ≡ 16 / 2 ^ ss_y → col_off + transform_columns tx_size ≡ 16 / 2 ^ ss_x → result ≡ false }
@@ -186,7 +186,7 @@ pub fn has_bottom_left(
     // for each unit of the run, so the run is coded as a whole or not at all
     ensures by_order { (i : ℕ) → IsTile bsize tx_size row_off col_off ss_x ss_y → i < run_length tx_size →
         result ≡ (bottom_available && left_available && bottom_left_before bsize partition_bo.0.x partition_bo.0.y tx_size row_off col_off ss_x ss_y i) }
-    // as `has_bl` answers
+    // as `has_bl` returns
     ensures by_bits { IsNearSquare bsize → IsWhole bsize tx_size row_off col_off ss_x ss_y →
         result ≡ (bottom_available && left_available && bits_bottom_left bsize partition_bo.0.x partition_bo.0.y) }
 {

@@ -1,4 +1,4 @@
-//! The answers from the bits of a block's position.
+//! Finds from the bits of a block's position whether cells above right and below left are coded before it. Pure.
 
 ghost use Rattle.std.specs.Prelude.{◌≡◌, ◌-◌};
 ghost use Rattle.av1_avail.specs.Agreement.{bottom_left_earlier, IsNearSquare, top_right_earlier};

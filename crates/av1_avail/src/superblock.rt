@@ -1,4 +1,4 @@
-//! Superblocks of 64 by 64 luma samples, and blocks in them.
+//! Superblocks of 64x64 luma samples: their dimensions, and where in its superblock a cell lies. Pure arithmetic.
 
 ghost use Rattle.std.specs.Prelude.{◌≡◌, ◌<◌, ◌≤◌, ◌/◌, ◌%◌, ◌^◌};
 ghost use Rattle.av1_avail.specs.Cells.{block_columns, block_rows};

@@ -1,4 +1,4 @@
-//! Which blocks of a raster 128 luma samples wide and high have coded samples above right and below left.
+//! Tables of constants: which blocks in a square of 128 luma samples have coded samples above right and below left.
 
 ghost use Rattle.std.specs.Prelude.{◌≡◌};
 ghost use Rattle.av1_avail.specs.Tables.{top_right_table, bottom_left_table};

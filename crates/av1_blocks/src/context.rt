@@ -1,4 +1,4 @@
-//! Numbers of AV1 that several parts of a decoder share.
+//! Constants that several parts of a decoder share: cell, superblock and transform sizes, limits of motion vectors.
 #![tactic(auto)]
 
 ghost use Rattle.std.specs.Prelude.{◌≡◌, pos, negsuc};
@@ -15,7 +15,7 @@ pub const MAX_SB_SIZE_LOG2: usize = 7;
 /// The logarithm to base 2 of the greatest superblock's side, in cells.
 pub const MAX_MIB_SIZE_LOG2: usize = MAX_SB_SIZE_LOG2 - MI_SIZE_LOG2;
 
-/// The bits of a cell's column or row that tell its place in a superblock of 64 by 64 samples.
+/// The bits of a cell's column or row that give its position in a superblock of 64x64 luma samples.
 pub const LOCAL_BLOCK_MASK: usize = 15;
 
 /// Each component of a valid motion vector is greater than this, in eighths of a sample.

@@ -1,15 +1,15 @@
-//! The types of AV1 block reconstruction: sizes of blocks and transforms, prediction modes, references, motion vectors,
-//! interpolation filters and the numbers that belong to them.
+//! The types of AV1 blocks and their tables, as pure functions and constants. Nothing here allocates.
+//! The types: sizes of blocks and transforms, prediction modes, references, motion vectors and interpolation filters.
 //!
-//! The crate needs only the standard library. Its modules, names and values are those of rav1e. To the crates above it
-//! promises that each call gives exactly the value of its table or formula. The tables are numbers in `specs/`, and
-//! every constant and every result here is proved equal to its entry there. No call allocates. If a call's table leaves
-//! an entry out, the call rejects it with an error or excludes it by a condition.
+//! The crate needs only the standard library. Its modules, names and values are those of rav1e. It promises to the
+//! crates above that each call gives exactly the value of its table or formula. The tables are numbers in `specs/`, and
+//! every constant and every result here is proved equal to its entry there. If a table leaves an entry out, the call
+//! rejects it with an error or excludes it by a condition.
 //!
-//! Sides are counted in samples, or in cells of 4x4 samples if a name ends in `mi`. Motion vectors are counted in
-//! eighths of a sample. `xdec` and `ydec` (or `ss_x` and `ss_y`) are the decimations of a plane. They are the
-//! logarithms to base 2 of how many luma columns and rows one of its samples stands for, so (0, 0) is 4:4:4, (1, 0) is
-//! 4:2:2 and (1, 1) is 4:2:0.
+//! Widths and heights are counted in samples, or in cells of 4x4 samples if a name ends in `mi`. Motion vectors are
+//! counted in eighths of a sample. `xdec` and `ydec` (or `ss_x` and `ss_y`) are the decimations of a plane, as
+//! logarithms to base 2: one of its samples covers 2^xdec luma columns and 2^ydec luma rows. So (0, 0) is 4:4:4, (1, 0)
+//! is 4:2:2 and (1, 1) is 4:2:0.
 #![tactic(auto)]
 
 pub mod context;

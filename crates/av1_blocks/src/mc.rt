@@ -1,4 +1,4 @@
-//! Motion vectors and the filters of motion compensation.
+//! Types of motion compensation, and one table: motion vectors, filter modes and the weights of the filters.
 #![tactic(auto)]
 
 mod filter;
@@ -40,9 +40,9 @@ impl FilterMode {
 /// The number of taps of an interpolation filter.
 pub const SUBPEL_FILTER_SIZE: usize = 8;
 
-/// The interpolation filters: by family, then by the position between two samples in sixteenths,
-/// the weights of the samples at offsets -3 to 4, in parts of 128. Families 0 to 3 are those of
-/// `FilterMode`; 4 and 5 are for sides up to 4.
+/// The interpolation filters, by family, and by position between two samples in sixteenths. A filter has the weights of
+/// the samples at offsets -3 to 4, in parts of 128. Families 0 to 3 are the first four of `FilterMode`. Families 4 and
+/// 5 are for widths and heights up to 4.
 pub const SUBPEL_FILTERS: [[[i32; SUBPEL_FILTER_SIZE]; 16]; 6] = [
     [
         [0, 0, 0, 128, 0, 0, 0, 0],

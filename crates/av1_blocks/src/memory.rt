@@ -1,4 +1,4 @@
-//! The error of calls that run out of memory.
+//! The error of calls that run out of memory, and its conversions from the allocator's errors.
 #![tactic(auto)]
 
 ghost use Rattle.std.specs.Prelude.{◌≡◌};

@@ -1,4 +1,4 @@
-//! Enums and their numbers.
+//! Finds the variant of an enum by its number. Proves the numbers of enums that are never read from a number.
 #![tactic(auto)]
 
 ghost use Rattle.std.specs.Prelude.{◌≡◌, slice_get};

@@ -1,4 +1,4 @@
-//! References, partitions and sizes of blocks.
+//! The types of references, partitions and block sizes, and the constants that belong to them.
 #![tactic(auto)]
 
 mod block_size;
@@ -91,7 +91,7 @@ pub const FWD_REFS: usize = 4;
 /// The number of backward references.
 pub const BWD_REFS: usize = 3;
 
-/// The number of references of which a block takes one.
+/// The number of references from which a block with a single reference chooses.
 pub const SINGLE_REFS: usize = 7;
 
 /// The number of references of a frame, intra prediction included.
@@ -165,7 +165,7 @@ pub enum PartitionType {
     PARTITION_HORZ_4,
     /// Four stripes side by side.
     PARTITION_VERT_4,
-    /// No partition.
+    /// Not a valid partition.
     PARTITION_INVALID,
 }
 
@@ -177,7 +177,7 @@ pub const RAV1E_PARTITION_TYPES: [PartitionType; 4] = [
     PartitionType::PARTITION_SPLIT,
 ];
 
-/// The sides of a block in luma samples, width first.
+/// The width and height of a block in luma samples, width first.
 #[derive(Copy, Clone, Debug, PartialEq, Eq)]
 pub enum BlockSize {
     BLOCK_4X4,
@@ -238,7 +238,7 @@ impl BlockSize {
     ];
 }
 
-/// No block has these sides.
+/// The error of a call if no block size is its result.
 #[derive(Copy, Clone, Debug, PartialEq, Eq)]
 pub struct InvalidBlockSize;
 

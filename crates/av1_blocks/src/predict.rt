@@ -1,4 +1,4 @@
-//! Prediction modes.
+//! AV1's prediction modes and their parameters, as types under rav1e's names. Plans use only `PredictionMode`.
 #![tactic(auto)]
 
 mod mode;

@@ -1,4 +1,4 @@
-//! Sizes and types of transforms.
+//! The types of transforms: their sizes, types and sets as enums, and the constants that belong to them.
 #![tactic(auto)]
 
 mod tx_size;
@@ -79,7 +79,7 @@ pub const RAV1E_TX_TYPES: [TxType; 7] = [
     TxType::H_DCT,
 ];
 
-/// The sides of a transform in samples of its plane, width first.
+/// The width and height of a transform in samples of its plane, width first.
 #[derive(Copy, Clone, Debug, PartialEq, Eq, PartialOrd, Ord)]
 pub enum TxSize {
     TX_4X4,

@@ -1,4 +1,4 @@
-//! The arithmetic of every transform: half of a butterfly rotation, and clamps.
+//! The arithmetic of every transform, as pure functions: half of a butterfly rotation, and clamps.
 
 ghost use Rattle.std.specs.Prelude.{◌≡◌, ◌-◌, ◌^◌, ◌≤◌, pos, neg_ℤ};
 ghost use Rattle.av1_dct.specs.Arithmetic.{clamp_value};

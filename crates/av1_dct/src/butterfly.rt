@@ -1,4 +1,4 @@
-//! The operations on lanes that a cosine transform needs: butterfly rotations and Hadamard rotations.
+//! The operations on lanes that a cosine transform needs: butterfly rotations and Hadamard rotations. Pure.
 
 ghost use Rattle.std.specs.Prelude.{◌≡◌, ℕ, ◌<◌, ◌≤◌, ℤ, ◌+ℤ◌, ◌-ℤ◌};
 ghost use Rattle.av1_dct.specs.Arithmetic.{FitsBits, clamp_value};
@@ -48,7 +48,7 @@ pub(crate) trait Butterfly: Copy {
         requires second { (i : ℕ) → i < LANES → FitsBits 20 (wide_lane_of y i) }
         ensures { (i : ℕ) → i < LANES → lane_of result i ≡ clamp_value (wide_lane_of x i -ℤ wide_lane_of y i) range };
 
-    /// The clamped sum of two lanes that no rotation has made.
+    /// In each lane the clamped sum of two numbers that do not come from a rotation.
     fn own_sum(self, o: Self, range: usize) -> Self
         requires range_in { (8 ≤ range) × (range ≤ 20) }
         requires within { range ≤ bits }
@@ -56,7 +56,7 @@ pub(crate) trait Butterfly: Copy {
         requires second { (i : ℕ) → i < LANES → FitsBits 20 (lane_of o i) }
         ensures { (i : ℕ) → i < LANES → lane_of result i ≡ clamp_value (lane_of self i +ℤ lane_of o i) range };
 
-    /// The clamped difference of two lanes that no rotation has made.
+    /// In each lane the clamped difference of two numbers that do not come from a rotation.
     fn own_difference(self, o: Self, range: usize) -> Self
         requires range_in { (8 ≤ range) × (range ≤ 20) }
         requires within { range ≤ bits }

@@ -1,4 +1,4 @@
-//! The inverse cosine transforms of 4 to 64 words. Each uses the transform of half as many words.
+//! The inverse cosine transforms of 4 to 64 words: they read `input`, write `output`, and allocate nothing.
 
 ghost use Rattle.std.specs.Prelude.{◌≡◌, ℕ, ◌*◌, ◌^◌, ◌<◌, ◌≤◌, length, take, drop, suc};
 ghost use Rattle.std.specs.List.{All};
@@ -28,8 +28,8 @@ fn network_4<W: Butterfly>(w: &mut [W], range: usize)
     put(false, w, 1, 2, b, x, range);
 }
 
-// From the transform of the even inputs in the first half of 2^(K+1) words, and the odd inputs in the second, to the
-// transform of all. Each rotation is done together with the sums after it, so that its result is not stored.
+// Makes the transform of all inputs from 2^(K+1) words: the transform of the even inputs, then the odd inputs. Each
+// rotation is done together with the sums after it, so that its result is not stored.
 #[inline(always)]
 fn join_halves<W: Butterfly, const K: usize>(w: &mut [W], range: usize)
     requires range_in { (8 ≤ range) × (range ≤ 20) }

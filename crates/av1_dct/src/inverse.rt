@@ -1,4 +1,4 @@
-//! The inverse cosine transforms of one column, under rav1e's names.
+//! The inverse cosine transforms of one column, under rav1e's names. Each reads `input` and writes `output`.
 
 ghost use Rattle.std.specs.Prelude.{◌≡◌, ◌≤◌, length, take, drop};
 ghost use Rattle.std.specs.List.{All};

@@ -1,4 +1,4 @@
-//! Eight transforms at a time, counted.
+//! Runs eight inverse cosine transforms at a time, from `input` to `output`, and counts them in a `LaneCount`.
 
 ghost use Rattle.std.specs.Prelude.{◌≡◌, ℕ, ◌*◌, ◌^◌, ◌<◌, ◌≤◌, length, take, drop};
 ghost use Rattle.std.specs.List.{All};
@@ -13,8 +13,8 @@ use crate::narrow::SHORT_BITS;
 use crate::narrow_lanes::cosine_short;
 use std::simd::prelude::*;
 
-/// The number of groups of eight transforms that were run with it. Only `cosine_lanes` raises it, and nothing sets it
-/// back.
+/// Counts the groups of eight transforms that were run with it. Only `cosine_lanes` raises the count, and nothing
+/// lowers it.
 #[derive(Drop)]
 pub struct LaneCount {
     groups: u64,

@@ -6,8 +6,8 @@ ghost use Rattle.av1_dct.specs.Arithmetic.{at, clamp_value, FitsBits};
 ghost use Rattle.av1_dct.specs.Operations.{Operations, AreRight32};
 ghost use Rattle.av1_dct.specs.Cosine.{evens, odds, odd_half, cosine, cosine_with};
 
-/// Outputs i and n - 1 - i of a transform of n values are a clamped sum and difference: of output i of the transform of
-/// the n / 2 even inputs, and of one value that depends only on the odd inputs. Here n is 2^(k+2).
+/// In a transform of n = 2^(k+2) values, output i is a clamped sum, and output n - 1 - i the difference of the same two
+/// numbers: output i of the transform of the even inputs, and a value that depends only on the odd inputs.
 pub fn cosine_adds_halves()
     ensures sums { (range k i : ℕ) (x : List ℤ) → i < 2 ^ suc k →
         at (cosine range (suc k) x) i ≡

@@ -1,5 +1,5 @@
-//! Inverse cosine transforms of 4, 8, 16, 32 and 64 values: the inverse DCT process of the AV1 specification, with the
-//! weights, the rounding and the wrapped sums of rav1e.
+//! Inverse cosine transforms of 4, 8, 16, 32 and 64 values, from one slice to another. Nothing here allocates.
+//! They are the inverse DCT process of the AV1 specification, with the weights, rounding and wrapped sums of rav1e.
 //!
 //! The crate needs the standard library and `av1_lists`. Its promises to the two-dimensional transforms above it:
 //!
@@ -12,8 +12,8 @@
 //!   zeros.
 //! - `half_btf` and `clamp_value`, the arithmetic of every network, are those of `specs/Operations.antt` and
 //!   `specs/Arithmetic.antt`.
-//! - Three laws, each on a function with an empty body: a transform adds and subtracts its two halves. Zeros give
-//!   zeros. At 18 bits nothing wraps.
+//! - Three laws, each the contract of a function that does nothing. A transform adds and subtracts its two halves.
+//!   Zeros give zeros. At 18 bits nothing wraps.
 //!
 //! Within the crate, `Butterfly` has the operations on lanes that the networks need: butterfly rotations, whose results
 //! may be wider than a lane, and Hadamard rotations, which clamp. Each `Word` has them, and so have eight lanes of 16

@@ -1,4 +1,4 @@
-//! Eight lanes of 16 bits: the numbers that transforms run over if their sums are clamped to 16 bits.
+//! Eight lanes of 16 bits, for transforms whose sums are clamped to 16 bits: their operations, as pure functions.
 
 ghost use Rattle.std.specs.Prelude.{◌≡◌, refl, true, ℕ, ◌+◌, ◌-◌, ◌*◌, ◌^◌, ◌<◌, ◌≤◌, pos, neg_ℤ};
 ghost use Rattle.av1_dct.specs.Arithmetic.{clamp_value};

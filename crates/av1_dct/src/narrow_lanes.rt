@@ -1,5 +1,5 @@
-//! Eight transforms over `i32x8` whose values have 16 bits: the words are cut to narrow lanes, run there, and widened
-//! again.
+//! Runs eight cosine transforms over lanes of 16 bits. Reads words of `input`, writes words of `output`.
+//! Each word has eight numbers of 16 bits. They are cut to narrow lanes, transformed there, and widened again.
 
 ghost use Rattle.std.specs.Prelude.{◌≡◌, true, ℕ, ◌+◌, ◌*◌, ◌^◌, ◌<◌, ◌≤◌, pos, length, slice_index_or, take, drop};
 ghost use Rattle.std.specs.List.{All};

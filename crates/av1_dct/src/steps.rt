@@ -1,4 +1,4 @@
-//! The steps that make the transform of the odd inputs, in place.
+//! The steps of a cosine transform over its odd inputs: rotations and sums, in place in the caller's words.
 
 ghost use Rattle.std.specs.Prelude.{◌≡◌, ℕ, ◌+◌, ◌-◌, ◌*◌, ◌^◌, ◌<◌, ◌≤◌, min, ℤ, neg_ℤ, List, length};
 ghost use Rattle.av1_dct.specs.Arithmetic.{AllFit, FitsBits, at};
@@ -56,7 +56,7 @@ fn word_at<W: Butterfly>(v: &[W], p: usize) -> W
     v[p]
 }
 
-// As `put`, of the words at places p and e.
+// As `put`, from the words at places p and e themselves.
 #[inline(always)]
 fn put_own<W: Butterfly>(odd: bool, v: &mut [W], p: usize, e: usize, range: usize)
     requires range_in { (8 ≤ range) × (range ≤ 20) }
@@ -165,8 +165,8 @@ fn begin_at<W: Butterfly, const K: usize, const N: usize>(v: &mut [W], range: us
     put(!odd, v, f, q, tf, tq, range);
 }
 
-// Turn N of round J's rotations and of the sums of twice as large groups behind them: two pairs in a group of 2^(J+2)
-// places that are not turned, and two that are, there and in its mirror image. Past the last it does nothing.
+// Turn N of round J's rotations, and of the sums after them in groups twice as large: two pairs in a group of 2^(J+2)
+// places that are not turned, and two that are, there and in its mirror image. Past the last turn it does nothing.
 #[inline(always)]
 fn round_at<W: Butterfly, const K: usize, const J: usize, const N: usize>(v: &mut [W], range: usize)
     requires range_in { (8 ≤ range) × (range ≤ 20) }
@@ -246,7 +246,7 @@ pub(crate) fn begin<W: Butterfly, const K: usize>(v: &mut [W], range: usize)
     begin_at::<W, K, 7>(v, range);
 }
 
-// Round J's rotations and the sums behind them. There are K - 2 such rounds; past the last it does nothing.
+// Round J's rotations and the sums after them. There are K - 2 such rounds. Past the last it does nothing.
 #[inline(always)]
 pub(crate) fn round<W: Butterfly, const K: usize, const J: usize>(v: &mut [W], range: usize)
     requires range_in { (8 ≤ range) × (range ≤ 20) }

@@ -1,4 +1,4 @@
-//! Weights, angles and places of the butterflies.
+//! Gives the weights, angles and places of the butterflies, from tables of constants. Pure functions.
 
 ghost use Rattle.std.specs.Prelude.{◌≡◌, ◌+◌, ◌-◌, ◌*◌, ◌/◌, ◌%◌, ◌^◌, ◌<◌, ◌≤◌, ℤ, pos, neg_ℤ, suc, ◌≤ℤ◌};
 ghost use Rattle.av1_dct.specs.Cosine.{cos128, brev};
@@ -83,7 +83,7 @@ pub(crate) fn group_of(k: usize, j: usize, n: usize) -> usize
     n >> j
 }
 
-// The first and the last of its places that the turn is for. The other two are 2^j places further in.
+// The first and the last place of that group that the turn is for. The other two are 2^j places further in.
 #[inline(always)]
 #[tactic(auto, using(crate::proofs::Turned::group_in, crate::proofs::Turned::rest_in))]
 pub(crate) fn outer_places(k: usize, j: usize, n: usize) -> (usize, usize)

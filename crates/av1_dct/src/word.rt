@@ -1,4 +1,4 @@
-//! Words: numbers of 32 bits side by side, one, four or eight.
+//! Words: one, four or eight numbers of 32 bits side by side, and the operations on all of them at once. Pure.
 
 ghost use Rattle.std.specs.Prelude.{◌≡◌, ℕ, ◌<◌, ◌≤◌, ℤ, ◌+ℤ◌, ◌-ℤ◌};
 ghost use Rattle.std.specs.Int.RustNames.{FitsSigned};

@@ -1,4 +1,4 @@
-//! The buffer in which an edge is prepared.
+//! The buffer that holds an edge, and counts the edges prepared in it. Only `new` allocates.
 
 ghost use Rattle.std.specs.Prelude.{◌≡◌, IfOk, vec_len};
 ghost use Rattle.av1_lists.specs.Counts.{counted};

@@ -1,4 +1,4 @@
-//! The samples round a transform.
+//! An edge as three borrowed slices: the samples to the left, the corner, the samples above. Writes nothing.
 
 ghost use Rattle.std.specs.Prelude.{◌≡◌, length};
 

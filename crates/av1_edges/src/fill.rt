@@ -1,4 +1,4 @@
-//! The samples round a block, read from its region by position.
+//! Fills the sides of an edge: reads the samples round a block in its region, and writes the sides.
 //!
 //! AV1 specification: intra prediction process: general, the preparation of the arrays AboveRow and LeftCol.
 
@@ -18,7 +18,7 @@ pub fn fill_with<T: Pixel>(row: &mut [T], value: T)
     }
 }
 
-/// Sets the row to the samples of `source`, and then to the last of them again and again.
+/// Copies `source` to the start of the row, and repeats its last sample in the rest of the row.
 pub fn extend_from<T: Pixel>(row: &mut [T], source: &[T])
     requires some { 0 < length source.now }
     requires room { length source.now ≤ length row.old }

@@ -1,4 +1,4 @@
-//! The call that prepares an edge.
+//! Prepares the edge of a transform: reads samples of its region, writes them to a buffer, and counts the edge.
 
 ghost use Rattle.std.specs.Prelude.{◌≡◌, ◌-◌, ◌<◌, ◌≤◌, [], ◌∷◌, true, length, map, reverse, pos, ◌≤ℤ◌};
 ghost use Rattle.std.specs.Borrow.{sem};
@@ -14,7 +14,7 @@ use crate::position::TransformPosition;
 use av1_blocks::{BlockSize, IntraParam, PredictionMode, TxSize};
 use av1_frame::{Pixel, PlaneOffset, PlaneRegion, TileBlockOffset};
 
-/// The number of places of the side above a transform: its width, and its height in addition with samples above right.
+/// The number of places of the side above a transform: its width, and also its height with samples above right.
 fn above_places(parts: Parts, tx_size: TxSize) -> usize
     ensures value { result ≡ above_places parts tx_size }
     ensures some { 0 < result }
@@ -27,7 +27,7 @@ fn above_places(parts: Parts, tx_size: TxSize) -> usize
     }
 }
 
-/// The number of places of the side to its left: its height, and its width in addition with samples below left.
+/// The number of places of the left side, if it is prepared: the height, and also the width with samples below left.
 fn left_places(parts: Parts, tx_size: TxSize) -> usize
     ensures value { result ≡ left_places parts tx_size }
     ensures some { parts.left ≡ true → 0 < result }
@@ -149,7 +149,7 @@ fn position_of(
 
 /// Prepares the samples round a transform, as `get_intra_edges` does, in 257 samples of the caller, and returns the
 /// number of places of the edge. The side to the left ends before sample 128, from the bottom up. Sample 128 is the
-/// corner, and the side above begins after it. The contents of the other samples afterwards are left open.
+/// corner, and the side above begins after it. The contents of all other samples are left open.
 pub fn get_intra_edges_to<T: Pixel>(
     samples: &mut [T],
     dst: &PlaneRegion<'_, T>,
@@ -204,16 +204,16 @@ pub fn get_intra_edges_to<T: Pixel>(
 /// The side above holds the row above the transform from its first column on, as many samples as it is wide. The side
 /// to the left holds the column before it, as many samples as it is high. In the region's first row, the side above
 /// repeats the sample to the left of the transform. In its first column, the side to the left repeats the sample above
-/// the transform. At the region's first sample the sides are half of the range of samples of `bit_depth`, less 1 and
-/// plus 1.
+/// the transform. At the region's first sample, each sample above is half of the range of `bit_depth` bits minus 1, and
+/// each sample to the left is half of it plus 1.
 ///
-/// If the angle of `opt_mode` and `intra_param` needs more samples, the sides continue as far as the lesser side of the
-/// transform, if `has_top_right` or `has_bottom_left` says that these samples are coded before. Past the last available
-/// sample, and at the ends of the region, the last sample is repeated. In the first column the left side is empty for a
-/// mode that takes a mean.
+/// At angles below 90 degrees the side above is longer by the transform's height. Past 180 degrees the left side is
+/// longer by its width. With no mode both are longer. As many of the added samples as the smaller dimension are read
+/// from the region, if `has_top_right` or `has_bottom_left` says that they are coded before. Past the last available
+/// sample, this sample is repeated. In the first column the left side is empty for a mode that takes a mean.
 ///
-/// The corner is half of the range unless the mode needs it. If `enable_intra_edge_filter` is set, the corner is
-/// smoothed for an angle between 90 and 180 degrees if width and height sum to 24 or more.
+/// The corner is half of the range if the mode does not need it, or at the region's first sample. If the edge filter is
+/// on, it is smoothed for angles between 90 and 180 degrees if width and height sum to 24 or more.
 ///
 /// AV1 specification: intra prediction process: general; for the smoothing filter corner process.
 pub fn get_intra_edges<'a, T: Pixel>(

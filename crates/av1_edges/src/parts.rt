@@ -1,4 +1,4 @@
-//! The parts of the edge round a block that are prepared.
+//! Decides from the mode which parts of an edge are prepared, and whether its corner is smoothed. Pure functions.
 //!
 //! AV1 specification: intra prediction process: general.
 

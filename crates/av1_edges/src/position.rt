@@ -1,4 +1,4 @@
-//! The position of a transform, and the samples round it that are coded before it.
+//! The position of a transform, and how many samples round it are available. Pure: it reads no samples.
 
 ghost use Rattle.std.specs.Prelude.{◌≡◌, ◌+◌, ◌*◌, ◌<◌, ◌≤◌, ◌&&◌, true};
 ghost use Rattle.av1_blocks.specs.Transforms.{tx_width, tx_height};

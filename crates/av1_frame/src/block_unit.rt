@@ -1,11 +1,11 @@
-//! Positions counted in cells of 4 luma samples.
+//! Positions counted in cells of 4x4 luma samples, and the sample at which a cell begins in a plane. Pure arithmetic.
 
 ghost use Rattle.std.specs.Prelude.{◌≡◌, ◌^◌, ◌<◌, ◌≤◌, pos, ◌+ℤ◌, ◌≤ℤ◌, ◌<ℤ◌};
 ghost use Rattle.av1_frame.specs.Areas.{block_start};
 
 use crate::plane::{PlaneConfig, PlaneOffset};
 
-/// A cell of 4 luma samples, counted from the first cell of the frame, or of a tile if it is in a `TileBlockOffset`.
+/// A cell of 4x4 luma samples, counted from the first cell of the frame, or of a tile if it is in a `TileBlockOffset`.
 #[derive(Clone, Copy, Debug, PartialEq, Eq)]
 pub struct BlockOffset {
     /// The column of cells.
@@ -14,7 +14,7 @@ pub struct BlockOffset {
     pub y: usize,
 }
 
-/// A cell of 4 luma samples, counted from the first cell of its tile.
+/// A cell of 4x4 luma samples, counted from the first cell of its tile.
 #[derive(Clone, Copy, Debug, PartialEq, Eq)]
 pub struct TileBlockOffset(pub BlockOffset);
 

@@ -1,4 +1,4 @@
-//! The settings that all blocks of a frame share.
+//! Holds the settings that all blocks of a frame share, and the planes of earlier frames. Only `new` allocates.
 
 ghost use Rattle.std.specs.Prelude.{◌≡◌, ◌/◌, ◌%◌, ◌<◌, ◌≤◌, IfOk, All, None, Some, slice_set, slice_index_or};
 ghost use Rattle.std.specs.Option.{option_map};
@@ -14,9 +14,9 @@ use std::alloc::Global;
 /// planes of earlier frames.
 #[derive(Drop)]
 pub struct FrameInvariants<T> {
-    /// The width of the frame in cells of 4 luma samples.
+    /// The width of the frame in cells of 4x4 luma samples.
     pub w_in_b: usize,
-    /// The height of the frame in cells of 4 luma samples.
+    /// The height of the frame in cells of 4x4 luma samples.
     pub h_in_b: usize,
     /// The interpolation filter.
     pub default_filter: FilterMode,
@@ -32,7 +32,7 @@ pub struct FrameInvariants<T> {
 }
 
 impl<T: Pixel> FrameInvariants<T> {
-    /// A frame of `width` by `height` luma samples, with all slots empty.
+    /// A frame of `width` by `height` luma samples. It allocates eight empty slots.
     pub fn new(
         alloc: Global,
         width: usize,

@@ -1,35 +1,35 @@
-//! Samples, planes of them, and the rectangles in a plane that predictions and transforms read and write.
+//! Planes of samples, and the rectangles in them that calls read and write. Only calls that take an allocator allocate.
 //!
-//! The crate stands on the standard library, on `av1_lists`, and on `av1_blocks`, for the names of modes, references
-//! and filters. Its modules, names and values are those of rav1e, and of v_frame on which that stands.
+//! The crate needs the standard library, and `av1_blocks` for the names of modes, references and filters. Its modules,
+//! names and values are those of rav1e, and those of v_frame, which rav1e uses.
 //!
-//! To the crates above it promises:
-//! - `Pixel` and `Coefficient` are numbers of a fixed width: number and value go back and forth, and samples are
-//!   ordered as their numbers are.
-//! - `clip` is the sample of a depth that is nearest to a number.
+//! Its promises to the crates above:
+//! - `Pixel` and `Coefficient` are numbers of a fixed width. Each converts to its number and back, and samples have the
+//!   order of their numbers.
+//! - `clip` gives the sample of a depth that is nearest to a number.
 //! - The samples of a `Plane` or a `PlaneSlice` fill the rows of its settings, and the visible ones lie among them. The
-//!   types say so, and no call asks for it but the constructors of slices and `Plane::set_sides`.
-//! - `PlaneRegion` and `PlaneSlice` only read: they hold a slice of samples and its settings, those of a plane or, by
-//!   `from_slice`, of memory that a caller holds, and copy nothing. A row of either is samples of that slice.
-//! - `fill_row` and `copy_row` change the first samples of a row, `fill_area` those of a rectangle.
-//! - What is written through a region stands in the plane when the borrow ends, and all other samples, the settings and
-//!   the rectangle stay. A call that writes says so in one equation, `output.new ≡ painted output.old width height f`,
-//!   where `f row column old` is the new sample (`specs/Regions.antt`). For a caller that counts from the first visible
-//!   sample the same is `painted_plane` (`specs/Planes.antt`), and `proofs/Planes.antt` reads it sample by sample. A
-//!   loop that writes row by row is proved by the lemmas `region_painting` (`proofs/Regions.antt`), one that writes a
-//!   row by `row_painting` (`proofs/Paint.antt`).
-//! - Below a region the same is said of a slice: `samples.new ≡ paint stride area f samples.old`, where `AreRows` holds
-//!   of the rectangle. `PlaneRegionMut` lends its samples to such a call. The loop is proved by `rectangle_painting`
-//!   and `row_painted_rest` (`proofs/Paint.antt`), the call that lends by `region_lending` (`proofs/Regions.antt`).
-//! - `Plane::pad` leaves every visible sample, and after it a stored place outside is the nearest visible sample.
+//!   types say so. Only the constructors of slices and `Plane::set_sides` require it.
+//! - `PlaneRegion` and `PlaneSlice` only read, and copy nothing. They hold settings and a slice of samples, of a plane
+//!   or, by `from_slice`, of memory that a caller holds. Each of their rows is a part of that slice.
+//! - `fill_row` and `copy_row` change the first samples of a row. `fill_area` changes the samples of a rectangle.
+//! - What is written through a region is in the plane when the borrow ends. All other samples, the settings and the
+//!   rectangle are unchanged. A call that writes says so in one equation, `output.new ≡ painted output.old width height
+//!   f`, with `f row column old` as the new sample (`specs/Regions.antt`). `painted_plane` (`specs/Planes.antt`) says
+//!   the same in positions from the first visible sample, and `proofs/Planes.antt` reads it sample by sample.
+//!   `region_painting` (`proofs/Regions.antt`) proves a loop that writes row by row, and `row_painting`
+//!   (`proofs/Paint.antt`) a loop that writes a row.
+//! - A call that writes a slice says the same of it: `samples.new ≡ paint stride area f samples.old`. It requires
+//!   `AreRows` of the rectangle. `PlaneRegionMut` lends its samples to such a call, by `region_lending`
+//!   (`proofs/Regions.antt`). `rectangle_painting` and `row_painted_rest` (`proofs/Paint.antt`) prove the loop.
+//! - `Plane::pad` keeps every visible sample. After it, each other stored sample equals the nearest visible one.
 //! - A slot of `FrameInvariants` holds the planes that were put there last.
 //!
-//! Nothing allocates but the constructors that take an allocator: a plane is one allocation. Regions and slices are
-//! slice arithmetic, and padding moves whole rows.
+//! Five public calls allocate: `Plane::new`, `Plane::from_slice`, `FrameInvariants::new`, `repeated` and
+//! `zero_samples`. A plane is one allocation. Regions and slices are slice arithmetic, and padding moves whole rows.
 //!
-//! Columns, rows, sides and pads are counted in samples, of the plane at hand. The visible rectangle of a plane lies in
-//! its storage, with pads round it; `xdec` and `ydec` are 1 where the plane has half of luma's columns or rows. Cells,
-//! in `BlockOffset`, are squares of 4 luma samples.
+//! Columns, rows, widths, heights and pads are counted in samples of the plane at hand. A plane's visible rectangle
+//! lies in its storage, with pads round it. `xdec` and `ydec` are 1 if the plane has half of luma's columns or rows.
+//! Cells, in `BlockOffset`, are squares of 4x4 luma samples.
 #![tactic(auto)]
 
 mod block_unit;

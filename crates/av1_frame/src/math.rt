@@ -1,4 +1,4 @@
-//! Arithmetic on numbers of samples.
+//! Arithmetic on numbers of samples, as pure functions: shifts with rounding, clamps, and clips to a depth.
 
 ghost use Rattle.std.specs.Prelude.{◌≡◌, ◌/◌, ◌≤◌, ◌<◌, ◌^◌, ◌<ℤ◌, pos, ◌+ℤ◌, ◌≤ℤ◌};
 ghost use Rattle.std.specs.Int.{int_min, int_max};
@@ -8,7 +8,7 @@ ghost use Rattle.av1_frame.specs.Slices.{within_pads};
 use crate::pixel::Pixel;
 
 /// `v` divided by 2 to the power of `bit` and rounded to the nearest number, up if two are equally near (the
-/// specification's Round2). The sum of `v` and half of that power fits.
+/// specification's Round2). The sum of `v` and half of that power has to fit 32 bits.
 pub fn round_shift(v: i32, bit: usize) -> i32
     requires small { bit ≤ 30 }
     requires fits { (v +ℤ pos (2 ^ bit / 2)) <ℤ pos (2 ^ 31) }
@@ -35,7 +35,7 @@ pub fn clip<T: Pixel>(value: i32, bit_depth: usize) -> T
     T::from_u32(clip_number(value, bit_depth))
 }
 
-/// The number of that sample.
+/// The number of the sample that `clip` gives.
 #[inline]
 fn clip_number(value: i32, bit_depth: usize) -> u32
     requires depth { bit_depth ≤ 16 }

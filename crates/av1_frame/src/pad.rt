@@ -1,4 +1,4 @@
-//! The samples round the visible ones.
+//! Pads a plane: sets each stored sample outside the visible rectangle to the nearest visible one. Allocates nothing.
 
 ghost use Rattle.std.specs.Prelude.{◌≡◌, ℤ, ◌+◌, ◌*◌, ◌/◌, ◌%◌, ◌<◌, ◌≤◌, ◌⊎◌, ◌&&◌, nat_le, nat_lt, if◌then◌else◌, length};
 ghost use Rattle.av1_frame.specs.Samples.{gathered};
@@ -65,7 +65,7 @@ impl<T: Pixel> Plane<T> {
     }
 }
 
-/// Sets the samples before and after the `width` from position `first` on to the nearest of these.
+/// Sets the samples before and after a run of `width` samples, from position `first` on, to the nearest sample of it.
 fn pad_row<T: Pixel>(row: &mut [T], first: usize, width: usize)
     requires some { 0 < width }
     requires fits { first + width ≤ length row.old }

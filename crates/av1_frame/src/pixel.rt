@@ -1,4 +1,4 @@
-//! Samples and the coefficients of their transforms.
+//! Traits of samples (`u8`, `u16`) and of coefficients (`i16`, `i32`): conversions to numbers and back. Pure.
 
 ghost use Rattle.std.specs.Prelude.{◌≡◌, ℕ, ◌^◌, ◌-◌, ◌*◌, ◌<◌, ◌≤◌, refl, pos, neg_ℤ, ◌≤ℤ◌, ◌<ℤ◌, ℤ};
 ghost use Rattle.std.specs.Ordering.{nat_cmp};
@@ -85,7 +85,7 @@ pub trait Pixel: Copy + Ord {
     /// The number of bits of a sample.
     const BITS: usize;
 
-    /// The coefficients of the transforms of blocks of these samples, twice as wide as they are.
+    /// The coefficients of transforms of these samples. They have twice as many bits as a sample.
     type Coeff: Coefficient;
 
     ghost BITS: { ℕ };

@@ -1,4 +1,4 @@
-//! Planes of samples.
+//! A plane of samples: allocates it, gives its settings, and lends its parts to callers that read or write them.
 
 ghost use Rattle.std.specs.Prelude.{◌≡◌, ◌+◌, ◌-◌, ◌*◌, ◌/◌, ◌%◌, ◌<◌, ◌≤◌, ◌⊎◌, length, replicate, IfOk};
 ghost use Rattle.std.specs.Borrow.{sem};
@@ -71,7 +71,7 @@ pub struct PlaneOffset {
 }
 
 /// A plane of samples: a visible rectangle in storage that may be larger on each side. The samples fill the rows of
-/// its settings, and the visible ones lie among them. Clauses see the samples and the settings.
+/// its settings, and the visible ones lie among them. Contracts see the samples and the settings.
 #[derive(Drop)]
 pub struct Plane<T> {
     samples: Storage<T>,
@@ -132,7 +132,7 @@ impl<T: Pixel> Plane<T> {
         Ok(Plane { samples, plane_cfg })
     }
 
-    /// A plane that has exactly the rows of `samples`, which are `stride` long: no pads and nothing rounded up.
+    /// Allocates a plane that has exactly the rows of `samples`, which are `stride` long. It has no pads.
     pub fn from_slice(alloc: Global, samples: &[T], stride: usize) -> Result<Plane<T>, OutOfMemory>
         requires some_columns { 0 < stride }
         requires few_columns { stride ≤ 65536 }
@@ -155,8 +155,8 @@ impl<T: Pixel> Plane<T> {
         Ok(Plane { samples, plane_cfg })
     }
 
-    /// Copies the `width` samples from the stored position `from` on to the stored position `to` on. The two don't
-    /// overlap.
+    /// Copies `width` samples: from the stored position `from` on, to the stored position `to` and the next ones. The
+    /// ranges must not overlap.
     pub(crate) fn copy_apart(&mut self, from: usize, to: usize, width: usize)
         requires from { from + width ≤ length self.old.samples }
         requires to { to + width ≤ length self.old.samples }
@@ -194,7 +194,7 @@ impl<T: Pixel> Plane<T> {
         self.plane_cfg.height = height;
     }
 
-    /// All that is stored.
+    /// All stored samples.
     pub(crate) fn as_slice(&self) -> &[T]
         ensures { result.now ≡ self.now.samples }
     {

@@ -1,4 +1,4 @@
-//! Rectangles of stored samples: of any that a caller holds, to read, and of a plane, to read and to write.
+//! Lends rectangles of stored samples: of a plane or a caller's slice to read, of a plane to write. Copies nothing.
 
 ghost use Rattle.std.specs.Prelude.{◌≡◌, ◌+◌, ◌-◌, ◌*◌, ◌^◌, ◌<◌, ◌≤◌, length, pos};
 ghost use Rattle.std.specs.Borrow.{sem};
@@ -38,7 +38,7 @@ pub enum Area {
         /// The number of rows.
         height: usize,
     },
-    /// All from the cell `bo` of 4 luma samples on, to the right and lower end of storage or of the region.
+    /// All from the cell `bo` of 4x4 luma samples on, to the right and lower end of storage or of the region.
     BlockStartingAt {
         /// The cell.
         bo: BlockOffset,
@@ -162,8 +162,8 @@ pub struct PlaneRegionMut<'a, T> {
 }
 
 impl<'a, T: Pixel> PlaneRegion<'a, T> {
-    /// The rectangle `area` of `samples`, which are stored as `plane_cfg` says. Nothing is copied: what is read is
-    /// these samples. A `Rect` counts from the first visible sample.
+    /// The rectangle `area` of `samples`, which are stored as `plane_cfg` says. Nothing is copied: calls read these
+    /// samples. A `Rect` counts from the first visible sample.
     pub fn from_slice(samples: &'a [T], plane_cfg: PlaneConfig, area: Area) -> PlaneRegion<'a, T>
         requires whole { IsStorage plane_cfg (length samples.now) }
         requires area { IsStored plane_cfg area }
@@ -273,7 +273,7 @@ impl<'a, T: Pixel> PlaneRegionMut<'a, T> {
         self.plane.part_mut(start, len)
     }
 
-    /// The first columns and rows of the rectangle, as a rectangle of its rows.
+    /// The rectangle's first `width` columns and `height` rows, at their position in the slice that `rows_mut` returns.
     pub fn corner(&self, width: usize, height: usize) -> StoredArea
         ensures { result ≡ in_rows self.now.area width height }
     {
@@ -320,7 +320,7 @@ impl<'a, T: Pixel> PlaneRegionMut<'a, T> {
         }
     }
 
-    /// The rectangle `area` of this one, to read and write: what is written stands in the region when the
+    /// The rectangle `area` of this one, to read and write: what is written is in the region when the
     /// borrow ends. A `Rect` counts from the region's first sample.
     pub fn subregion_mut(&mut self, area: Area) -> PlaneRegionMut<'_, T>
         requires fits { InStorage self.old }

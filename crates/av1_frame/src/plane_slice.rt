@@ -1,4 +1,4 @@
-//! Positions in stored samples, to read from.
+//! Positions in stored samples, and the samples from there on, to read. Copies nothing and writes nothing.
 
 ghost use Rattle.std.specs.Prelude.{◌≡◌, ◌-◌, ◌^◌, pos, ◌+ℤ◌, ◌-ℤ◌, ◌≤ℤ◌, ◌<ℤ◌, ◌<◌, length, FitsSigned, ⊤};
 ghost use Rattle.std.specs.Int.{w64};
@@ -10,8 +10,8 @@ use crate::plane::{PlaneConfig, PlaneOffset};
 use crate::storage::part_of;
 use std::alloc::AllocError;
 
-/// A place in stored samples, which may lie outside them, and the rows from there on: of a plane, or of memory that a
-/// caller holds. The samples fill the rows of the settings, and the visible ones lie among them.
+/// A position in stored samples, and the rows from there on: of a plane, or of memory that a caller holds. The position
+/// may lie outside. The samples fill the rows of the settings, and the visible ones lie among them.
 pub struct PlaneSlice<'a, T> {
     /// All that is stored, one row after another.
     pub(crate) samples: &'a [T],
@@ -39,7 +39,7 @@ impl<'a, T: Copy> Copy for PlaneSlice<'a, T> {}
 impl<'a, T: Pixel> PlaneSlice<'a, T> {
     ghost use Rattle.av1_frame.specs.Slices.{RowIsStored, all_from, slice_plane, within_pads, row_from, stored_column, stored_row};
 
-    /// The place `po` in `samples`, which are stored as `plane_cfg` says. Nothing is copied: what is read is these
+    /// The position `po` in `samples`, which are stored as `plane_cfg` says. Nothing is copied: calls read these
     /// samples.
     pub fn from_slice(
         samples: &'a [T],
@@ -60,8 +60,8 @@ impl<'a, T: Pixel> PlaneSlice<'a, T> {
         }
     }
 
-    /// The nearest position that is at most the pads left of and above the visible samples, and at most the first
-    /// column and row past them.
+    /// The nearest position within the pads to the left and above. To the right and below, it is at most the first
+    /// column and row past the visible samples.
     pub fn clamp(&self) -> PlaneSlice<'a, T>
         ensures { let cfg = self.now.plane_cfg.now
             in result ≡ record self.now { x = within_pads self.now.x cfg.xpad cfg.width; y = within_pads self.now.y cfg.ypad cfg.height } }

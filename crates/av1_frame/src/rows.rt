@@ -1,4 +1,4 @@
-//! Rows of samples, one sample after another, rectangles of one value, and lists of one value.
+//! Fills and copies rows, and fills rectangles, in place. `repeated` and `zero_samples` allocate lists of one value.
 
 ghost use Rattle.std.specs.Prelude.{◌≡◌, ◌≤◌, length, slice_index_or, IfOk, replicate, vec_len};
 ghost use Rattle.av1_frame.specs.Areas.{AreRows};
@@ -46,7 +46,7 @@ pub fn copy_row<T: Pixel>(row: &mut [T], source: &[T], width: usize)
     row[..width].copy_from_slice(&source[..width]);
 }
 
-/// `value`, `count` times: memory is allocated once, and filled piece by piece.
+/// Allocates a list of `count` times `value`: once, and then fills it piece by piece.
 pub fn repeated<T: Copy>(alloc: Global, value: T, count: usize) -> Result<Vec<T>, AllocError>
     ensures items { IfOk result (λ values. values.items ≡ replicate count value) }
     ensures len { IfOk result (λ values. vec_len values ≡ count) }
@@ -59,7 +59,7 @@ pub fn repeated<T: Copy>(alloc: Global, value: T, count: usize) -> Result<Vec<T>
     Ok(values)
 }
 
-/// `count` zero samples.
+/// Allocates a list of `count` zero samples.
 pub fn zero_samples<T: Pixel>(alloc: Global, count: usize) -> Result<Vec<T>, AllocError>
     ensures zeros { IfOk result (λ samples. samples.items ≡ replicate count (T.pixel 0)) }
     ensures len { IfOk result (λ samples. vec_len samples ≡ count) }

@@ -1,4 +1,4 @@
-//! The planes of earlier frames.
+//! Holds the planes of earlier frames in eight slots: puts planes in, and lends them. Only `new` allocates.
 
 ghost use Rattle.std.specs.Prelude.{◌≡◌, ◌<◌, IfOk, None, Some, length, slice_set, slice_index_or, replicate};
 ghost use Rattle.std.specs.Option.{option_map};
@@ -34,7 +34,7 @@ impl<T: Pixel> Slot<T> {
     }
 }
 
-/// Eight slots, each empty or with the planes of a frame. Contracts see their list.
+/// Eight slots, each empty or with the planes of a frame. A contract sees them as a list.
 #[derive(Drop)]
 pub(crate) struct Slots<T> {
     slots: Vec<Option<Slot<T>>>,
@@ -52,7 +52,7 @@ impl<T> Model for Slots<T> {
 }
 
 impl<T: Pixel> Slots<T> {
-    /// Eight empty slots.
+    /// Allocates eight empty slots.
     pub(crate) fn new(alloc: Global) -> Result<Slots<T>, AllocError>
         ensures { IfOk result (λ s. s ≡ replicate 8 None) }
     {

@@ -1,4 +1,4 @@
-//! The samples of a plane, one row after another.
+//! Owns a plane's samples, one row after another: allocates, lends, and copies within them.
 
 ghost use Rattle.std.specs.Prelude.{◌≡◌, ◌+◌, ◌<◌, ◌≤◌, ◌⊎◌, length, replicate, IfOk};
 ghost use Rattle.std.specs.Borrow.{sem};
@@ -10,7 +10,7 @@ use crate::rows::zero_samples;
 use std::alloc::{AllocError, Global};
 use std::marker::Model;
 
-/// Samples in one allocation. Contracts see their list.
+/// Samples in one allocation. A contract sees a storage as the list of its samples.
 #[derive(Drop)]
 pub(crate) struct Storage<T> {
     samples: Vec<T>,
@@ -52,7 +52,7 @@ impl<T> Storage<T> {
 }
 
 impl<T: Pixel> Storage<T> {
-    /// Copies the `width` samples from the place `from` on to the place `to` on, which are others.
+    /// Copies `width` samples: from position `from` on, to position `to` and the next. The ranges must not overlap.
     pub(crate) fn copy_apart(&mut self, from: usize, to: usize, width: usize)
         requires from { from + width ≤ length self.old }
         requires to { to + width ≤ length self.old }
@@ -62,7 +62,7 @@ impl<T: Pixel> Storage<T> {
         copy_apart_in(self.samples.as_mut_slice(), from, to, width);
     }
 
-    /// `n` zero samples.
+    /// Allocates `n` zero samples.
     pub(crate) fn zeros(alloc: Global, n: usize) -> Result<Storage<T>, AllocError>
         ensures { IfOk result (λ s. s ≡ replicate n (T.pixel 0)) }
     {
@@ -71,7 +71,7 @@ impl<T: Pixel> Storage<T> {
         })
     }
 
-    /// The samples of `s`.
+    /// Allocates a copy of the samples of `s`.
     pub(crate) fn from_slice(alloc: Global, s: &[T]) -> Result<Storage<T>, AllocError>
         ensures { IfOk result (λ t. t ≡ s.now) }
     {
@@ -81,7 +81,7 @@ impl<T: Pixel> Storage<T> {
     }
 }
 
-/// Copies the `width` samples from the place `from` on to the place `to` on, which are others.
+/// Copies `width` samples: from position `from` on, to position `to` and the next. The ranges must not overlap.
 fn copy_apart_in<T: Pixel>(samples: &mut [T], from: usize, to: usize, width: usize)
     requires from { from + width ≤ length samples.old }
     requires to { to + width ≤ length samples.old }

@@ -1,4 +1,4 @@
-//! The planes of a tile, and what is coded of its blocks.
+//! Types of a tile: its rectangle in a plane, its part of three planes to write, and a block's modes and references.
 
 ghost use Rattle.std.specs.Prelude.{◌≡◌, ◌^◌, ◌<◌, pos, ◌+ℤ◌, FitsSigned};
 ghost use Rattle.std.specs.Int.{w64};
@@ -49,7 +49,7 @@ pub struct CodedBlockInfo {
     pub reference_types: [RefType; 2],
 }
 
-/// The parts of the three planes that are a tile, to read and to write.
+/// A tile's part of each of the three planes, to read and to write.
 #[derive(Drop)]
 pub struct TileStateMut<'a, T> {
     /// Luma.
@@ -58,6 +58,6 @@ pub struct TileStateMut<'a, T> {
     pub u: PlaneRegionMut<'a, T>,
     /// The second plane of chroma.
     pub v: PlaneRegionMut<'a, T>,
-    /// The tile's first cell of 4 luma samples in the frame.
+    /// The tile's first cell of 4x4 luma samples in the frame.
     pub sbo: BlockOffset,
 }

@@ -1,4 +1,4 @@
-//! The average of two prepared blocks.
+//! Averages two prepared blocks: reads their values, and writes the samples of a rectangle.
 //!
 //! Sums that 16 bits don't hold are cut to 16 bits: their samples are the greatest or the least in any case.
 //!
@@ -44,7 +44,7 @@ fn rise(bit_depth: usize) -> i16
     }
 }
 
-/// The sum of a number and such a rise, or the greatest number of 16 bits.
+/// The sum of a number and the result of `rise`, or the greatest number of 16 bits.
 #[inline(always)]
 fn raised<T: Pixel>(number: i16, rise: i16) -> i16
     requires { Between 0 16400 rise }
@@ -59,8 +59,8 @@ fn raised<T: Pixel>(number: i16, rise: i16) -> i16
     }
 }
 
-/// The number of the sample that is the average of two prepared values. A compiler knows all but the shift if samples
-/// have one byte: a known shift next to the limits makes it form these in a longer way.
+/// The number of the sample that is the average of two prepared values. For one-byte samples the compiler knows every
+/// number except the shift. If it knew the shift, it would compute the limits more slowly.
 #[inline(always)]
 fn average_number<T: Pixel>(first: i16, second: i16, bit_depth: usize) -> i16
     requires depths { IsDepth bit_depth }

@@ -1,4 +1,4 @@
-//! A block that is filtered, for every fraction.
+//! Filters a block along its rows, down its columns, or both. Writes only the block's samples or values.
 //!
 //! AV1 specification: block inter prediction process.
 
@@ -30,7 +30,7 @@ pub struct Moved {
     pub mode_y: FilterMode,
 }
 
-/// The same as `Moved`, from fractions as rav1e passes them.
+/// Makes a `Moved` from fractions as rav1e passes them.
 #[inline(always)]
 pub(crate) fn moved_by(
     col_frac: i32,

@@ -1,4 +1,4 @@
-//! Buffers for the two prepared blocks of a compound prediction.
+//! Allocates the buffers for the two prepared blocks of a compound prediction.
 
 ghost use Rattle.std.specs.Prelude.{◌≡◌, IfOk, pos, replicate, vec_len};
 

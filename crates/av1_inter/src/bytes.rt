@@ -1,4 +1,4 @@
-//! Samples of one byte that are filtered in 16 bits.
+//! Filters samples of one byte in 16 bits: reads a slice, and returns an array of values.
 //!
 //! Every weight is even, so half of a sum of eight samples is the sum by halved weights. Over samples of 8 bits it lies
 //! from -7140 to 23460, and so do the partial sums of its products.

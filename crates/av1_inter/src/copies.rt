@@ -1,4 +1,4 @@
-//! A block whose samples are in its reference unchanged.
+//! Copies or prepares a block that its vector moves by whole samples. Writes only the block's samples or values.
 //!
 //! AV1 specification: block inter prediction process.
 

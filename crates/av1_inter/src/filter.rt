@@ -1,4 +1,4 @@
-//! The choice of the interpolation filter.
+//! Chooses the interpolation filter of a block, and halves its weights. Pure functions.
 //!
 //! AV1 specification: block inter prediction process.
 

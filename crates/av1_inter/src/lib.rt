@@ -1,4 +1,4 @@
-//! Motion compensation: the samples of a block from a reference, moved by a vector to a sixteenth of a sample.
+//! Motion compensation: predicts blocks from reference planes, moved by vectors. Only one constructor allocates.
 //!
 //! AV1 specification: block inter prediction process, rounding variables derivation process.
 //!
@@ -11,8 +11,8 @@
 //! - `prep_8tap` writes `prepared` of them, row by row, to the first entries of a buffer. The others are unchanged.
 //! - `mc_avg` sets each sample of a block to `averaged` of two prepared values.
 //! - `put_8tap_to`, `prep_8tap_from` and `mc_avg_to` do the same from or to slices, in memory of any caller.
-//!   `put_8tap`, `prep_8tap` and `mc_avg` lend them the samples of a plane or a region. The first two read only what
-//!   the fractions need (`IsReadFrom` of `specs/Places.antt`).
+//!   `put_8tap`, `prep_8tap` and `mc_avg` lend them the samples of a plane or a region. `put_8tap_to` and
+//!   `prep_8tap_from` read only what the fractions need (`IsReadFrom` of `specs/Places.antt`).
 //! - `predict_inter_single`, `predict_inter_compound` and `predict_inter` predict a block from the planes in a frame's
 //!   slots, moved by vectors (`PredictsSingle` and `PredictsCompound` of `specs/Prediction.antt`). The planes are
 //!   padded, and for every vector a position outside the frame reads the nearest visible sample. If the slot of a
@@ -40,15 +40,15 @@
 //! | none, put | a width of 4, 8, 16, 32, 64 or 128 | `put_copy`: `copy_rows` | the same |
 //! | none, put | any other width | `put_copy`: `copy_any_rows` | the same |
 //! | none, prepared | any | `prepare_copy`: `widen_rows`, by an array if the width is one of these six | the same |
-//! | only one | 4x4, by four weights | `filter_by`: `filter_four` or `filter_words` | as other sides |
+//! | only one | 4x4, by four weights | `filter_by`: `filter_four` across, `filter_words` down | as other sides |
 //! | only across | any other: strips of 16 or 8 columns | `filter_once`: `filter_bytes` | `filter_once`: `filter_words` |
 //! | only across | the rest: strips of 4 columns or 1 | `filter_once`: `filter_four` or `filter_words` | `filter_once`: `filter_words` |
-//! | only down | the same strips | the same, in steps of a row | the same, in steps of a row |
+//! | only down | the same strips | `filter_once`: `filter_bytes` for 16 or 8 columns, else `filter_words` | `filter_once`: `filter_words` |
 //! | both | any: parts of 16 or 8 columns and up to 32 rows | `filter_twice`: `filter_bytes`, then `filter_words` | `filter_twice`: `filter_words`, twice |
 //! | both | the rest: parts of 4 columns or 1 | `filter_twice`: `filter_four` or `filter_words`, then `filter_words` | `filter_twice`: `filter_words`, twice |
 //!
 //! Within a sum, the outer weights that are 0 are left out, up to two on either side: `outer_zeros` counts them.
-//! `filter_four` computes four bytes side by side that have four weights left.
+//! `filter_four` computes four bytes side by side, along a row, if four weights are left.
 #![tactic(auto)]
 
 mod average;

@@ -1,4 +1,4 @@
-//! A block of a padded reference, moved by a vector.
+//! Predicts or prepares a block that a vector moves in a padded reference plane. Reads that plane, writes the block.
 //!
 //! AV1 specification: block inter prediction process, motion vector scaling process at a scale of one.
 
@@ -37,7 +37,7 @@ pub fn sixteenths(component: i16, decimation: usize) -> i32
     (i32::from(component) * scale).rem_euclid(16)
 }
 
-/// The column or row 3 before the one to which a component moves `at`. The result saturates.
+/// Moves `at` by a component's whole samples, then 3 samples back for the filter. The result saturates.
 fn moved_place(at: isize, component: i16, decimation: usize) -> isize
     requires { decimation ≤ 1 }
     ensures { result ≡ saturate_signed w64 (at +ℤ (whole_part component decimation -ℤ pos 3)) }
@@ -45,8 +45,8 @@ fn moved_place(at: isize, component: i16, decimation: usize) -> isize
     at.saturating_add(isize::from(component >> (3 + decimation)) - 3)
 }
 
-/// The position to which a vector moves a block at `at`, kept within the pads. Past the pads all samples are those at
-/// the frame's end.
+/// Finds where a moved block begins in its reference. The filter's first sample, 3 columns and rows before, is clamped
+/// to the padding. Past the padding, samples only repeat.
 fn moved_slice<T: Pixel>(plane: &Plane<T>, at: PlaneOffset, mv: MotionVector) -> PlaneSlice<'_, T>
     requires padded { IsPadded T.num plane.now }
     requires xpad { 3 ≤ plane.now.plane_cfg.xpad }

@@ -1,4 +1,4 @@
-//! Blocks that are filtered along one direction: along their rows, or down their columns.
+//! Filters a block in one direction, along its rows or down its columns. Writes only the block's samples or values.
 //!
 //! Both are one loop. The eight samples of a sum are 1 apart along a row, and one row's distance apart down a column.
 //!
@@ -97,9 +97,9 @@ fn filter_row<T: Pixel, E: Copy, W: Writer<E>, const N: usize, const ZEROS: usiz
     write_row::<E, W, N>(row, &values, strip.bit_depth);
 }
 
-/// Returns the same taps. If `ALONE` is true, no other filter is laid, and the compiler knows the shift of its sums and
-/// the bias. For 16 columns of two-byte samples it doesn't know them: then it holds sums within their limits and cuts
-/// them to 16 bits in one step, and else in two.
+/// Returns the same taps. If `ALONE` is true, this is the block's only filter, and the compiler knows shift and bias.
+/// It does not know them for 16 columns of two-byte samples. Then it limits the sums and cuts them to 16 bits in one
+/// step, else in two.
 #[inline(always)]
 fn known_taps<T: Pixel, E: Copy, W: Writer<E>, const N: usize, const ALONE: bool>(
     taps: &Taps,

@@ -1,4 +1,4 @@
-//! Inter prediction of a block, from one reference or from two.
+//! Predicts a block from one reference or two: reads the frame's slots, writes the block and the compound buffers.
 //!
 //! AV1 specification: inter prediction process, block inter prediction process.
 
@@ -142,7 +142,7 @@ fn predict_over<T: Pixel>(
 }
 
 /// Predicts a block from two references. Each sample of the first `height` rows and `width` columns of `dst` becomes
-/// the average of two values, which `predict_inter_single` would interpolate; they are rounded only then. Conditions
+/// the average of two interpolated values, one from each reference. Only the average is rounded to a sample. Conditions
 /// and positions are those of `predict_inter_single`. The result is left open if a reference's slot is empty.
 pub fn predict_inter_compound<T: Pixel>(
     mode: PredictionMode,

@@ -1,4 +1,4 @@
-//! A block that is prepared for the average with another.
+//! Prepares a block for the average with another: reads a reference, and writes values to a buffer.
 //!
 //! AV1 specification: block inter prediction process, with the rounding of compound prediction.
 

@@ -1,4 +1,4 @@
-//! A block with one reference.
+//! Predicts a block from one reference: reads its stored samples, and writes the block's samples.
 //!
 //! AV1 specification: block inter prediction process.
 

@@ -1,4 +1,4 @@
-//! The rounding of sums.
+//! How sums of weighted samples are rounded, for each depth and each kind of block. Pure functions.
 //!
 //! All weights are even, and sums are formed with half of each. So a sum that the specification shifts by 7 is shifted
 //! by 6 here. The specification rounds twice along a row of one reference; here one step does both: `(s + 32 + h) >>

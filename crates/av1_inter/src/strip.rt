@@ -1,4 +1,4 @@
-//! Rectangles that are filtered, and filters that are laid on them.
+//! Describes a rectangle that is filtered and the filter laid on it, and cuts blocks into strips. Writes nothing.
 
 ghost use Rattle.std.specs.Prelude.{◌≡◌, ℕ, ◌+◌, ◌*◌, ◌^◌, ◌≤◌, ◌<◌, drop, length};
 ghost use Rattle.av1_inter.specs.Scaffolding.{IsStripWidth, part_of, sample_of};
@@ -20,8 +20,8 @@ pub(crate) struct Strip<'a, T> {
     pub(crate) bit_depth: usize,
 }
 
-/// A filter that is laid on a strip. The eight samples for row `r` and column `c` are `step` apart, from the position r
-/// rows and c columns after `start` on. `halves` has half of each weight.
+/// A filter that is laid on a strip. The eight samples for row `r` and column `c` are `step` apart. The first of them
+/// is r rows and c columns after `start`. `halves` has half of each weight.
 #[derive(Clone, Copy)]
 pub(crate) struct Taps {
     pub(crate) start: usize,

@@ -1,4 +1,4 @@
-//! The samples of a reference that are read for a block.
+//! Finds the stored samples of a reference that a block's filters read. Writes nothing.
 //!
 //! AV1 specification: block inter prediction process.
 
@@ -19,7 +19,7 @@ pub(crate) fn taps_of_block<T: Pixel>(src: PlaneSlice<'_, T>) -> PlaneSlice<'_, 
     src.go_left(3).go_up(3)
 }
 
-/// How many columns (or rows) round a block come before the first that is read, at a fraction.
+/// Counts the columns (or rows) between the corner and the first sample that the filter reads.
 #[inline(always)]
 fn skipped(frac: usize) -> usize
     ensures { result ≡ 3 - read_before frac }
@@ -27,8 +27,8 @@ fn skipped(frac: usize) -> usize
     if frac == 0 { 3 } else { 0 }
 }
 
-/// All that is stored from the first sample on that is read for a block. `corner` is 3 columns to the left of the block
-/// and 3 rows above it.
+/// The stored samples, from the first that is read for a block on. `corner` is 3 columns to the left of the block and 3
+/// rows above it.
 #[inline(always)]
 pub(crate) fn read_from<'a, T: Pixel>(corner: &'a PlaneSlice<'_, T>, moved: Moved) -> &'a [T]
     requires { (columns : ℕ) × (rows : ℕ) × IsStoredFrom corner.now (columns + 7) (rows + 7) }

@@ -1,4 +1,4 @@
-//! Blocks that are filtered along their rows, and then down their columns.
+//! Filters a block along its rows and then down its columns. Writes only the block's samples or values.
 //!
 //! Both steps are those of one filter. The values of the first step are kept as samples of 15 bits, which the second
 //! step reads. A block is cut into parts of up to 16 columns and 32 rows, so that few values are kept; 7 rows more are

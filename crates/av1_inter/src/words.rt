@@ -1,5 +1,5 @@
-//! Samples that are filtered in 32 bits, two products at a time: samples of two bytes, and samples of one byte if fewer
-//! than 8 columns are filtered at once.
+//! Filters samples in 32 bits, two products at a time: reads a slice, and returns an array of values.
+//! The samples have two bytes, or one byte if fewer than 8 columns are filtered at once.
 //!
 //! In one step, a machine multiplies eight or 16 numbers of 16 bits by as many others and adds each two neighbouring
 //! products. So the samples of two weights are put side by side, for eight or 16 columns at once.
@@ -389,7 +389,7 @@ pub(crate) fn filter_four<T: Pixel, const N: usize, const ZEROS: usize>(
     settle_first::<N>(&sums, rounding)
 }
 
-/// As `filter_group`, at once if there are 16 positions.
+/// As `filter_group`, for 16 positions or at most eight. The sums of 16 positions are formed at once.
 #[inline(always)]
 pub(crate) fn filter_words<T: Pixel, const N: usize, const ZEROS: usize>(
     source: &[T],

@@ -1,4 +1,4 @@
-//! The use of filtered values: samples of one reference, or values that are prepared for an average.
+//! Turns filtered values into samples, or into values between two filters or for an average. Pure functions.
 
 ghost use Rattle.std.specs.Prelude.{◌≡◌, ℕ, ℤ, ◌≤◌};
 ghost use Rattle.av1_blocks.specs.Depths.{IsDepth};

@@ -1,4 +1,4 @@
-//! The directions of prediction: the angle of a mode with its parameter, and the slope of an angle.
+//! The directions of prediction, as pure functions: the angle of a mode with its parameter, and the slope of an angle.
 
 ghost use Rattle.std.specs.Prelude.{◌≡◌};
 ghost use Rattle.av1_intra.specs.Angles.{derivative};

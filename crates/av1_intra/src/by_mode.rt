@@ -1,4 +1,4 @@
-//! Prediction of a rectangle of a slice by an intra mode, from the sides round it.
+//! Predicts a rectangle of a slice by an intra mode: reads the sides round it, and writes only the rectangle.
 //!
 //! AV1 specification: intra prediction process.
 
@@ -116,8 +116,8 @@ fn predict_smooth<T: Pixel>(
 /// Predicts the samples of a rectangle by an intra mode, from the sides round it. The rows of `samples` are `stride`
 /// apart. Samples outside the rectangle are unchanged.
 ///
-/// `block` is the rectangle. Its width and height are those of a transform, and its angle, from 0 to 270 degrees, is
-/// the angle of a directional mode. `smooth_filter` is `None` if the edge filter is off, and else says whether a
+/// `area` is the rectangle in `samples`. `block` has the same width and height, those of a transform. Only directional
+/// modes read its angle, in degrees. `smooth_filter` is `None` if the edge filter is off, and else says whether a
 /// neighbour has a smooth mode. Next to the block, the filter smooths only samples in its visible columns and rows.
 ///
 /// `variant` says which sides lie in the tile, for the modes that take a mean. `UV_CFL_PRED` adds to the mean the

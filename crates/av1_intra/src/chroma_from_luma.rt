@@ -1,4 +1,4 @@
-//! Chroma from luma: the DC prediction of chroma, plus the difference of luma from its mean.
+//! Predicts chroma from luma: adds the differences of luma in `ac` to the DC prediction. Writes only the rectangle.
 //!
 //! AV1 specification: predict chroma from luma process.
 

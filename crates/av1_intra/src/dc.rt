@@ -1,4 +1,4 @@
-//! DC prediction: each sample is the mean of the samples on the sides that lie in the tile.
+//! DC prediction: computes the mean of the samples on the sides that lie in the tile. Writes nothing.
 //!
 //! AV1 specification: DC intra prediction process.
 
@@ -69,7 +69,7 @@ fn sum_of_side<T: Pixel>(side: &[T]) -> u32
     }
 }
 
-/// The rounded mean of the samples of two sides, of which one may be empty: the DC prediction of a block between them.
+/// The rounded mean of the samples of two sides: the DC prediction of a block between them. One of them may be empty.
 #[inline(always)]
 pub fn mean_of<T: Pixel>(left: &[T], above: &[T]) -> T
     requires some { 0 < length left.now + length above.now }

@@ -1,4 +1,4 @@
-//! Directional prediction: a sample is taken from the point where a line through it meets a side.
+//! Directional prediction: takes each sample from where a line meets a side. Writes only the rectangle.
 //!
 //! AV1 specification: directional intra prediction process.
 
@@ -14,7 +14,7 @@ use crate::interpolation::rows_below_90;
 use crate::strips::{Slopes, columns_past_180, rows_between};
 use av1_frame::{Pixel, StoredArea};
 
-/// A block as an intra mode predicts it.
+/// What intra modes need of a block: dimensions, depth, and for directional modes the angle and the filter.
 #[derive(Clone, Copy)]
 pub struct DirectionalBlock {
     /// The angle, in degrees. Only directional modes read it.

@@ -1,4 +1,4 @@
-//! The edge filter: how strongly a side is smoothed before it is interpolated, and by which weights.
+//! The edge filter: chooses how strongly a side is smoothed before it is interpolated, and smooths it in place.
 
 ghost use Rattle.std.specs.Prelude.{◌≡◌, ℕ, ◌+◌, ◌-◌, ◌/◌, ◌^◌, ◌<◌, ◌≤◌, List, [], ◌∷◌, length, min, unsigned_abs, true, false};
 ghost use Rattle.av1_frame.specs.Samples.{paint_row};

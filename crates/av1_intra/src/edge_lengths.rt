@@ -1,4 +1,4 @@
-//! The number of samples of each side of a block that its mode reads.
+//! Counts the samples of each side of a block that its mode reads. Pure functions.
 
 ghost use Rattle.std.specs.Prelude.{◌≡◌, ◌≤◌};
 ghost use Rattle.av1_intra.specs.Predicted.{dc_above, dc_left, along_above, along_left, places_above, places_left};

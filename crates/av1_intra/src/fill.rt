@@ -1,4 +1,4 @@
-//! Rectangles that are filled with one sample.
+//! Fills a rectangle of a slice with one sample, and writes nothing else.
 
 ghost use Rattle.std.specs.Prelude.{◌≡◌, length};
 ghost use Rattle.av1_frame.specs.Areas.{AreRows};

@@ -1,4 +1,4 @@
-//! A side of a block as directional prediction reads it: filtered, and upsampled, as the angle requires.
+//! Copies a side of a block into an array, and filters and upsamples it there as the angle requires.
 
 ghost use Rattle.std.specs.Prelude.{◌≡◌, ℕ, ◌+◌, ◌-◌, ◌*◌, ◌/◌, ◌<◌, ◌≤◌, length, map, take, reverse, replicate, if◌then◌else◌, IsTrue};
 ghost use Rattle.av1_intra.specs.Sides.{entries, distance};

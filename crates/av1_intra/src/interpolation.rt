@@ -1,4 +1,4 @@
-//! Rows of a block that are interpolated between the samples of one side.
+//! Interpolates between the samples of a side. Predicts rectangles at angles below 90, and writes only these.
 
 ghost use Rattle.std.specs.Prelude.{◌≡◌, ℕ, ◌+◌, ◌-◌, ◌*◌, ◌/◌, ◌^◌, ◌<◌, ◌≤◌, length, pos, List};
 ghost use Rattle.av1_frame.specs.Areas.{AreRows};

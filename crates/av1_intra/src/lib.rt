@@ -1,4 +1,4 @@
-//! Intra prediction: the samples of a block from the samples round it.
+//! Intra prediction: computes the samples of a block from the samples round it, in slices. Allocates nothing.
 //!
 //! The crate takes samples from `av1_frame`, the samples round a block from `av1_edges`, and modes and references from
 //! `av1_blocks`. Its names and values are those of rav1e. Each predictor takes a slice whose rows are a stride apart,
@@ -7,7 +7,7 @@
 //! - `dispatch_predict_intra_to` predicts the rectangle from the sides of a block. One definition covers all intra
 //!   modes, `predicted` (`specs/Predicted.antt`). All other samples are unchanged. One equation says both: `samples.new
 //!   ≡ paint stride area f samples.old`.
-//! - So do the predictors of one kind, each by its own definition: `pred_v_to`, `pred_h_to`, `pred_paeth_to`,
+//! - The predictors of one kind do the same, each by its own definition: `pred_v_to`, `pred_h_to`, `pred_paeth_to`,
 //!   `pred_smooth_to`, `pred_smooth_v_to`, `pred_smooth_h_to`, `pred_directional_to` and `pred_cfl_to`. DC prediction
 //!   is `fill_block` with `mean_of` two sides, `side_mean` of one side, or `half_sample` without sides.
 //! - `angle_or_alpha` and `alpha_of` give the angle of a mode and its parameter, and the weight of luma.

@@ -1,4 +1,4 @@
-//! The luma over each chroma sample, less its mean: what chroma from luma adds to a block.
+//! Computes how far the luma over each chroma sample is from its mean: reads a luma region, writes `ac`.
 //!
 //! AV1 specification: predict chroma from luma process.
 

@@ -1,4 +1,4 @@
-//! What the edge filter reads of the neighbours of a block: whether one has a smooth mode.
+//! Finds whether a neighbour of a block has a smooth mode, for the edge filter. Reads only modes and references.
 //!
 //! AV1 specification: intra filter type process.
 

@@ -1,4 +1,4 @@
-//! Paeth prediction: each sample is the nearest of its three neighbours.
+//! Paeth prediction: each sample becomes the nearest of its three neighbours. Writes only the rectangle.
 //!
 //! AV1 specification: basic intra prediction process.
 

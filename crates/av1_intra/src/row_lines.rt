@@ -1,6 +1,6 @@
-//! Samples of a row that are computed before the first of them is written.
+//! Writes an array of samples into a row, after all of them are computed. Writes nothing else.
 //!
-//! They are held in an array of their own. So no sample that is read can be one that is written, and a compiler
+//! The samples are in an array of their own. So no sample that is read can be one that is written, and a compiler
 //! computes all of them at the same time.
 
 ghost use Rattle.std.specs.Prelude.{◌≡◌, ℕ, ◌+◌, ◌<◌, ◌≤◌, length, List, slice_index_or};

@@ -1,4 +1,4 @@
-//! Reads a sample as a number.
+//! Reads a sample of a slice as a number. Writes nothing.
 
 ghost use Rattle.std.specs.Prelude.{◌≡◌, ◌^◌, ◌<◌, length};
 ghost use Rattle.av1_intra.specs.Sides.{numbers};

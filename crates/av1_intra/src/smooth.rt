@@ -1,4 +1,4 @@
-//! Smooth prediction: each sample is a weighted mean of samples on the sides.
+//! Smooth prediction: each sample becomes a weighted mean of samples on the sides. Writes only the rectangle.
 //!
 //! AV1 specification: smooth intra prediction process.
 
@@ -62,7 +62,7 @@ fn mixed(weight: u8, a: u32, b: u32) -> u32
     weight * a + (256 - weight) * b
 }
 
-/// Returns the same for samples of one byte: it fits 16 bits.
+/// As `mixed`, for samples of one byte: the result fits 16 bits.
 #[inline(always)]
 #[tactic(auto, using(crate::proofs::Mixes::mix_within))]
 fn mixed_bytes(weight: u8, a: u16, b: u16) -> u16
@@ -90,7 +90,7 @@ fn mean_of_two<T: Pixel>(weight: u8, a: u32, b: u32) -> T
     }
 }
 
-/// Returns the rounded mean of two such means.
+/// Returns the mean of two such means, one down and one across, rounded once.
 #[inline(always)]
 fn mean_of_four<T: Pixel>(down: u8, above: u32, bottom: u32, across: u8, side: u32, right: u32) -> T
     requires above { above < 2 ^ T.BITS }

@@ -1,4 +1,4 @@
-//! Prediction straight down and across: a row or a column of samples is copied over the block.
+//! Predicts straight down or across: copies one side over the rectangle of a slice, and writes nothing else.
 //!
 //! AV1 specification: directional intra prediction process, for the angles 90 and 180.
 

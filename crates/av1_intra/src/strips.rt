@@ -1,4 +1,4 @@
-//! Directional prediction past 90 degrees, in strips of eight rows of a block.
+//! Directional prediction past 90 degrees, in strips of eight rows: reads the sides, writes only the rectangle.
 //!
 //! All samples of a column lie equally far between two entries of the left side. So a strip is computed column by
 //! column, eight numbers at a time, and its rows are written afterwards. Between 90 and 180 degrees, samples from the

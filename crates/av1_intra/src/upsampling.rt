@@ -1,4 +1,4 @@
-//! Upsampling: a side gets a new sample between each two, before it is interpolated.
+//! Upsampling: decides whether a side needs it, and puts a new sample between each two of the side, in place.
 
 ghost use Rattle.std.specs.Prelude.{◌≡◌, ℕ, ◌+◌, ◌-◌, ◌*◌, ◌/◌, ◌^◌, ◌<◌, ◌≤◌, length, unsigned_abs, pos};
 ghost use Rattle.av1_frame.specs.Arithmetic.{clip};
@@ -116,7 +116,7 @@ fn put_sixteen(numbers: &mut [u16], place: usize, values: [u16; 16])
     }
 }
 
-/// Puts the 16 numbers into a side that become of its entries from `e` on, and of the numbers halfway before the next.
+/// Moves the entries `e + 1` to `e + 8` of a side to twice their places, and puts the number halfway before each.
 #[inline(always)]
 fn put_doubled(numbers: &mut [u16; 257], e: usize, bit_depth: usize)
     requires few { e ≤ 56 }

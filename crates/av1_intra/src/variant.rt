@@ -1,4 +1,4 @@
-//! The sides of a block that lie in its tile.
+//! Which sides of a block lie in its tile: an enum, and its variant for a position. Pure.
 
 ghost use Rattle.std.specs.Prelude.{◌≡◌};
 ghost use Rattle.av1_intra.specs.Predicted.{variant_at};

@@ -1,4 +1,4 @@
-//! Residuals that are added to samples, one in each lane of a word: eight at a time, or four if a row has no more.
+//! Adds residuals to the samples of a rectangle and clips them, in place: eight at a time, or four in narrow rows.
 //!
 //! A word is in registers before the first sample is written, so that a compiler can treat all its lanes at the same
 //! time.

@@ -1,4 +1,4 @@
-//! The inverse asymmetric sine transforms.
+//! The inverse asymmetric sine transforms of 4, 8 and 16 values: they read `input`, write `output`, allocate nothing.
 
 ghost use Rattle.std.specs.Prelude.{◌≡◌, ℕ, ◌+◌, ◌-◌, ◌*◌, ◌/◌, ◌^◌, ◌<◌, ◌≤◌, pos, length, reverse, take, drop, slice_index_or};
 ghost use Rattle.std.specs.List.{All};

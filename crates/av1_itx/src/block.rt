@@ -1,4 +1,4 @@
-//! A block, as the passes take it.
+//! Describes a block to the passes: the size and type of its transform, the rule, and the depth. Only a type.
 
 use av1_blocks::{TxSize, TxType};
 

@@ -1,4 +1,4 @@
-//! The second pass: an inverse transform down each column.
+//! The second pass: transforms each column of a block in place, in its buffer, and counts groups of eight columns.
 
 ghost use Rattle.std.specs.Prelude.{◌≡◌, ◌*◌, ◌/◌, ◌<◌, ◌≤◌};
 ghost use Rattle.av1_blocks.specs.Transforms.{tx_height, tx_width};

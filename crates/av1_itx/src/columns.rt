@@ -1,5 +1,5 @@
-//! Columns of a block, one in each lane, transformed in place side by side: eight at a time, or four if there are no
-//! more.
+//! Transforms columns of a buffer in place, one in each lane: eight at a time, or four if there are no more.
+//! Arrays on the stack hold a group of columns while it is transformed. Nothing allocates.
 
 ghost use Rattle.std.specs.Prelude.{◌≡◌, ℕ, ◌+◌, ◌-◌, ◌*◌, ◌/◌, ◌<◌, ◌≤◌, nat_le, nat_lt, ◌&&◌, if◌then◌else◌, pos, length, ◌==◌};
 ghost use Rattle.av1_dct.specs.Arithmetic.{at, clamp_value, FitsBits};
@@ -61,7 +61,7 @@ fn scatter_words<W: BlockWord>(buffer: &mut [i32], line: &[W], c: usize, w: usiz
     }
 }
 
-/// Columns, one in each lane, transformed in place by any kind. `count` counts the groups of eight that take the cosine
+/// Transforms columns in place by any kind, one in each lane. `count` counts the groups of eight that take the cosine
 /// transform.
 #[inline(always)]
 #[tactic(auto, using(crate::proofs::Eights::group_within))]
@@ -149,7 +149,7 @@ fn fill_single<W: BlockWord>(line: &mut [W], top: i32)
     }
 }
 
-/// The number of columns that are transformed at a time.
+/// The number of columns that are transformed at a time, if the buffer has as many.
 pub(crate) const LANES: usize = 8;
 
 /// Whether a kind is the cosine transform.
@@ -159,14 +159,14 @@ pub(crate) fn is_cosine(kind: TxType1D) -> bool
     matches!(kind, TxType1D::DCT)
 }
 
-// An array of equal items. A proof covers an array of vectors only where a call has made it.
+// An array of equal items. A proof covers an array of vectors only if a call made it.
 #[inline(always)]
 pub(crate) fn filled<T: Copy, const N: usize>(item: T) -> [T; N] {
     [item; N]
 }
 
-// Columns of N = 2^(K+1) rows, one in each lane, over lines of their own. Both numbers are constants of each instance,
-// so that the compiler knows all positions of a transform as numbers.
+// Transforms columns of N = 2^(K+1) rows, one in each lane. Both numbers are constants of each instance, so that the
+// compiler knows all positions of a transform as numbers.
 #[inline(always)]
 pub(crate) fn words_of<W: BlockWord, const K: usize, const N: usize>(
     buffer: &mut [i32],
@@ -192,7 +192,7 @@ pub(crate) fn words_of<W: BlockWord, const K: usize, const N: usize>(
     run_words(buffer, &mut line, &mut transformed, count, known);
 }
 
-// Columns, as many at a time as a word has lanes, each height by a function of its own.
+// Transforms columns, as many at a time as a word has lanes, each height by a function of its own.
 fn word_columns<W: BlockWord>(buffer: &mut [i32], count: &mut LaneCount, columns: &Columns)
     requires some { 0 < W.LANES }
     requires small { IsSmallWord W.row }

@@ -1,4 +1,4 @@
-//! The inverse identity transforms.
+//! The inverse identity transforms of 4 to 32 values: they read `input`, write it scaled to `output`.
 
 ghost use Rattle.std.specs.Prelude.{◌≡◌, ℕ, ◌*◌, ◌^◌, ◌<◌, ◌≤◌, pos, ◌+ℤ◌, ◌*ℤ◌, length, take, drop};
 ghost use Rattle.std.specs.Int.{int_shr};

@@ -1,4 +1,4 @@
-//! The inverse transform of a block, added to its samples.
+//! Adds a block's residual, the inverse transform of its coefficients, to its samples. Allocates only a `TxScratch`.
 
 ghost use Rattle.std.specs.Prelude.{◌≡◌, ℕ, ◌+◌, ◌-◌, ◌*◌, ◌/◌, ◌<◌, ◌≤◌, ◌⊎◌, IfOk, IsTrue, OnOk, OnErr, false, ℤ, pos, ◌+ℤ◌, length, map, vec_len};
 ghost use Rattle.av1_blocks.specs.declared.transform.TxSize.TheVariants.{TX_4X4};
@@ -42,7 +42,7 @@ pub struct TxScratch {
 }
 
 impl TxScratch {
-    /// Allocates buffers for every size up to 64x64. The only error is running out of memory.
+    /// Allocates a buffer that fits every size up to 64x64. The only error is running out of memory.
     pub fn new(alloc: Global) -> Result<TxScratch, OutOfMemory>
         ensures groups { IfOk result (λ scratch. scratch.count.groups ≡ 0) }
         ensures rule { IfOk result (λ scratch. scratch.by_av1 ≡ false) }
@@ -72,7 +72,7 @@ pub struct TxRoom {
 }
 
 impl TxRoom {
-    /// Buffers for every size up to 64x64.
+    /// A buffer that fits every size up to 64x64.
     pub fn new() -> TxRoom {
         TxRoom { values: [0; 6144] }
     }
@@ -163,8 +163,8 @@ fn add_block<T: Pixel>(
     add_all(samples, place.stride, place.area, buffer, shift, block.bd);
 }
 
-// The same for rows of M = 2^(I+1) values and columns of N = 2^(K+1), of which words R and W take as many as they have
-// lanes.
+// The same for rows of M = 2^(I+1) values and columns of N = 2^(K+1) values. Words R hold rows, and words W columns, as
+// many as they have lanes.
 #[inline(always)]
 fn add_shaped<
     T: Pixel,
@@ -363,7 +363,7 @@ pub fn inverse_transform_add_to<T: Pixel>(
     );
 }
 
-/// As `inverse_transform_add_to`, over buffers of any owner, such as C, by the rule that `block` names. The count of
+/// As `inverse_transform_add_to`, over a buffer of any owner, such as C, by the rule that `block` names. The count of
 /// groups is not kept.
 pub fn inverse_transform_add_in<T: Pixel>(
     room: &mut TxRoom,

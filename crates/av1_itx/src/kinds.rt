@@ -1,4 +1,4 @@
-//! The one-dimensional transforms of a type.
+//! The kinds of one-dimensional transforms, and the kinds along rows and columns of each type. Pure functions.
 
 ghost use Rattle.std.specs.Prelude.{◌≡◌, if◌then◌else◌};
 ghost use Rattle.av1_itx.specs.Kinds.{column_kind, row_kind, row_kind_by};

@@ -59,7 +59,7 @@ pub fn networks_never_wrap()
 
 /// At depths up to 10 no identity along rows wraps. So each residual that isn't lossless is the same by rav1e's rule
 /// and by AV1's. A lossless residual is the same if its coefficients have no more than 17 bits: rav1e's clamp between
-/// the passes then has no effect. At depth 8 all coefficients are so small.
+/// the passes then has no effect. At depth 8 no coefficient has more.
 pub fn shallow_identities_never_wrap()
     ensures identities { (by_av1 : Bool) (size : TxSize) (type : TxType) (depth : ℕ) (coefficients : List ℤ) (r c : ℕ) → depth ≤ 10 → type ≢ WHT_WHT →
         residue_by by_av1 size type depth coefficients r c ≡ residue size type depth coefficients r c }
@@ -67,9 +67,9 @@ pub fn shallow_identities_never_wrap()
         residue_by by_av1 TX_4X4 WHT_WHT depth coefficients r c ≡ residue TX_4X4 WHT_WHT depth coefficients r c }
 {}
 
-/// At depths up to 12 the transforms of the columns have such inputs and such a range, whatever the rows gave. In
-/// lossless blocks AV1 does not clamp the results of the rows. They have 20 bits there, and the lossless transform
-/// needs no more.
+/// At depths up to 12 the columns' inputs and range have at most 18 bits, whatever the rows gave. In lossless
+/// blocks AV1 does not clamp the results of the rows. These have at most 20 bits, and the lossless transform needs no
+/// more.
 pub fn columns_never_wrap()
     ensures range { (depth : ℕ) → depth ≤ 12 → column_range depth ≤ 18 }
     ensures inputs { (by_av1 : Bool) (size : TxSize) (type : TxType) (depth : ℕ) (f : ℕ → ℤ) → depth ≤ 12 → (by_av1 && is_lossless type) ≡ false →

@@ -1,5 +1,5 @@
-//! Inverse transforms of blocks, bit for bit as in the AV1 specification: from the coefficients of a block to the
-//! residual that is added to its samples.
+//! Inverse transforms of blocks: they read coefficients, and add the residual to samples of a slice or a region.
+//! By AV1's rule, which `by_av1` chooses, the residual is the AV1 specification's. By the other rule it is rav1e's.
 //!
 //! The crate takes lists by index from `av1_lists`, the sizes and types of transforms from `av1_blocks`, the inverse
 //! cosine transforms and all arithmetic from `av1_dct`, and samples and regions from `av1_frame`. Its promises:
@@ -7,8 +7,8 @@
 //! - `inverse_transform_add_to` adds `residue_by` of `specs/Residue.antt` to each sample of a rectangle of a slice, and
 //!   clips to the depth. All other samples are unchanged. The rule is rav1e's, unless `by_av1` of the scratch is set.
 //!   `inverse_transform_add_with` does the same in a region. Both run over a `TxScratch` that is allocated once; they
-//!   do not allocate and always succeed. `inverse_transform_add_in` runs over a `TxRoom`, a plain struct of arrays that
-//!   C may also own. `inverse_transform_add` allocates its own scratch; if memory runs out, it changes nothing.
+//!   do not allocate and always succeed. `inverse_transform_add_in` runs over a `TxRoom`, a plain struct of one array
+//!   that C may also own. `inverse_transform_add` allocates its own scratch; if memory runs out, it changes nothing.
 //! - Rows and columns are transformed in the same way: eight at a time, or four if there are no more. Eight cosine
 //!   transforms go through `cosine_lanes`. A `TxScratch` counts the groups of columns (`TxScratch::lane_groups`); each
 //!   call raises the count by `lane_groups` of `specs/LaneGroups.antt`.
@@ -20,7 +20,7 @@
 //!   rest of `output` is unchanged.
 //! - The laws, functions that do nothing: zeros have no residual and are not changed by any transform. A flipped
 //!   transform is the plain one reversed. The Walsh-Hadamard transform is lossless. Every valid type has its two
-//!   transforms. Nothing wraps at 32 bits if inputs and range have 18 bits; those of the columns have, wherever they
+//!   transforms. Nothing wraps at 32 bits if inputs and range have 18 bits. Inputs of columns have no more, if they
 //!   are clamped. At depths up to 10 no identity wraps.
 //!
 //! A block has a size of `TxSize`: `w` columns by `h` rows of samples. Its coefficients are stored column by column, at

@@ -1,4 +1,4 @@
-//! The one-dimensional inverse transforms, by their kind.
+//! Runs the one-dimensional inverse transform of any kind, from `input` to `output`, and counts cosine transforms.
 
 ghost use Rattle.std.specs.Prelude.{◌≡◌, ℕ, ◌*◌, ◌^◌, ◌<◌, ◌≤◌, length};
 ghost use Rattle.std.specs.List.{All};

@@ -1,8 +1,8 @@
-//! The first pass: an inverse transform along each row of coefficients.
+//! The first pass: reads a block's coefficients, transforms each row, and writes the results to the block's buffer.
 //!
-//! Coefficients are stored column by column, so that neighbours belong to different rows. A word of them has a
-//! coefficient in each lane for as many rows. These rows are transformed side by side, and written to the block row by
-//! row.
+//! Coefficients are stored column by column, so neighbours belong to different rows. A word has a coefficient of one
+//! row in each lane. These rows are transformed side by side, and written to the buffer row by row. Nothing allocates.
+//! The columns are transformed afterwards (`column_pass`).
 
 ghost use Rattle.std.specs.Prelude.{◌≡◌, true, ℕ, ◌+◌, ◌*◌, ◌/◌, ◌<◌, ◌≤◌, ◌==◌, if◌then◌else◌, pos, ◌*ℤ◌, length, map, ◌⊎◌};
 ghost use Rattle.std.specs.Int.{int_shr};
@@ -279,7 +279,7 @@ fn write_rows<W: BlockWord>(line: &[W], part: &mut [i32], shift: usize, range: u
     }
 }
 
-// The rows from r on, one in each lane, written to their part of the block. Rows of zeros are not transformed.
+// Transforms the rows from r on, one in each lane, and writes them to `part`. Rows of zeros are not transformed.
 #[inline(always)]
 fn run_group<C: Coefficient, W: BlockWord, const K: usize>(
     input: &[C],
@@ -363,7 +363,7 @@ pub(crate) fn rows_of<C: Coefficient, W: BlockWord, const K: usize, const N: usi
     clear(&mut buffer[rows * N..]);
 }
 
-// All rows, each length by code of its own.
+// Transforms all rows, each length by code of its own.
 fn rows_by_width<C: Coefficient, W: BlockWord>(input: &[C], buffer: &mut [i32], block: Block)
     requires lanes { (W.LANES ≡ 4) ⊎ (W.LANES ≡ 8) }
     requires small { IsSmallWord W.row }

@@ -1,4 +1,4 @@
-//! Shifts of arrays of values.
+//! Shifts the values of an array in place: to the right with rounding, or to the left, where bits past 32 are lost.
 
 ghost use Rattle.std.specs.Prelude.{◌≡◌, ◌++◌, ◌*◌, ◌/◌, ◌^◌, ◌<◌, ◌≤◌, ℤ, pos, negsuc, ◌+ℤ◌, ◌*ℤ◌, ◌≤ℤ◌, ◌<ℤ◌, map, take, drop};
 ghost use Rattle.std.specs.List.{All};

@@ -1,4 +1,4 @@
-//! Blocks that take the cosine transform both ways and have only their first coefficient.
+//! Finds blocks with two cosine transforms and only the first coefficient, and gives their columns' first input. Pure.
 
 ghost use Rattle.std.specs.Prelude.{◌≡◌, true, ℕ, ◌+◌, ◌<◌, ◌≤◌, pos, map};
 ghost use Rattle.av1_dct.specs.Arithmetic.{at, clamp_value, FitsBits};
@@ -27,7 +27,7 @@ fn ends_at_first<C: Coefficient>(input: &[C]) -> bool
     true
 }
 
-/// Whether a block of this type is such a block.
+/// Whether a block takes the cosine transform both ways and has only its first coefficient.
 pub(crate) fn is_single<C: Coefficient>(input: &[C], tx_type: TxType) -> bool
     ensures { result ≡ true → IsSingleBlock C.val tx_type input.now }
 {

@@ -1,4 +1,4 @@
-//! The inverse Walsh-Hadamard transform.
+//! The inverse Walsh-Hadamard transform of 4 values: reads `input`, writes `output`, allocates nothing.
 
 ghost use Rattle.std.specs.Prelude.{◌≡◌, ℕ, ◌<◌, ◌≤◌, length, take, drop};
 ghost use Rattle.std.specs.List.{All};

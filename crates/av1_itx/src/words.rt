@@ -1,4 +1,4 @@
-//! The operations of words that the passes need, in addition to those of every word.
+//! Operations on words that the passes need in addition to `Word`: reading, writing, halving, rounding, multiplying.
 
 ghost use Rattle.std.specs.Prelude.{◌≡◌, true, ℕ, ◌+◌, ◌-◌, ◌*◌, ◌^◌, ◌<◌, ◌≤◌, nat_le, nat_lt, ◌&&◌, if◌then◌else◌, pos, length, take, ◌+ℤ◌, ◌*ℤ◌};
 ghost use Rattle.std.specs.List.{All};

@@ -1,9 +1,9 @@
-//! Lists that are defined by the item at each position: f 0, f 1 and so on.
+//! Lists defined by the item at each position (`by_index`), and their lemmas. Only for proofs: no code runs.
 //!
-//! The crate needs only the standard library and has no code to run. To the crates above it gives `by_index`
-//! (`specs/Lists.antt`) and its lemmas (`proofs/Lists.antt`), lemmas on runs of numbers (`proofs/Ranges.antt`), and a
+//! The crate needs only the standard library. It gives the crates above `by_index` (`specs/Lists.antt`): the list of
+//! f 0, f 1 and so on. It has lemmas on them (`proofs/Lists.antt`) and on runs of numbers (`proofs/Ranges.antt`), and a
 //! test of all numbers below a bound (`proofs/Below.antt`). It also defines counts that stay at the last value of a
-//! `u64` (`specs/Counts.antt`), and the sides of transforms (`specs/Sides.antt`).
+//! `u64` (`specs/Counts.antt`), and the widths and heights that transforms may have (`specs/Sides.antt`).
 #![tactic(auto)]
 
 ghost use Rattle.std.specs.Prelude.{◌≡◌, ℕ, ◌<◌, length, slice_index};

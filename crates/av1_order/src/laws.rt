@@ -11,8 +11,8 @@ ghost use Rattle.av1_order.specs.Neighbours.{AreasAreCells, AreasTile, LastCells
 ghost use Rattle.av1_order.specs.ChromaFromLuma.{LumaIsWritten};
 ghost use Rattle.av1_order.specs.WholeAreas.{InterIsWhole, ResiduesFindSamples};
 
-/// The sides of each leaf are 1, 2, 4, 8 or 16 cells of 4 luma samples, and it lies at multiples of its sides. It
-/// begins in the frame, and ends within the frame's superblocks of 16 cells.
+/// The width and the height of each leaf are 1, 2, 4, 8 or 16 cells of 4x4 luma samples, and the leaf lies at multiples
+/// of them. It begins in the frame, and ends within the frame's superblocks of 16x16 cells.
 pub fn leaves_lie_on_their_grid()
     ensures { LeavesLieOnGrid }
 {}
@@ -40,17 +40,17 @@ pub fn planes_are_written()
     ensures { PlanesAreWritten }
 {}
 
-/// What coding order says for `has_top_right` and `has_bottom_left` of `av1_avail` is whether the samples above right
-/// of a step, and below left of it, are visible and written. The calls name the sizes of the step and the cell of its
+/// For `has_top_right` and `has_bottom_left` of `av1_avail`, coding order says whether the samples above right of a
+/// step, and below left of it, are visible and written. The calls are given the sizes of the step and the cell of its
 /// leaf.
 pub fn availability_matches_order()
     ensures asked { EdgesAsAsked }
     ensures answered { CallsAnswerOrder }
 {}
 
-/// Wherever the list of a plane's steps is cut at one of them, the earlier steps have written the samples of the
-/// visible plane round it that follow from its position. With the sizes of the step and the cell of its leaf, the
-/// tables say whether the samples above right of it, and below left of it, are visible and written.
+/// Before each step of a plane, the earlier steps have written the samples of the visible plane round it that follow
+/// from its position. With the sizes of the step and the cell of its leaf, the tables say whether the samples above
+/// right of it, and below left of it, are visible and written.
 pub fn cuts_are_told()
     ensures { CutsAreTold }
 {}
@@ -69,8 +69,8 @@ pub fn plans_are_frames()
 /// At each transform block of a valid plan, in each plane of every sampling, the availability calls say whether the
 /// first sample past the block is visible and written. If they say yes, all visible samples of the run past the block
 /// are written, and else none. The visible samples above, left and at the corner are written. So each sample at the two
-/// sides, as far as a mode may reach, is written exactly if it lies in the frame, and before the block's end or the
-/// answer is yes. Other leaves may be inter.
+/// sides, as far as a mode may reach, is written exactly if it lies in the frame and either lies before the block's end
+/// or the answer is yes. Other leaves may be inter.
 pub fn edges_are_answered()
     ensures edges { EdgesAreAnswered }
     ensures sides { SidesAreAnswered }

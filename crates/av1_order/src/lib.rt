@@ -1,8 +1,8 @@
-//! Coding order: position alone decides what is written of a plane before a rectangle of it is predicted.
+//! Laws of coding order: which samples of a plane are written before a rectangle follows from its position. No code.
 //!
 //! An intra prediction reads the samples round its rectangle that are already written. An encoder keeps no record of
 //! them: it computes them from positions. This crate is the theory that allows it, for every partition of every frame,
-//! in planes of every sampling. It has no code, only laws, each stated in `specs/` and ensured by a function that does
+//! in planes of every sampling. Each law is stated in `specs/`, and is the contract of a function in `laws` that does
 //! nothing. It takes the order of cells from `av1_avail`, and leaves from `av1_plan`. Its promises to the walk above
 //! it:
 //!
@@ -13,7 +13,7 @@
 //! - `has_top_right` and `has_bottom_left` of `av1_avail` return whether those runs are written (`specs/Asked.antt`).
 //! - The steps of a plan's leaves are their transform blocks, and each plane of a valid plan is such a plane
 //!   (`specs/Plans.antt`).
-//! - Wherever the steps are cut, and at each transform block of a plan, the tables, called as `av1_edges` calls them,
+//! - Before each step, and at each transform block of a plan, the tables, called as `av1_edges` calls them,
 //!   say what is visible and written past it (`specs/Tabled.antt`, `specs/Turns.antt`).
 //! - The leaf whose area holds a sample is found from a record for each luma cell (`specs/Neighbours.antt`).
 //! - The luma that chroma from luma reads is written (`specs/ChromaFromLuma.antt`). Inter leaves are predicted whole,

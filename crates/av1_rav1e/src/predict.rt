@@ -1,4 +1,4 @@
-//! Prediction of a block of a region by its intra mode, from the edge round it.
+//! Predicts a block of a region by its intra mode: reads the edge round it, and writes only the block.
 //!
 //! AV1 specification: intra prediction process.
 

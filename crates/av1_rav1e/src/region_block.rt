@@ -1,4 +1,4 @@
-//! The block at the first sample of a region, as its prediction reads it.
+//! Describes the block at the first sample of a region to its prediction. Reads no samples and writes nothing.
 
 ghost use Rattle.std.specs.Prelude.{◌≡◌, ℕ, ◌+◌, ◌-◌, ◌^◌, ◌<◌, pos, ◌-ℤ◌, FitsSigned};
 ghost use Rattle.std.specs.Int.{w64};

@@ -1,5 +1,5 @@
-//! The predictors of one kind each, under the module's name in rav1e: its plain functions, next to those for single
-//! processors.
+//! The predictors of one kind each, under rav1e's names: each reads sides, and writes a block of a region.
+//! In rav1e, the module `rust` has the plain functions, and other modules have functions for single processors.
 //!
 //! Each predicts the samples of the first `height` rows and `width` columns of its region `output`. All others are
 //! unchanged. `above` runs from the left: its first sample is above the first column. `left` runs from the bottom up:
@@ -147,8 +147,8 @@ pub fn pred_smooth_v<T: Pixel>(
     pred_smooth_v_to(output.rows_mut(), stride, area, above, left);
 }
 
-/// Each sample is predicted along the angle `p_angle`, in degrees. A directional mode and an angle step from -3 to 3
-/// give the angle (90 and 180, which copy a side, are left out), or `dr_intra_derivative` knows it.
+/// Predicts each sample along the angle `p_angle`, in degrees. It is an angle that a directional mode and an angle step
+/// from -3 to 3 give, except 90 and 180, which copy a side, or an angle that `dr_intra_derivative` knows.
 ///
 /// A sample is taken from the point where its line meets a side: below 90 degrees the side `above`, past 180 the side
 /// `left`, and between them the side that it meets first. The line meets the side between two samples. The prediction

@@ -1,4 +1,4 @@
-//! The luma that the chroma of a leaf uses in a tile.
+//! Computes how far luma is from its mean for the chroma of a leaf: reads the luma of a tile, writes `ac`.
 
 ghost use Rattle.std.specs.Prelude.{◌≡◌, ℕ, ◌+◌, ◌*◌, ◌^◌, ◌-◌, ◌<◌, ◌≤◌, min, length, take, drop, IsTrue};
 ghost use Rattle.std.specs.Borrow.{sem};

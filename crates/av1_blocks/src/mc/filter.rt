@@ -1,4 +1,4 @@
-//! The numbers of filter modes, and the sums of the filters.
+//! Converts filter modes to their numbers and back, and proves that each filter's weights sum to 128.
 #![tactic(auto)]
 
 ghost use Rattle.std.specs.Prelude.{◌≡◌, length, slice_get, All, Some};

@@ -1,4 +1,4 @@
-//! The arithmetic of motion vectors, component by component.
+//! The arithmetic of motion vectors, as pure functions: whole samples, valid range, sum, products, shifts.
 #![tactic(auto)]
 
 ghost use Rattle.std.specs.Prelude.{◌≡◌, ◌<◌, ◌≤◌, ◌^◌, ◌↔◌, pos, int_rem, nat_abs, IsTrue};
@@ -72,7 +72,7 @@ fn is_valid_component(component: i16) -> bool
     MV_LOW < component as i32 && (component as i32) < MV_UPP
 }
 
-/// Both components are multiplied; the products have to fit 16 bits.
+/// Multiplies both components. The products have to fit 16 bits.
 impl Mul<i16> for MotionVector {
     type Output = MotionVector;
 
@@ -89,7 +89,7 @@ impl Mul<i16> for MotionVector {
     }
 }
 
-/// Both components are multiplied; the factor and the products have to fit 16 bits with a sign.
+/// Multiplies both components. The factor and the products have to fit 16 bits with a sign.
 impl Mul<u16> for MotionVector {
     type Output = MotionVector;
 
@@ -103,7 +103,7 @@ impl Mul<u16> for MotionVector {
     }
 }
 
-/// Both components are shifted to the right by less than 16 bits, and rounded down.
+/// Shifts both components to the right by less than 16 bits, and rounds down.
 impl Shr<u8> for MotionVector {
     type Output = MotionVector;
 
@@ -120,7 +120,7 @@ impl Shr<u8> for MotionVector {
     }
 }
 
-/// Both components are shifted to the left by less than 16 bits; the results have to fit 16 bits.
+/// Shifts both components to the left by less than 16 bits. The results have to fit 16 bits.
 impl Shl<u8> for MotionVector {
     type Output = MotionVector;
 
@@ -137,7 +137,7 @@ impl Shl<u8> for MotionVector {
     }
 }
 
-/// The vectors are added; the sums have to fit 16 bits.
+/// Adds the vectors. The sums have to fit 16 bits.
 impl Add<MotionVector> for MotionVector {
     type Output = MotionVector;
 

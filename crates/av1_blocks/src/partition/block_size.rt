@@ -1,4 +1,4 @@
-//! The sides of blocks, their order and their names.
+//! Block sizes as pure functions: number, width, height, area, order, name, and the size of given dimensions.
 #![tactic(auto)]
 
 ghost use Rattle.std.specs.Prelude.{◌≡◌, ◌≢◌, ◌↔◌, ◌⊎◌, ◌*◌, ◌/◌, ◌-◌, ◌^◌, ◌≤◌, max, length, slice_get, IfOk, Some, None, Ok};
@@ -46,11 +46,11 @@ impl BlockSize {
         self as u8
     }
 
-    /// The size with these sides in luma samples.
+    /// The size with this width and height in luma samples.
     ///
     /// # Errors
     ///
-    /// `InvalidBlockSize` exactly if no block has these sides.
+    /// `InvalidBlockSize` exactly if no block has them.
     #[inline]
     pub fn from_width_and_height_opt(w: usize, h: usize) -> Result<BlockSize, InvalidBlockSize>
         ensures sides { IfOk result (λ b. (block_width b ≡ w) × (block_height b ≡ h)) }
@@ -83,7 +83,7 @@ impl BlockSize {
         }
     }
 
-    /// The size with these sides in luma samples; some block has them.
+    /// The size with this width and height in luma samples. Some block has to have them.
     pub fn from_width_and_height(w: usize, h: usize) -> BlockSize
         requires { HasBlockSides w h }
         ensures width { block_width result ≡ w }
@@ -272,8 +272,8 @@ pub fn block_size_counts()
     ensures near_square { BlockSize.BLOCK_SIZES ≡ 16 }
 {}
 
-/// The order of two sizes. They are equal exactly if they are the same. One is less exactly if none of its sides is
-/// greater and they aren't the same. They have no order exactly if one side is greater and the other less.
+/// The order of two sizes. They are equal exactly if they are the same. One is less exactly if neither its width nor
+/// its height is greater and they aren't the same. They have no order exactly if one is wider and the other higher.
 pub fn sizes_compare_by_sides(a: BlockSize, b: BlockSize)
     ensures equal { (product_cmp a b ≡ Some Equal) ↔ (a ≡ b) }
     ensures less { (product_cmp a b ≡ Some Less) ↔ (IsNoGreater a b × (a ≢ b)) }
@@ -284,7 +284,7 @@ pub fn sizes_compare_by_sides(a: BlockSize, b: BlockSize)
 /// The logarithm to base 2 of the side of the squares in which importance is counted, in luma samples.
 const IMP_B_LOG2: usize = 3;
 
-/// The product order: a block is less if none of its sides is greater and one is less.
+/// The product order: a block is less if neither its width nor its height is greater, and one of them is less.
 impl PartialOrd for BlockSize {
     ghost use Rattle.av1_blocks.specs.BlockOrder.{product_order};
 

@@ -1,4 +1,4 @@
-//! The block of a decimated plane, and its transform.
+//! Maps a luma block size to its chroma block, its chroma transform, and the luma block its chroma belongs to. Pure.
 #![tactic(auto)]
 
 ghost use Rattle.std.specs.Prelude.{◌≡◌, ◌≤◌, pos, negsuc, ◌||◌, IfOk, IsOk, if◌then◌else◌};
@@ -18,8 +18,8 @@ use crate::partition::InvalidBlockSize;
 use crate::transform::{TxSize, coded_tx_size};
 
 impl BlockSize {
-    /// The block of a plane of these decimations that lies under this luma block, in samples of the
-    /// plane: the function `Subsampled_Size` of the AV1 specification.
+    /// The block under this luma block in a plane with these decimations, in samples of that plane. It is the function
+    /// `Subsampled_Size` of the AV1 specification.
     ///
     /// # Errors
     ///
@@ -38,7 +38,7 @@ impl BlockSize {
         }
     }
 
-    /// The block with half the columns and as many rows.
+    /// The block with half of the columns, at least 4, and the same number of rows.
     #[inline]
     fn with_half_the_columns(self) -> Result<BlockSize, InvalidBlockSize>
         ensures { result ≡ halved_columns self }
@@ -61,7 +61,7 @@ impl BlockSize {
         })
     }
 
-    /// The block with half the columns and half the rows.
+    /// The block with half of the columns and half of the rows, each at least 4.
     #[inline]
     fn with_half_the_sides(self) -> BlockSize
         ensures { result ≡ halved self }
@@ -87,7 +87,7 @@ impl BlockSize {
         }
     }
 
-    /// The transform of the chroma under this luma block, as it is coded.
+    /// The coded size of the greatest transform of the chroma under this luma block, which has a chroma block.
     #[inline]
     pub fn largest_chroma_tx_size(self, xdec: usize, ydec: usize) -> TxSize
         requires { IsOk (subsampled_size self xdec ydec) }
@@ -105,8 +105,8 @@ impl BlockSize {
         xdec != 0 && self.width_log2() == 2 || ydec != 0 && self.height_log2() == 2
     }
 
-    /// In cells, how far to the right and down the block to which the chroma belongs begins: -1 in each direction in
-    /// which this block's own chroma has fewer than 4 samples, else 0.
+    /// The offset in cells, right and down, of the block to which the chroma belongs: -1 in each direction in which
+    /// this block's own chroma has fewer than 4 samples, else 0.
     #[inline]
     pub fn sub8x8_offset(self, xdec: usize, ydec: usize) -> (isize, isize)
         ensures across { result.0 ≡ (if is_narrow self xdec then negsuc 0 else pos 0) }
@@ -126,7 +126,7 @@ impl BlockSize {
     }
 }
 
-/// The luma block to which the chroma of this block belongs: at least 8 samples in each decimated direction. The
+/// The luma block to which the chroma of this block belongs. It has at least 8 samples in each decimated direction. The
 /// decimations are 0 or 1.
 pub fn supersample_chroma_bsize(bsize: BlockSize, ss_x: usize, ss_y: usize) -> BlockSize
     requires across { ss_x ≤ 1 }

@@ -1,4 +1,4 @@
-//! References.
+//! References as pure functions: number, index, and direction. Proves the values of the constants of references.
 #![tactic(auto)]
 
 ghost use Rattle.std.specs.Prelude.{◌≡◌, ◌≢◌, ◌+◌, nat_lt, nat_le, length, slice_get, Some};

@@ -1,4 +1,4 @@
-//! The parts into which a partition cuts a block.
+//! Maps a block size and a partition to the size of the parts, or to an error if no block has that size. Pure.
 #![tactic(auto)]
 
 ghost use Rattle.std.specs.Prelude.{◌≡◌, IfOk};
@@ -15,7 +15,7 @@ impl BlockSize {
     /// # Errors
     ///
     /// `InvalidBlockSize` for `PARTITION_INVALID`. Also for any partition other than `PARTITION_NONE` if the block
-    /// isn't square, or if the part would have sides that no block has.
+    /// isn't square, or if no block has the part's width and height.
     pub fn subsize(self, partition: PartitionType) -> Result<BlockSize, InvalidBlockSize>
         ensures value { result ≡ subsize self partition }
         ensures tiles { IfOk result (Tiles self partition) }

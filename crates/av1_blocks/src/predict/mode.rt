@@ -1,4 +1,4 @@
-//! The properties of prediction modes.
+//! The properties of prediction modes, as pure functions: number, angle, and whether intra, compound or directional.
 #![tactic(auto)]
 
 ghost use Rattle.std.specs.Prelude.{◌≡◌, pos, if◌then◌else◌, length, slice_get, Some};

@@ -1,4 +1,4 @@
-//! The sides of transforms.
+//! Transform sizes as pure functions: number, width, height, area, coded size, and the block of the same size.
 #![tactic(auto)]
 
 ghost use Rattle.std.specs.Prelude.{◌≡◌, ◌*◌, ◌/◌, ◌-◌, ◌+◌, ◌^◌, ◌≤◌, ◌==◌, ℤ, pos, ◌-ℤ◌, not, min, max, length, slice_get, Some};
@@ -150,7 +150,7 @@ impl TxSize {
         self.width().min(32) * self.height().min(32)
     }
 
-    /// The block with the same sides.
+    /// The block with the same width and height.
     #[inline]
     pub fn block_size(self) -> BlockSize
         ensures value { result ≡ tx_block_size self }
@@ -180,7 +180,7 @@ impl TxSize {
         }
     }
 
-    /// The square of the lesser side.
+    /// The square size of the smaller dimension.
     #[inline]
     pub fn sqr(self) -> TxSize
         ensures value { result ≡ tx_sqr self }
@@ -195,7 +195,7 @@ impl TxSize {
         }
     }
 
-    /// The square of the greater side.
+    /// The square size of the greater dimension.
     #[inline]
     pub fn sqr_up(self) -> TxSize
         ensures value { result ≡ tx_sqr_up self }
@@ -210,7 +210,7 @@ impl TxSize {
         }
     }
 
-    /// The size with these sides in samples; some transform has them.
+    /// The size with this width and height in samples. Some transform has to have them.
     #[inline]
     pub fn by_dims(w: usize, h: usize) -> TxSize
         requires { HasTxSides w h }
@@ -242,7 +242,7 @@ impl TxSize {
         }
     }
 
-    /// Whether the sides differ.
+    /// Whether width and height differ.
     #[inline]
     pub fn is_rect(self) -> bool
         ensures { result ≡ not (tx_width self == tx_height self) }

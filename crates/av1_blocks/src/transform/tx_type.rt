@@ -1,4 +1,4 @@
-//! The types of transforms, and the sizes at which they are used.
+//! Transform types as pure functions: number, the type of inter chroma, and which types a size allows.
 #![tactic(auto)]
 
 ghost use Rattle.std.specs.Prelude.{◌≡◌, pos, length, slice_get, Some};

@@ -1,4 +1,4 @@
-//! The predictors of chroma from luma, over regions as in `rust`.
+//! The predictors of chroma from luma, under rav1e's names: each reads `ac`, and writes a block of a region.
 //!
 //! `ac` holds the differences of luma from its mean row by row, `width` a row (see `pred_cfl_ac`), and `alpha` their
 //! weight; both are in eighths.
