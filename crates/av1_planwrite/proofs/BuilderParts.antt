@@ -1,5 +1,5 @@
 -- What a plan in the making asks for next.
-use Rattle.std.proofs.Common.{◌≡◌, ℕ, ◌≤◌, Bool, true, false, ◌&&◌, ◌||◌, if◌then◌else◌, List, Option, Some, None, Result, Ok, Err, refl, sym, ap, ◌∙◌, arith}
+use Rattle.std.proofs.Common.{◌≡◌, ℕ, ◌≤◌, Bool, true, false, ◌&&◌, ◌||◌, if◌then◌else◌, List, Option, Some, None, Result, Ok, Err, refl, subst, sym, ap, ◌∙◌, arith}
 use Rattle.std.specs.Prelude.{nat_le, IsSome, OnOk}
 use Rattle.std.specs.Int.{is_in_range}
 use Rattle.std.proofs.lemmas.Bool.{and_parts, leb-true}
@@ -11,6 +11,8 @@ use Rattle.av1_plan.specs.Grammar.{is_mark}
 use Rattle.av1_plan.specs.Remaining.{first_part}
 use Rattle.av1_planwrite.specs.declared.error.BuildError.{BuildError}
 use Rattle.av1_planwrite.specs.declared.error.BuildError.TheVariants.{Memory}
+use Rattle.av1_planwrite.specs.declared.builder.PlanBuilder.{PlanBuilder}
+use Rattle.av1_planwrite.specs.Builder.{TellsSome, built}
 use Rattle.av1_planwrite.specs.Building.{Building, admits_mark, asks_leaf, asks_reference, asked_part, settled}
 
 -- a leaf that is asked for is the first part
@@ -66,3 +68,7 @@ other_bytes a b bytes e = ap (λ (d : Building). (let f : Building = record { he
 pub written_well : {X : Type 0} (P : Type 0) (w : Result X OutOfMemory) (n : ℕ) (r : Result X BuildError) (x : X) → r ≡ Ok x → r ≡ settled w n → OnOk w P → P
 written_well P (Ok y) n r x e f p = p
 written_well P (Err y) n r x e f p = let dead : Ok x ≡ Err Memory = sym e ∙ f in absurd cc
+
+-- a builder whose bytes are as before still tells a part of a plan
+pub still : (b : PlanBuilder) {bytes : List ℕ} → bytes ≡ b.text.bytes.items → record { tells : ∥ TellsSome (built b.progress bytes) ∥₁ }
+still b same = record { tells = subst (λ (bytes : List ℕ). ∥ TellsSome (built b.progress bytes) ∥₁) (sym same) b.tells }

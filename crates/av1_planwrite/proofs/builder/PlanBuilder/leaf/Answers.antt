@@ -2,12 +2,12 @@ use Rattle.std.proofs.Common.{rules, ◌≡◌, ◌++◌, List, ℕ, true, sym, 
 use Rattle.std.specs.Prelude.{is_some}
 use Rattle.std.proofs.Math.Logic.{∥∥₁_map}
 use Rattle.av1_plan.specs.Plan.{PlanValue}
-use Rattle.av1_planwrite.specs.Builder.{built, TellsSome}
+use Rattle.av1_planwrite.specs.Builder.{built}
 use Rattle.av1_planwrite.specs.Held.{building}
 use Rattle.av1_planwrite.specs.Building.{Building, LeafFields, Tells, asked_part, plan_with_leaf, with_leaf}
 use Rattle.av1_planwrite.specs.Given.{FitsTriple}
 use Rattle.av1_planwrite.specs.Text.{fields_text}
-use Rattle.av1_planwrite.proofs.BuilderParts.{written_well}
+use Rattle.av1_planwrite.proofs.BuilderParts.{still, written_well}
 use Rattle.av1_planwrite.proofs.Telling.{leaf_tells}
 use Rattle.av1_planwrite.proofs.builder.PlanBuilder.leaf.Goals.{After-pass_leaf}
 use Rattle.av1_planwrite.proofs.builder.PlanBuilder.leaf.Goals as goal
@@ -56,9 +56,7 @@ pub returns-clause-told : goal.returns-clause-told
 returns-clause-told c = told (goal.at.returns-clause-told c).After-pass_leaf
 
 pub invariant_of-self : goal.invariant_of-self
-invariant_of-self c =
-    let same : c.settle.new.self.bytes.items ≡ c.args.self.now.text.bytes.items = search rules in
-    record { tells = subst (λ (bytes : List ℕ). ∥ TellsSome (built c.args.self.now.progress bytes) ∥₁) (sym same) c.args.self.now.tells }
+invariant_of-self c = still c.args.self.now (search rules)
 
 pub invariant_of-self-2 : goal.invariant_of-self-2
 invariant_of-self-2 c =

@@ -1,11 +1,11 @@
 use Rattle.std.proofs.Common.{rules, ◌≡◌, ◌++◌, List, ℕ, ap, sym, subst, ◌∙◌}
 use Rattle.std.proofs.Math.Logic.{∥∥₁_map}
 use Rattle.av1_plan.specs.Plan.{PlanValue}
-use Rattle.av1_planwrite.specs.Builder.{built, TellsSome}
+use Rattle.av1_planwrite.specs.Builder.{built}
 use Rattle.av1_planwrite.specs.Building.{Tells}
 use Rattle.av1_planwrite.specs.Held.{building}
 use Rattle.av1_planwrite.specs.Text.{byte}
-use Rattle.av1_planwrite.proofs.BuilderParts.{written_well}
+use Rattle.av1_planwrite.proofs.BuilderParts.{still, written_well}
 use Rattle.av1_planwrite.proofs.builder.PlanBuilder.mark.Goals.{After-pass_mark}
 use Rattle.av1_planwrite.proofs.builder.PlanBuilder.mark.Goals as goal
 
@@ -30,9 +30,7 @@ pub returns-clause-told : goal.returns-clause-told
 returns-clause-told c = told (goal.at.returns-clause-told c).After-pass_mark
 
 pub invariant_of-self : goal.invariant_of-self
-invariant_of-self c =
-    let same : c.settle.new.self.bytes.items ≡ c.args.self.now.text.bytes.items = search rules in
-    record { tells = subst (λ (bytes : List ℕ). ∥ TellsSome (built c.args.self.now.progress bytes) ∥₁) (sym same) c.args.self.now.tells }
+invariant_of-self c = still c.args.self.now (search rules)
 
 pub invariant_of-self-2 : goal.invariant_of-self-2
 invariant_of-self-2 c = record { tells = ∥∥₁_map c.args.self.now.tells (λ t. (t.0, told c t.0 t.1)) }

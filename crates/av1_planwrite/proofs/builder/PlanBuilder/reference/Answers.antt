@@ -2,11 +2,11 @@ use Rattle.std.proofs.Common.{rules, ◌≡◌, ◌++◌, List, ℕ, ap, sym, su
 use Rattle.std.specs.Prelude.{OnOk}
 use Rattle.std.proofs.Math.Logic.{∥∥₁_map}
 use Rattle.av1_plan.specs.Plan.{PlanValue}
-use Rattle.av1_planwrite.specs.Builder.{built, TellsSome}
+use Rattle.av1_planwrite.specs.Builder.{built}
 use Rattle.av1_planwrite.specs.Building.{Tells, plan_with_reference}
 use Rattle.av1_planwrite.specs.Held.{building}
 use Rattle.av1_planwrite.specs.Text.{plane_text}
-use Rattle.av1_planwrite.proofs.BuilderParts.{written_well}
+use Rattle.av1_planwrite.proofs.BuilderParts.{still, written_well}
 use Rattle.av1_planwrite.proofs.builder.PlanBuilder.reference.Goals.{After-pass_reference}
 use Rattle.av1_planwrite.proofs.builder.PlanBuilder.reference.Goals as goal
 
@@ -43,9 +43,7 @@ pub returns-clause-told : goal.returns-clause-told
 returns-clause-told c = told (goal.at.returns-clause-told c).After-pass_reference
 
 pub invariant_of-self-in-Break-branch-2 : goal.invariant_of-self-in-Break-branch-2
-invariant_of-self-in-Break-branch-2 c =
-    let same : c.settle.new.self.bytes.items ≡ c.args.self.now.text.bytes.items = search rules in
-    record { tells = subst (λ (bytes : List ℕ). ∥ TellsSome (built c.args.self.now.progress bytes) ∥₁) (sym same) c.args.self.now.tells }
+invariant_of-self-in-Break-branch-2 c = still c.args.self.now (search rules)
 
 pub invariant_of-self-2 : goal.invariant_of-self-2
 invariant_of-self-2 c =

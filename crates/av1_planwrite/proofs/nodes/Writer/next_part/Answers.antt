@@ -7,7 +7,7 @@ use Rattle.av1_planwrite.proofs.WrittenParts.{node_goes, leaf_goes}
 use Rattle.av1_planwrite.proofs.nodes.Writer.next_part.Goals as goal
 
 pub next_cut-cut-requires : goal.next_cut-cut-requires
-next_cut-cut-requires c = let r = room_is c.in-Some-Node.field-0-is c.in-Some-Node.ensures.room in r.most
+next_cut-cut-requires c = (room_is c.in-Some-Node.field-0-is c.in-Some-Node.ensures.room).most
 
 pub returns-in_ok-byte-in-Some-Node-clause-text : goal.returns-in_ok-byte-in-Some-Node-clause-text
 returns-in_ok-byte-in-Some-Node-clause-text c =
