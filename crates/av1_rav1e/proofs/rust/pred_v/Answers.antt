@@ -2,4 +2,4 @@ use Rattle.av1_rav1e.proofs.Lending.{block_rows}
 use Rattle.av1_rav1e.proofs.rust.pred_v.Goals as goal
 
 pub pred_v_to-requires-clause-rows : goal.pred_v_to-requires-clause-rows
-pred_v_to-requires-clause-rows g c = block_rows c.requires.block c.corner-area.ensures c.rows_mut.ensures.value
+pred_v_to-requires-clause-rows g c = search block_rows
